@@ -1,0 +1,80 @@
+// What differs between the thermometer families, in one table, and the layout that they share.
+ghost use mathlib.Core.Path.{_≡_};
+ghost use Rattle.family.specs.Families.{propertiesOf};
+ghost use Rattle.family.specs.Configuration.{storedForm};
+
+// The family codes, the low byte of a ROM code.
+pub const DS18S20: u8 = 0x10;
+
+pub const DS18B20: u8 = 0x28;
+
+// The places of a scratchpad. The ninth byte is the CRC of the eight before it.
+pub const TEMPERATURE_LOW: usize = 0;
+
+pub const TEMPERATURE_HIGH: usize = 1;
+
+pub const HIGH_LIMIT: usize = 2;
+
+pub const LOW_LIMIT: usize = 3;
+
+pub const CONFIGURATION: usize = 4;
+
+pub const CRC: usize = 8;
+
+// The unit in which a family counts its readings.
+pub enum Unit {
+    Sixteenths,
+    HalfDegrees,
+}
+
+// One row of the table.
+pub struct Properties {
+    // whether this is a family that the bench and the master know
+    pub known: bool,
+    // whether a configuration byte follows the two limits
+    pub configurable: bool,
+    pub unit: Unit,
+    // the low four bits of a stored configuration
+    pub nibble: u8,
+    // the scratchpad at power-up, with zeros where the stored settings go
+    pub initial: [u8; 8],
+}
+
+// The row of a family; an unknown one has the row of nothing known.
+pub fn properties_of(family: u8) -> Properties
+    ensures answer { λ r. ⌜ r ≡ propertiesOf family ⌝ }
+{
+    if family == DS18S20 {
+        return Properties {
+            known: true,
+            configurable: false,
+            unit: Unit::HalfDegrees,
+            nibble: 0,
+            initial: [0xAA, 0x00, 0, 0, 0xFF, 0xFF, 0x0C, 0x10],
+        };
+    }
+    if family == DS18B20 {
+        return Properties {
+            known: true,
+            configurable: true,
+            unit: Unit::Sixteenths,
+            nibble: 0x0F,
+            initial: [0x50, 0x05, 0, 0, 0, 0xFF, 0x0C, 0x10],
+        };
+    }
+    Properties {
+        known: false,
+        configurable: false,
+        unit: Unit::Sixteenths,
+        nibble: 0,
+        initial: [0; 8],
+    }
+}
+
+// A configuration byte as the device keeps it: the two resolution bits, a 1, and the family's low
+// four bits.
+pub fn stored_form(byte: u8, nibble: u8) -> u8
+    ensures answer { λ r. ⌜ r ≡ storedForm byte nibble ⌝ }
+{
+    (byte & 0x60) + 0x10 + nibble % 16
+}

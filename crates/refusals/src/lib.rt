@@ -1,0 +1,46 @@
+// The refusal numbers, named once. An answer's `refusal` is ACCEPTED or one of the others; a
+// comment says when each is given. `specs/Refusals.antt` has the same names for the definitions.
+
+pub const ACCEPTED: u8 = 0;
+
+// A list, a buffer or the rest of a buffer is too short.
+pub const NO_ROOM: u8 = 1;
+
+// A character is no upper-case hexadecimal digit, or a line has no line feed.
+pub const NOT_HEX: u8 = 2;
+
+// A line or a frame has not the shape of one.
+pub const MALFORMED: u8 = 3;
+
+// No device answered the reset.
+pub const NO_PRESENCE: u8 = 4;
+
+// The CRC of a code or of a scratchpad is wrong.
+pub const WRONG_CRC: u8 = 5;
+
+// All nine scratchpad bytes are zero, as on a wire that is stuck low.
+pub const ALL_ZERO: u8 = 6;
+
+// The family is not one of ours, or a configuration is not in its stored form.
+pub const WRONG_KIND: u8 = 7;
+
+// The code is already on the bench.
+pub const DUPLICATE: u8 = 8;
+
+// The bench holds 32 devices already.
+pub const BENCH_FULL: u8 = 9;
+
+// A line-powered device is busy and holds the wire.
+pub const WIRE_BUSY: u8 = 10;
+
+// A temperature is outside -55 to +125 degrees.
+pub const OUT_OF_RANGE: u8 = 11;
+
+// The code is not on the bench.
+pub const NOT_FOUND: u8 = 12;
+
+// The bytes read back differ, or the device is not busy with what is to be finished.
+pub const MISMATCH: u8 = 13;
+
+// A search pass holds a triple that no device can give.
+pub const BAD_TRIPLE: u8 = 14;
