@@ -1,0 +1,63 @@
+-- The loop's invariant: the register is the CRC of the bytes passed. Assumes nothing.
+use Prim.Native.Nat.{_≤_, _-_}
+use mathlib.Core.Path.{_≡_, _∙_, refl}
+use native.Mathlib.Omega.{arith}
+use borrow.Author.Needs.{needs}
+use lib.ListN.{length, take}
+use lib.Seq.{take-length}
+use Rattle.lists.specs.Fold.{fold}
+use Rattle.bits.specs.Bits.{bytesBits}
+use Rattle.crc.specs.Crc.{crcBits, crcOf}
+use Rattle.crc.specs.Laws.{crc-byte-more}
+use Rattle.crc.proofs.crc_of.Statement.{statement}
+use Rattle.crc.proofs.crc_of.Tie as tie
+
+abbrev Inv-loop : tie.InvT-loop
+Inv-loop bytes r₀ i₀ r i = (i ≤ length bytes) × (r ≡ crcOf (take i bytes))
+
+abbrev μ-loop : tie.MeasureT-loop
+μ-loop bytes r₀ i₀ r i = length bytes - i
+
+loop-holds : tie.Need-loop-holds Inv-loop μ-loop
+unfolding crcOf crcBits bytesBits fold
+loop-holds c = (omega arith, refl)
+
+shared-slice-read-b : tie.Need-shared-slice-read-b Inv-loop μ-loop
+shared-slice-read-b c = search needs
+
+cast-crc-bits : tie.Need-cast-crc-bits Inv-loop μ-loop
+cast-crc-bits c = omega (arith, c .shared-slice-known2 .given (c .before .before .loop .i))
+
+crc-bits-requires : tie.Need-crc-bits-requires Inv-loop μ-loop
+crc-bits-requires c κs = search needs
+
+add-i : tie.Need-add-i Inv-loop μ-loop
+add-i c = search needs
+
+loop-less : tie.Need-loop-less Inv-loop μ-loop
+loop-less c = search needs
+
+loop-again : tie.Need-loop-again Inv-loop μ-loop
+loop-again c =
+    let at-loop = c .before .before .before in
+    (omega arith, c .crc-bits .ensures ∙ rw (at-loop .loop .inv .1) (crc-byte-more _ _ (c .before .before .loop-test .taken)))
+
+returns : tie.Need-returns Inv-loop μ-loop
+returns c =
+    let all : c .before .loop .i ≡ length (c .before .before .before .args .bytes .now) = omega arith in
+    c .before .loop .inv .1 ∙ rw (all, take-length)
+
+pub crc-of-spec : {M : Type 1} → statement M
+crc-of-spec =
+    tie.close
+    (tie.spec
+    Inv-loop
+    μ-loop
+    loop-holds
+    shared-slice-read-b
+    cast-crc-bits
+    crc-bits-requires
+    add-i
+    loop-less
+    loop-again
+    returns)

@@ -1,0 +1,127 @@
+-- Laws of the CRC, cited in place of its definition.
+--     crc-none, crc-more, crc-append      the register over no bits, one bit more, and two runs of bits
+--     crc-bytes-append, crc-byte-more     the CRC of bytes goes on where it stood
+--     crc-lt, crc-bytes-lt                the register stays a byte
+--     crc-own, crc-message                feeding the register its own value brings it to zero: a message followed by its CRC
+-- Assumes nothing.
+use Prim.Native.Nat.{ℕ, zero, suc, _+_, _-_, _*_, _/_, _%_, _^_, _<_, _≤_}
+use mathlib.Core.Path.{_≡_, refl, sym, ap, _∙_}
+use mathlib.Core.Bool.{Bool, true, false, Bool·beq}
+use mathlib.Core.List.{List, [], _∷_, _++_, append-nil}
+use native.Mathlib.Nat.{pow-suc}
+use native.Mathlib.Numerals.{add-one}
+use native.Mathlib.Omega.{arith}
+use borrow.Author.Tests.{eqb-true, eqb-false, eq-eqb, ne-eqb}
+use lib.Bits.{bitXor, xor-zero-r, xor-self, xor-lt}
+use lib.Dec.{eqb, lit<}
+use lib.ListN.{length, getD, take}
+use lib.Seq.{take-suc}
+use Rattle.lists.specs.Choice.{if_then_else_}
+use Rattle.lists.specs.Fold.{fold, fold-append}
+use Rattle.bits.specs.Bits.{odd, bitsOf, bytesBits, bytes-append}
+use Rattle.crc.specs.Crc.{taps, crcBit, crcBits, crcOf}
+use Rattle.crc.specs.Xor.{xor-half, xor-low, xor-swap}
+
+pub crc-none : (r : ℕ) → crcBits r [] ≡ r
+unfolding crcBits fold
+crc-none r = refl
+
+pub crc-more : (r : ℕ) (b : Bool) (bs : List Bool) → crcBits r (b ∷ bs) ≡ crcBits (crcBit r b) bs
+unfolding crcBits fold
+crc-more r b bs = refl
+
+pub crc-append : (r : ℕ) (a b : List Bool) → crcBits r (a ++ b) ≡ crcBits (crcBits r a) b
+unfolding crcBits
+crc-append r a b = fold-append crcBit r a b
+
+pub crc-bytes-append : (a b : List ℕ) → crcOf (a ++ b) ≡ crcBits (crcOf a) (bytesBits b)
+unfolding crcOf
+crc-bytes-append a b = ap (crcBits 0) (bytes-append a b) ∙ crc-append 0 (bytesBits a) (bytesBits b)
+
+-- one byte more
+pub crc-byte-more : (l : List ℕ) (i : ℕ) → i < length l → crcBits (crcOf (take i l)) (bitsOf 8 (getD l i 0)) ≡ crcOf (take (i + 1) l)
+unfolding bytesBits
+crc-byte-more l i h =
+    rw (add-one i, take-suc l i 0, crc-bytes-append (take i l) (getD l i 0 ∷ []), append-nil (bitsOf 8 (getD l i 0)))
+
+-- ## The bits of a number, one after another, as a loop of halvings takes them
+
+pub crc-turn : (r x n i : ℕ) → i < n → crcBits r (bitsOf (n - i) x) ≡ crcBits (crcBit r (odd x)) (bitsOf (n - (i + 1)) (x / 2))
+unfolding bitsOf
+crc-turn r x n i h = let e : n - i ≡ suc (n - (i + 1)) = omega arith in rw e (crc-more r (odd x) (bitsOf (n - (i + 1)) (x / 2)))
+
+pub crc-done : (r x n i : ℕ) → n ≤ i → crcBits r (bitsOf (n - i) x) ≡ r
+unfolding bitsOf
+crc-done r x n i h = let e : n - i ≡ 0 = omega arith in rw e (crc-none r)
+
+-- ## The register stays a byte
+
+bit-lt : (r : ℕ) (b : Bool) → r < 256 → crcBit r b < 256
+bit-lt r b h = by-test (Bool·beq (odd r) b)
+  where
+    by-test : (t : Bool) → (if t then r / 2 else bitXor (r / 2) taps) < 256
+    by-test true = omega arith
+    by-test false = xor-lt 8 (r / 2) taps (omega arith) (lit< tt)
+
+pub crc-lt : (r : ℕ) (bs : List Bool) → r < 256 → crcBits r bs < 256
+unfolding crcBits fold
+crc-lt r [] h = h
+crc-lt r (b ∷ bs) h = crc-lt (crcBit r b) bs (bit-lt r b h)
+
+-- ## A register fed with its own value
+
+-- the parity of an exclusive or is whether the parities differ
+odd-xor : (r x : ℕ) → Bool·beq (odd (bitXor r x)) false ≡ Bool·beq (odd r) (odd x)
+odd-xor r x = by-test (odd r) (odd x) refl refl
+  where
+    by-test : (p q : Bool) → odd r ≡ p → odd x ≡ q → Bool·beq (odd (bitXor r x)) false ≡ Bool·beq p q
+    by-test true true e f =
+        let l = xor-low r x in let e' = eqb-true (r % 2) 1 e in let f' = eqb-true (x % 2) 1 f in
+        rw (ne-eqb (bitXor r x % 2) 1 (λ (h : bitXor r x % 2 ≡ 1). omega arith))
+    by-test false false e f =
+        let l = xor-low r x in let e' = eqb-false (r % 2) 1 e in let f' = eqb-false (x % 2) 1 f in
+        rw (ne-eqb (bitXor r x % 2) 1 (λ (h : bitXor r x % 2 ≡ 1). omega arith))
+    by-test true false e f =
+        let l = xor-low r x in let e' = eqb-true (r % 2) 1 e in let f' = eqb-false (x % 2) 1 f in
+        let o : bitXor r x % 2 ≡ 1 = omega arith in rw (eq-eqb (bitXor r x % 2) 1 o)
+    by-test false true e f =
+        let l = xor-low r x in let e' = eqb-false (r % 2) 1 e in let f' = eqb-true (x % 2) 1 f in
+        let o : bitXor r x % 2 ≡ 1 = omega arith in rw (eq-eqb (bitXor r x % 2) 1 o)
+
+-- what is left of x may be added to the register before the step or after it
+xor-step-in : (r x : ℕ) → bitXor (crcBit r (odd x)) (x / 2) ≡ crcBit (bitXor r x) false
+xor-step-in r x =
+    by-test (Bool·beq (odd r) (odd x))
+    ∙ ap (λ (t : Bool). if t then bitXor (r / 2) (x / 2) else bitXor (bitXor (r / 2) (x / 2)) taps) (sym (odd-xor r x))
+    ∙ ap (λ (h : ℕ). if Bool·beq (odd (bitXor r x)) false then h else bitXor h taps) (sym (xor-half r x))
+  where
+    by-test : (t : Bool) → bitXor (if t then r / 2 else bitXor (r / 2) taps) (x / 2) ≡ (if t then bitXor (r / 2) (x / 2) else bitXor (bitXor (r / 2) (x / 2)) taps)
+    by-test true = refl
+    by-test false = xor-swap (r / 2) taps (x / 2)
+
+-- the bits of a number go in as zeros do, from the register with the number added
+pub crc-merge : (n r x : ℕ) → x < 2 ^ n → crcBits r (bitsOf n x) ≡ crcBits (bitXor r x) (bitsOf n 0)
+unfolding bitsOf
+crc-merge zero r x h = let e : x ≡ 0 = omega arith in rw e (ap (λ (y : ℕ). crcBits y []) (sym (xor-zero-r r)))
+crc-merge (suc n) r x h =
+    let k : x / 2 < 2 ^ n = omega (arith, pow-suc 2 n) in
+    crc-more r (odd x) (bitsOf n (x / 2))
+    ∙ crc-merge n (crcBit r (odd x)) (x / 2) k
+    ∙ ap (λ (y : ℕ). crcBits y (bitsOf n 0)) (xor-step-in r x)
+    ∙ sym (crc-more (bitXor r x) false (bitsOf n 0))
+
+pub crc-own : (r : ℕ) → r < 256 → crcBits r (bitsOf 8 r) ≡ 0
+unfolding bitsOf crcBits fold
+crc-own r h = crc-merge 8 r r h ∙ rw (xor-self r)
+
+pub crc-bytes-lt : (l : List ℕ) → crcOf l < 256
+unfolding crcOf
+crc-bytes-lt l = crc-lt 0 (bytesBits l) (lit< tt)
+
+-- bytes followed by their CRC leave the register at zero
+pub crc-message : (l : List ℕ) → crcOf (l ++ (crcOf l ∷ [])) ≡ 0
+unfolding bytesBits
+crc-message l =
+    crc-bytes-append l (crcOf l ∷ [])
+    ∙ ap (crcBits (crcOf l)) (append-nil (bitsOf 8 (crcOf l)))
+    ∙ crc-own (crcOf l) (crc-bytes-lt l)

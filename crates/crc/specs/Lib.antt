@@ -1,0 +1,3 @@
+pub mod Crc
+pub mod Xor
+pub mod Laws

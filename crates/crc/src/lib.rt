@@ -1,0 +1,57 @@
+// The 1-Wire CRC of bytes, of a run of bits, and of a ROM code.
+ghost use mathlib.Core.Path.{_≡_};
+ghost use Rattle.bits.specs.Bits.{bitsOf};
+ghost use Rattle.crc.specs.Crc.{crcBit, crcBits, crcOf};
+
+// The polynomial X^8 + X^5 + X^4 + 1, in a register that moves toward its lowest bit.
+const TAPS: u8 = 0x8C;
+
+// The register after one bit.
+pub fn crc_bit(register: u8, bit: bool) -> u8
+    ensures answer { λ r. ⌜ r ≡ crcBit register bit ⌝ }
+{
+    let half = register / 2;
+    let low = register % 2;
+    if low == 1 {
+        if bit { half } else { half ^ TAPS }
+    } else {
+        if bit { half ^ TAPS } else { half }
+    }
+}
+
+// The register after the lowest bits of a number, as many as `count` says; past its highest bit a
+// number has zeros.
+pub fn crc_bits(register: u8, number: u64, count: u8) -> u8
+    ensures answer { λ r. ⌜ r ≡ crcBits register (bitsOf count number) ⌝ }
+{
+    let mut r = register;
+    let mut left = number;
+    let mut i: u8 = 0;
+    while i < count {
+        r = crc_bit(r, left % 2 == 1);
+        left = left / 2;
+        i += 1;
+    }
+    r
+}
+
+// The CRC of all bytes of a slice; 0 for an empty one.
+pub fn crc_of(bytes: &[u8]) -> u8
+    ensures answer { λ r. ⌜ r ≡ crcOf (now (bytes .entry)) ⌝ }
+{
+    let mut r: u8 = 0;
+    let mut i: usize = 0;
+    while i < bytes.len() {
+        let b = bytes[i];
+        r = crc_bits(r, b as u64, 8);
+        i += 1;
+    }
+    r
+}
+
+// The CRC that belongs into the top byte of a ROM code: that of its 56 lower bits.
+pub fn crc_of_code(code: u64) -> u8
+    ensures answer { λ r. ⌜ r ≡ crcBits 0 (bitsOf 56 code) ⌝ }
+{
+    crc_bits(0, code, 56)
+}
