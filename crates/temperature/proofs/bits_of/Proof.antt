@@ -1,0 +1,53 @@
+-- A number below zero has the bits of itself and 2 ^ 16, which the wider number holds on the way. Assumes nothing.
+use mathlib.Core.Bool.{true, false}
+use mathlib.Core.Path.{_≡_, refl, sym, _∙_}
+use lib.Dec.{lit≤}
+use lib.IntN.{pos, _+ℤ_}
+use lib.Signed.{leZ}
+use mir.Syntax.{w16, w32}
+use mir.Val.{SFits, toZ, ofZ}
+use mir.ValLaws.{toZ-ofZ, toZ-pos, ofZ-fits}
+use native.Mathlib.Omega.{arith}
+use Rattle.signed.specs.Complement.{signed16, bits16, signed-bits, bits-below, bits-positive, bits-negative, wider}
+use Rattle.temperature.proofs.bits_of.Statement.{statement}
+use Rattle.temperature.proofs.bits_of.Tie as tie
+
+same : (c : tie.Then1) → signed16 (bits16 (c .before .args .z)) ≡ pos (bits16 (c .before .args .z))
+same c =
+    let e = signed-bits (c .before .args .z) (c .before .fits .z) in
+    let t : leZ (pos 0) (c .before .args .z) ≡ true = rw e at (c .if1 .taken) in
+    e ∙ bits-positive w16 _ t
+
+fits-wide : (c : tie.Else1) → SFits w32 (c .before .args .z)
+fits-wide c = wider w16 w32 _ (lit≤ tt) (c .before .fits .z)
+
+more : (c : tie.Else1) → toZ w32 (ofZ w32 (signed16 (bits16 (c .before .args .z)))) +ℤ pos 65536 ≡ pos (bits16 (c .before .args .z))
+more c =
+    let e = signed-bits (c .before .args .z) (c .before .fits .z) in
+    let t : leZ (pos 0) (c .before .args .z) ≡ false = rw e at (c .if1 .left) in
+    rw (e, toZ-ofZ w32 _ (fits-wide c)) (bits-negative w16 _ (c .before .fits .z) t)
+
+more-fits : (c : tie.Else1) → SFits w32 (pos (bits16 (c .before .args .z)))
+more-fits c = let h = bits-below _ (c .before .fits .z) in record { sfits = omega arith }
+
+cast-result : tie.Need-cast-result
+cast-result c = rw (same c) (tt, ofZ-fits w16 _ (c .before .fits .z))
+
+returns : tie.Need-returns
+returns c = rw (same c) refl
+
+cast-result-2 : tie.Need-cast-result-2
+cast-result-2 c = rw (signed-bits _ (c .before .fits .z)) (fits-wide c)
+
+add-result : tie.Need-add-result
+add-result c = rw (more c) (more-fits c)
+
+cast-result-3 : tie.Need-cast-result-3
+cast-result-3 c = rw (more c, toZ-ofZ w32 _ (more-fits c)) (tt, ofZ-fits w16 _ (c .before .fits .z))
+
+returns-2 : tie.Need-returns-2
+returns-2 c = rw (more c, toZ-ofZ w32 _ (more-fits c)) refl
+
+pub bits-of-spec : {M : Type 1} → statement M
+bits-of-spec =
+    tie.close (tie.spec cast-result returns cast-result-2 add-result cast-result-3 returns-2)

@@ -1,0 +1,48 @@
+-- The two bytes make the sixteen bits, and the family's unit names their number. Assumes nothing.
+use Prim.Native.Nat.{_+_, _*_, _<_}
+use mathlib.Core.Path.{_≡_}
+use native.Mathlib.Omega.{arith}
+use borrow.Author.Needs.{needs}
+use Rattle.signed.specs.Complement.{signed16, bits16, signed-bits, signed-fits}
+use Rattle.temperature.proofs.reading_of.Statement.{statement}
+use Rattle.temperature.proofs.reading_of.Tie as tie
+
+held : (c : tie.After-signed-of)
+    → signed16 (bits16 (c .signed-of .result)) ≡ signed16 (c .before .args .low + 256 * c .before .args .high)
+held c =
+    let n = c .before .args .low + 256 * c .before .args .high in
+    let h : n < 65536 = omega arith in
+    rw (c .signed-of .ensures) (signed-bits _ (signed-fits n h))
+
+mul-signed-of : tie.Need-mul-signed-of
+mul-signed-of c = search needs
+
+add-signed-of : tie.Need-add-signed-of
+add-signed-of c = search needs
+
+signed-of-requires : tie.Need-signed-of-requires
+signed-of-requires c κs = search needs
+
+enum-told : tie.Need-enum-told
+enum-told c = search needs
+
+enum-told-2 : tie.Need-enum-told-2
+enum-told-2 c = search needs
+
+returns : tie.Need-returns
+returns c = simp (c .enum-told .given .1, held (c .before .before))
+
+returns-2 : tie.Need-returns-2
+returns-2 c = simp (c .enum-told2 .given .1, held (c .before .before))
+
+pub reading-of-spec : {M : Type 1} → statement M
+reading-of-spec =
+    tie.close
+    (tie.spec
+    mul-signed-of
+    add-signed-of
+    signed-of-requires
+    enum-told
+    enum-told-2
+    returns
+    returns-2)

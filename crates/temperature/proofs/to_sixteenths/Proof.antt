@@ -1,0 +1,36 @@
+-- The test's answer is the definition's; within the range eight times the count fits sixteen bits. Assumes nothing.
+use mathlib.Core.Bool.{true, false}
+use mathlib.Core.Path.{_≡_, refl, sym, _∙_}
+use borrow.Author.Needs.{needs}
+use Rattle.signed.specs.Complement.{Fits16, signed-bits}
+use Rattle.temperature.specs.Range.{inRange}
+use Rattle.temperature.specs.Units.{eightfold, eightfold-fits}
+use Rattle.temperature.specs.declared.Reading.the-variants.{InHalves}
+use Rattle.temperature.proofs.to_sixteenths.Statement.{statement}
+use Rattle.temperature.proofs.to_sixteenths.Tie as tie
+
+within : (c : tie.Then1) → inRange (InHalves (c .before .before .args .h)) ≡ true
+within c = sym (c .before .in-range .ensures) ∙ c .if1 .taken
+
+in-range-requires : tie.Need-in-range-requires
+in-range-requires c κs = search needs
+
+mul-t5 : tie.Need-mul-t5
+mul-t5 c =
+    let h = c .before .before .before .args .h in
+    rw (signed-bits (h .0) (record { sfits = c .struct-told .given .0 .1 })) (eightfold-fits h (within (c .before)))
+
+returns : tie.Need-returns
+returns c =
+    let h = c .before .before .before .args .h in
+    let w = within (c .before) in
+    simp
+    (signed-bits (h .0) (record { sfits = c .struct-told .given .0 .1 }), signed-bits (eightfold h .0) (eightfold-fits h w), w)
+
+returns-2 : tie.Need-returns-2
+returns-2 c =
+    let left : inRange (InHalves (c .before .before .args .h)) ≡ false = sym (c .before .in-range .ensures) ∙ c .if1 .left in
+    simp left
+
+pub to-sixteenths-spec : {M : Type 1} → statement M
+to-sixteenths-spec = tie.close (tie.spec in-range-requires mul-t5 returns returns-2)

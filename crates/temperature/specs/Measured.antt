@@ -1,0 +1,28 @@
+-- What a finished conversion stores for a count of sixteenths.
+--     stepOf configuration                 the step of bits 6 and 5: 8, 4, 2 or 1 sixteenths for 0, 1, 2 or 3
+--     roundedOf count configuration        the count rounded down to that step
+--     measuredOf unit count configuration  the stored reading: rounded sixteenths, or the half degrees at or below the count
+use Prim.Native.Nat.{ℕ}
+use lib.Dec.{eqb}
+use Rattle.lists.specs.Choice.{if_then_else_}
+use Rattle.family.specs.Configuration.{resolution}
+use Rattle.family.specs.declared.Unit.{Unit}
+use Rattle.family.specs.declared.Unit.the-variants.{Sixteenths as inSixteenths, HalfDegrees as inHalfDegrees}
+use Rattle.signed.specs.Rounding.{floorTo}
+use Rattle.temperature.specs.declared.Reading.{Reading}
+use Rattle.temperature.specs.declared.Reading.the-variants.{InSixteenths, InHalves}
+use Rattle.temperature.specs.declared.Sixteenths.{Sixteenths}
+use Rattle.temperature.specs.Units.{toHalfDegrees}
+
+abbrev pub stepAt : ℕ → ℕ
+stepAt r = if eqb r 0 then 8 else if eqb r 1 then 4 else if eqb r 2 then 2 else 1
+
+abbrev pub stepOf : ℕ → ℕ
+stepOf configuration = stepAt (resolution configuration)
+
+abbrev pub roundedOf : Sixteenths → ℕ → Sixteenths
+roundedOf count configuration = record { 0 = floorTo (stepOf configuration) (count .0) }
+
+abbrev pub measuredOf : Unit → Sixteenths → ℕ → Reading
+measuredOf inSixteenths count configuration = InSixteenths (roundedOf count configuration)
+measuredOf inHalfDegrees count configuration = InHalves (toHalfDegrees count)

@@ -1,0 +1,34 @@
+-- The range of a reading, the scope's "A reading outside −55 to +125 is refused".
+--     between low high z   whether z is from low to high, both included
+--     inRange r            whether r is from -55 to +125 degrees: -110 to 250 half degrees, or -880 to 2000 sixteenths
+-- `leZ a b` is the test a ≤ b. Assumes nothing.
+use Prim.Native.Nat.{ℕ, _≤_}
+use mathlib.Core.Path.{_≡_, refl}
+use mathlib.Core.Bool.{Bool, true, false, false≢true, _&&_}
+use native.Mathlib.Omega.{arith}
+use borrow.Author.Tests.{leb-true}
+use lib.IntN.{ℤ, pos, negsuc, negℤ}
+use lib.Signed.{leZ, mag}
+use Rattle.temperature.specs.declared.Reading.{Reading}
+use Rattle.temperature.specs.declared.Reading.the-variants.{InSixteenths, InHalves}
+
+abbrev pub between : ℤ → ℤ → ℤ → Bool
+between low high z = leZ low z && leZ z high
+
+abbrev pub inRange : Reading → Bool
+inRange (InSixteenths c) = between (negℤ (pos 880)) (pos 2000) (c .0)
+inRange (InHalves h) = between (negℤ (pos 110)) (pos 250) (h .0)
+
+-- ## A range as its two bounds
+
+both : (s t : Bool) → (s && t) ≡ true → (s ≡ true) × (t ≡ true)
+both true t e = (refl, e)
+both false t e = absurd (false≢true e)
+
+pub between-bounds : (low high z : ℤ) → between low high z ≡ true → (leZ low z ≡ true) × (leZ z high ≡ true)
+between-bounds low high z e = both (leZ low z) (leZ z high) e
+
+pub between-size : (a b n : ℕ) (z : ℤ) → a ≤ n → b ≤ n → between (negsuc a) (pos b) z ≡ true → mag z ≤ n
+between-size a b n (pos k) l m e = let h = leb-true k b e in omega arith
+between-size a b n (negsuc k) l m e =
+    let h = leb-true k a (between-bounds (negsuc a) (pos b) (negsuc k) e .0) in omega arith

@@ -1,0 +1,26 @@
+-- The temperature register, scratchpad bytes 0 and 1: a 16-bit two's complement number, low byte first.
+--     registerOf r               the two bytes of a reading
+--     readingOf unit low high    the reading that two bytes hold, in the unit of the family; all sixteen bits count
+use Prim.Native.Nat.{ℕ, _+_, _*_, _/_, _%_}
+use lib.IntN.{ℤ}
+use Rattle.family.specs.declared.Unit.{Unit}
+use Rattle.family.specs.declared.Unit.the-variants.{Sixteenths as inSixteenths, HalfDegrees as inHalfDegrees}
+use Rattle.signed.specs.Complement.{signed16, bits16}
+use Rattle.temperature.specs.declared.Reading.{Reading}
+use Rattle.temperature.specs.declared.Reading.the-variants.{InSixteenths, InHalves}
+use Rattle.temperature.specs.declared.Register.{Register}
+
+-- the number of a reading, in its own unit
+abbrev pub countOf : Reading → ℤ
+countOf (InSixteenths c) = c .0
+countOf (InHalves h) = h .0
+
+abbrev pub bytesOf : ℤ → Register
+bytesOf z = record { low = bits16 z % 256; high = bits16 z / 256 }
+
+abbrev pub registerOf : Reading → Register
+registerOf r = bytesOf (countOf r)
+
+abbrev pub readingOf : Unit → ℕ → ℕ → Reading
+readingOf inSixteenths low high = InSixteenths (record { 0 = signed16 (low + 256 * high) })
+readingOf inHalfDegrees low high = InHalves (record { 0 = signed16 (low + 256 * high) })

@@ -1,0 +1,51 @@
+-- The units of a temperature and one conversion each way between them. Each number carries its unit in its type.
+--     toHalfDegrees c      sixteenths in half degrees: divided by 8, rounded down
+--     toSixteenths h       half degrees in sixteenths: times 8; a temperature out of range is refused, with zero sixteenths
+--     wholeOf r            the whole degree at or below a reading: -1 for half a degree below zero
+use Prim.Native.Nat.{ℕ}
+use mathlib.Core.Path.{_≡_, refl, ap}
+use mathlib.Core.Bool.{true}
+use native.Mathlib.Omega.{arith}
+use lib.Dec.{lit<, lit≤}
+use lib.IntN.{pos, _*ℤ_}
+use Rattle.lists.specs.Choice.{if_then_else_}
+use Rattle.refusals.specs.Refusals.{accepted, outOfRange}
+use Rattle.signed.specs.Complement.{Fits16, mul-fits}
+use Rattle.signed.specs.Rounding.{floorDiv, mul-div, div-div}
+use Rattle.temperature.specs.declared.Converted.{Converted}
+use Rattle.temperature.specs.declared.HalfDegrees.{HalfDegrees}
+use Rattle.temperature.specs.declared.Reading.{Reading}
+use Rattle.temperature.specs.declared.Reading.the-variants.{InSixteenths, InHalves}
+use Rattle.temperature.specs.declared.Sixteenths.{Sixteenths}
+use Rattle.temperature.specs.declared.WholeDegrees.{WholeDegrees}
+use Rattle.temperature.specs.Range.{inRange, between-size}
+
+abbrev pub toHalfDegrees : Sixteenths → HalfDegrees
+toHalfDegrees c = record { 0 = floorDiv (c .0) 8 }
+
+abbrev pub eightfold : HalfDegrees → Sixteenths
+eightfold h = record { 0 = h .0 *ℤ pos 8 }
+
+abbrev pub toSixteenths : HalfDegrees → Converted
+toSixteenths h =
+    if inRange (InHalves h)
+    then record { refusal = accepted; count = eightfold h }
+    else record { refusal = outOfRange; count = record { 0 = pos 0 } }
+
+abbrev pub wholeOf : Reading → WholeDegrees
+wholeOf (InSixteenths c) = record { 0 = floorDiv (c .0) 16 }
+wholeOf (InHalves h) = record { 0 = floorDiv (h .0) 2 }
+
+-- eight times a count in range fits sixteen bits
+pub eightfold-fits : (h : HalfDegrees) → inRange (InHalves h) ≡ true → Fits16 (eightfold h .0)
+eightfold-fits h e =
+    let k = between-size 109 250 250 (h .0) (lit≤ tt) (lit≤ tt) e in
+    mul-fits (h .0) 8 4096 (lit< tt) refl (omega arith)
+
+-- there and back: nothing is lost from half degrees to sixteenths
+pub halves-back : (h : HalfDegrees) → toHalfDegrees (eightfold h) ≡ h
+halves-back h = ap (λ z. record { 0 = z }) (mul-div (h .0) 8 (lit< tt))
+
+-- a count has the whole degree of its half degrees
+pub whole-halves : (c : Sixteenths) → wholeOf (InHalves (toHalfDegrees c)) ≡ wholeOf (InSixteenths c)
+whole-halves c = ap (λ z. record { 0 = z }) (div-div (c .0) 8 2)

@@ -1,0 +1,201 @@
+// Temperatures that carry their unit in their type, the register that holds a reading, and the alarm
+// rule. The sensor counts sixteenths of a degree; the families store sixteenths or half degrees; limits
+// are whole degrees. Every conversion to a coarser unit rounds down, by a shift that copies the sign.
+ghost use mathlib.Core.Path.{_≡_};
+ghost use Rattle.temperature.specs.Alarm.{alarmsAt, limitOf};
+ghost use Rattle.temperature.specs.Degrees.{degreesOf, IsSixteenths};
+ghost use Rattle.temperature.specs.Measured.{measuredOf, roundedOf};
+ghost use Rattle.temperature.specs.Range.{inRange};
+ghost use Rattle.temperature.specs.Register.{bytesOf, readingOf, registerOf};
+ghost use Rattle.temperature.specs.Units.{toHalfDegrees, toSixteenths, wholeOf};
+ghost use Rattle.signed.specs.Complement.{signed16, bits16};
+use family::Unit;
+
+pub struct Sixteenths(pub i16);
+
+pub struct HalfDegrees(pub i16);
+
+pub struct WholeDegrees(pub i16);
+
+// Degrees in single precision.
+pub struct Degrees(pub f32);
+
+// A stored temperature, in the unit of the family that stores it.
+pub enum Reading {
+    InSixteenths(Sixteenths),
+    InHalves(HalfDegrees),
+}
+
+// Scratchpad bytes 0 and 1.
+pub struct Register {
+    pub low: u8,
+    pub high: u8,
+}
+
+// An answer in sixteenths, or a refusal and zero.
+pub struct Converted {
+    pub refusal: u8,
+    pub count: Sixteenths,
+}
+
+pub fn to_half_degrees(c: Sixteenths) -> HalfDegrees
+    ensures answer { λ r. ⌜ r ≡ toHalfDegrees c ⌝ }
+{
+    let z = c.0;
+    HalfDegrees(z >> 3)
+}
+
+// Eight times a count of half degrees, where that is a temperature the devices measure.
+pub fn to_sixteenths(h: HalfDegrees) -> Converted
+    ensures answer { λ r. ⌜ r ≡ toSixteenths h ⌝ }
+{
+    if in_range(Reading::InHalves(h)) {
+        let z = h.0;
+        return Converted {
+            refusal: refusals::ACCEPTED,
+            count: Sixteenths(z * 8),
+        };
+    }
+    Converted {
+        refusal: refusals::OUT_OF_RANGE,
+        count: Sixteenths(0),
+    }
+}
+
+// The whole degree at or below a reading.
+pub fn whole_of(r: Reading) -> WholeDegrees
+    ensures answer { λ w. ⌜ w ≡ wholeOf r ⌝ }
+{
+    match r {
+        Reading::InSixteenths(c) => {
+            let z = c.0;
+            WholeDegrees(z >> 4)
+        }
+        Reading::InHalves(h) => {
+            let z = h.0;
+            WholeDegrees(z >> 1)
+        }
+    }
+}
+
+// Whether a reading is from -55 to +125 degrees, both included.
+pub fn in_range(r: Reading) -> bool
+    ensures answer { λ t. ⌜ t ≡ inRange r ⌝ }
+{
+    match r {
+        Reading::InSixteenths(c) => {
+            let z = c.0;
+            -880 <= z && z <= 2000
+        }
+        Reading::InHalves(h) => {
+            let z = h.0;
+            -110 <= z && z <= 250
+        }
+    }
+}
+
+// A limit byte of the scratchpad as a signed number of degrees.
+pub fn limit_of(byte: u8) -> WholeDegrees
+    ensures answer { λ r. ⌜ r ≡ limitOf byte ⌝ }
+{
+    let z = byte as i16;
+    if byte < 128 {
+        return WholeDegrees(z);
+    }
+    WholeDegrees(z - 256)
+}
+
+// Whether a temperature is at or past a limit. A low limit above the high one is no error.
+pub fn alarms(t: WholeDegrees, high: WholeDegrees, low: WholeDegrees) -> bool
+    ensures answer { λ r. ⌜ r ≡ alarmsAt t high low ⌝ }
+{
+    let degree = t.0;
+    let upper = high.0;
+    let lower = low.0;
+    degree >= upper || degree <= lower
+}
+
+// A count rounded down to the step of a configuration: its bits 6 and 5 choose 8, 4, 2 or 1.
+fn rounded(count: Sixteenths, configuration: u8) -> Sixteenths
+    ensures { λ r. ⌜ r ≡ roundedOf count configuration ⌝ }
+{
+    let z = count.0;
+    let resolution = configuration / 32 % 4;
+    match resolution {
+        0 => Sixteenths((z >> 3) * 8),
+        1 => Sixteenths((z >> 2) * 4),
+        2 => Sixteenths((z >> 1) * 2),
+        _ => count,
+    }
+}
+
+// What a finished conversion stores for the sensor's count.
+pub fn measured(unit: Unit, count: Sixteenths, configuration: u8) -> Reading
+    ensures answer { λ r. ⌜ r ≡ measuredOf unit count configuration ⌝ }
+{
+    match unit {
+        Unit::Sixteenths => Reading::InSixteenths(rounded(count, configuration)),
+        Unit::HalfDegrees => Reading::InHalves(to_half_degrees(count)),
+    }
+}
+
+// The sixteen bits of a number in two's complement.
+fn bits_of(z: i16) -> u16
+    ensures { λ r. ⌜ r ≡ bits16 z ⌝ }
+{
+    if 0 <= z {
+        return z as u16;
+    }
+    ((z as i32) + 65536) as u16
+}
+
+// The number that sixteen bits stand for in two's complement.
+fn signed_of(bits: u16) -> i16
+    ensures { λ r. ⌜ r ≡ signed16 bits ⌝ }
+{
+    if bits < 32768 {
+        return bits as i16;
+    }
+    ((bits as i32) - 65536) as i16
+}
+
+// A number as two bytes, low byte first.
+fn bytes_of(z: i16) -> Register
+    ensures { λ r. ⌜ r ≡ bytesOf z ⌝ }
+{
+    let bits = bits_of(z);
+    Register {
+        low: (bits % 256) as u8,
+        high: (bits / 256) as u8,
+    }
+}
+
+// The two bytes of a reading in the scratchpad.
+pub fn register_of(r: Reading) -> Register
+    ensures answer { λ b. ⌜ b ≡ registerOf r ⌝ }
+{
+    match r {
+        Reading::InSixteenths(c) => bytes_of(c.0),
+        Reading::InHalves(h) => bytes_of(h.0),
+    }
+}
+
+// The reading that two bytes of the scratchpad hold. All sixteen bits count at every configuration.
+pub fn reading_of(unit: Unit, low: u8, high: u8) -> Reading
+    ensures answer { λ r. ⌜ r ≡ readingOf unit low high ⌝ }
+{
+    let z = signed_of((low as u16) + 256 * (high as u16));
+    match unit {
+        Unit::Sixteenths => Reading::InSixteenths(Sixteenths(z)),
+        Unit::HalfDegrees => Reading::InHalves(HalfDegrees(z)),
+    }
+}
+
+// A count of sixteenths in degrees. Single precision holds every one of them with nothing lost.
+pub fn to_degrees(c: Sixteenths) -> Degrees
+    ensures answer { λ r. ⌜ r ≡ degreesOf c ⌝ }
+    ensures exact { λ r. ⌜ IsSixteenths (r .0) (c .0) ⌝ }
+{
+    let z = c.0;
+    Degrees((z as f32) / 16.0)
+}
