@@ -9,9 +9,9 @@ pub const DS18S20: u8 = 0x10;
 pub const DS18B20: u8 = 0x28;
 
 // The places of a scratchpad. The ninth byte is the CRC of the eight before it.
-pub const TEMPERATURE_LOW: usize = 0;
+pub const READING_LOW: usize = 0;
 
-pub const TEMPERATURE_HIGH: usize = 1;
+pub const READING_HIGH: usize = 1;
 
 pub const HIGH_LIMIT: usize = 2;
 

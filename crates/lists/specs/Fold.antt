@@ -1,7 +1,8 @@
 -- A list worked into a value from the left, as a loop with an accumulator does it.
 --     fold op b l      op (.. (op (op b x₀) x₁) ..) xₙ; b for the empty list
 --     all p l          whether p holds of every element; true for the empty list
--- Laws `fold-step`: a loop to the list's own length. Laws `fold-upto-`: a loop over a whole array that tests `i < n` inside.
+-- Laws `fold-step`: a loop to the list's own length. Laws `fold-upto-`: a loop over a whole array that tests `i < n` inside. Laws `all-`: a loop that
+-- returns at the first element that fails.
 -- Assumes nothing.
 use Prim.Native.Nat.{ℕ, zero, suc, _+_, _<_, _≤_, min}
 use mathlib.Core.Path.{_≡_, refl, sym, ap, _∙_}
@@ -11,8 +12,8 @@ use native.Mathlib.Omega.{arith}
 use native.Mathlib.Numerals.{add-one}
 use borrow.Author.Tests.{leb-true, leb-false}
 use lib.Dec.{leb}
-use lib.ListN.{length, take, getD}
-use lib.Seq.{take-suc, take-all}
+use lib.ListN.{length, take, drop, getD, drop-of-length-le}
+use lib.Seq.{take-suc, take-all, drop-cons}
 
 unfoldable pub fold : {A B : Type 0} → (B → A → B) → B → List A → B
 fold op b [] = b
@@ -61,3 +62,18 @@ pub all-fold : {A : Type 0} (p : A → Bool) (m : Bool) (l : List A) → fold (�
 unfolding fold all
 all-fold p m [] = sym (and-true m)
 all-fold p m (x ∷ l) = all-fold p (m && p x) l ∙ and-assoc m (p x) (all p l)
+
+-- ## `all` as a loop with an early return tells it
+
+module _ {A : Type 0} (p : A → Bool) (l : List A) (i : ℕ) where
+  pub all-passes : (d : A) → i < length l → p (getD l i d) ≡ true → all p (drop i l) ≡ all p (drop (i + 1) l)
+  unfolding all
+  all-passes d h t = rw (drop-cons l i d h, t, add-one i)
+
+  pub all-fails : (d : A) → i < length l → p (getD l i d) ≡ false → all p (drop i l) ≡ false
+  unfolding all
+  all-fails d h t = rw (drop-cons l i d h, t)
+
+  pub all-end : length l ≤ i → all p (drop i l) ≡ true
+  unfolding all
+  all-end h = rw (drop-of-length-le l h)

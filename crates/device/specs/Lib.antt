@@ -1,0 +1,6 @@
+pub mod Record
+pub mod Settings
+pub mod Offer
+pub mod Hear
+pub mod Power
+pub mod Finish
