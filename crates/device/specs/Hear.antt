@@ -5,8 +5,9 @@
 --     functionCommand d c        the device after function command c
 --     storeSetting d k b         the device with byte b stored as its setting k, and what follows
 --     hearOf d l                 the device after a slot in which the line showed l
-use Prim.Native.Nat.{ℕ, _+_, _/_}
-use mathlib.Core.Bool.{Bool, true, false, Bool·beq, _&&_}
+use Prim.Native.Nat.{ℕ, _+_, _/_, _≤_}
+use native.Mathlib.Omega.{arith}
+use mathlib.Core.Bool.{Bool, true, false, not, Bool·beq, _&&_}
 use mathlib.Core.List.{List}
 use lib.Dec.{ltb, eqb}
 use lib.ListN.{set}
@@ -57,8 +58,9 @@ afterSearch code i TakeBit l = if Bool·beq (bitAt code i) l then afterBit (λ j
 -- BEh: nine bytes of eight bits, then quiet
 abbrev pub afterScratchpad : ℕ → ℕ → Stage
 afterScratchpad k j =
-    if ltb j 7 && ltb k 9 then SendScratchpad k (j + 1)
-    else if eqb j 7 && ltb k 8 then SendScratchpad (k + 1) 0
+    if not (ltb k 9 && ltb j 8) then Quiet
+    else if ltb j 7 then SendScratchpad k (j + 1)
+    else if ltb k 8 then SendScratchpad (k + 1) 0
     else Quiet
 
 -- ## ROM commands
@@ -110,6 +112,13 @@ hearFunction d s n l =
 abbrev pub settingsCount : Properties → ℕ
 settingsCount row = if row .configurable then 3 else 2
 
+pub settings-few : (row : Properties) → settingsCount row ≤ 3
+settings-few row = by-test (row .configurable)
+  where
+    by-test : (t : Bool) → (if t then 3 else 2) ≤ 3
+    by-test true = omega arith
+    by-test false = omega arith
+
 -- byte k as it is stored: the third is the configuration
 abbrev pub settingByte : Properties → ℕ → ℕ → ℕ
 settingByte row k b = if eqb k 2 then storedForm b (row .nibble) else b
@@ -119,7 +128,7 @@ unfoldable pub storeSetting : Device → ℕ → ℕ → Device
 storeSetting d k b =
     if ltb k (settingsCount (rowOf (d .code)))
     then withStage (withScratchpad d (set (d .scratchpad) (highLimitPlace + k) (settingByte (rowOf (d .code)) k b)))
-         (if ltb (k + 1) (settingsCount (rowOf (d .code))) then TakeSettings (k + 1) 0 0 else Quiet)
+    (if ltb (k + 1) (settingsCount (rowOf (d .code))) then TakeSettings (k + 1) 0 0 else Quiet)
     else withStage d Quiet
 
 abbrev pub hearSettings : Device → ℕ → ℕ → ℕ → Bool → Device

@@ -243,6 +243,9 @@ fn search_slot(code: u64, i: u8, phase: Phase) -> bool
 fn scratchpad_slot(pad: [u8; 8], k: u8, j: u8) -> bool
     ensures answer { λ r. ⌜ r ≡ scratchpadSlot pad k j ⌝ }
 {
+    if 9 <= k {
+        return true;
+    }
     if 8 <= j {
         return true;
     }
@@ -250,10 +253,7 @@ fn scratchpad_slot(pad: [u8; 8], k: u8, j: u8) -> bool
         let place = k as usize;
         return byte_bit(pad[place], j);
     }
-    if k == 8 {
-        return byte_bit(crc::crc_of(&pad), j);
-    }
-    true
+    byte_bit(crc::crc_of(&pad), j)
 }
 
 fn byte_bit(byte: u8, j: u8) -> bool
@@ -342,11 +342,7 @@ fn same_bit(code: u64, i: u8, line: bool) -> bool
     ensures answer { λ r. ⌜ r ≡ Bool·beq (bitAt code i) line ⌝ }
 {
     let own = rom::bit_of(code, i);
-    if own {
-        line
-    } else {
-        !line
-    }
+    if own { line } else { !line }
 }
 
 fn after_search(code: u64, i: u8, phase: Phase, line: bool) -> Stage
@@ -386,22 +382,23 @@ fn after_taking(code: u64, i: u8, line: bool) -> Stage
 fn after_scratchpad(k: u8, j: u8) -> Stage
     ensures answer { λ r. ⌜ r ≡ afterScratchpad k j ⌝ }
 {
-    if j < 7 {
-        if k < 9 {
-            return Stage::SendScratchpad {
-                byte: k,
-                bit: j + 1,
-            };
-        }
+    if 9 <= k {
         return Stage::Quiet;
     }
-    if j == 7 {
-        if k < 8 {
-            return Stage::SendScratchpad {
-                byte: k + 1,
-                bit: 0,
-            };
-        }
+    if 8 <= j {
+        return Stage::Quiet;
+    }
+    if j < 7 {
+        return Stage::SendScratchpad {
+            byte: k,
+            bit: j + 1,
+        };
+    }
+    if k < 8 {
+        return Stage::SendScratchpad {
+            byte: k + 1,
+            bit: 0,
+        };
     }
     Stage::Quiet
 }
@@ -468,7 +465,10 @@ fn idle_command(d: Device, command: u8) -> Device
         ),
         commands::COPY_SCRATCHPAD => {
             let latched = settings_in(row, pad);
-            with_stage(with_activity(d, Activity::Copying(latched)), Stage::SendStatus)
+            with_stage(
+                with_activity(d, Activity::Copying(latched)),
+                Stage::SendStatus,
+            )
         }
         commands::RECALL_EEPROM => {
             let eeprom = d.eeprom;

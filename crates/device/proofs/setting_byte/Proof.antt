@@ -1,0 +1,16 @@
+use borrow.Author.Tests.{eq-eqb, ne-eqb}
+use borrow.Author.Needs.{needs}
+use Rattle.device.proofs.setting_byte.Statement.{statement}
+use Rattle.device.proofs.setting_byte.Tie as tie
+
+stored-form-requires : tie.Need-stored-form-requires
+stored-form-requires c κs = search needs
+
+returns : tie.Need-returns
+returns c = simp (eq-eqb _ _ (c .before .if1 .taken), c .stored-form .ensures)
+
+returns-2 : tie.Need-returns-2
+returns-2 c = simp (ne-eqb _ _ (c .if1 .left))
+
+pub setting-byte-spec : {M : Type 1} → statement M
+setting-byte-spec = tie.close (tie.spec stored-form-requires returns returns-2)
