@@ -3,8 +3,8 @@
 --     bits16 z        the sixteen bits of z: z from 0 on is itself, z below is z + 2 ^ 16
 --     signed8 n       the same reading of eight bits
 --     Fits16 z        z is one of the numbers that sixteen bits hold, -32768 to 32767
--- The code holds a signed number as its bits, so what it computes is read back from bits at each step: `.._code` laws say that
--- this changes nothing. Assumes nothing.
+-- The code holds a signed number as its bits, so what it computes is read back from bits at each step: the laws named `..-code` say
+-- that this changes nothing. Assumes nothing.
 use Prim.Native.Nat.{ℕ, zero, suc, _+_, _-_, _*_, _^_, _<_, _≤_}
 use mathlib.Core.Path.{_≡_, refl, sym, ap, _∙_}
 use mathlib.Core.Bool.{true, false, false≢true}
@@ -66,10 +66,15 @@ pub bits-positive : (w : Width) (z : ℤ) → leZ (pos 0) z ≡ true → z ≡ p
 bits-positive w (pos n) e = refl
 bits-positive w (negsuc n) e = absurd (false≢true e)
 
+-- ## What fits stays within sixteen bits when it is rounded: no function needs a range
+
+pub div-fits : (z : ℤ) (s : ℕ) → Fits16 z → Fits16 (floorDiv z s)
+div-fits z s f = sfits-le (mag-shr z s) f
+
 -- ## The code's own steps
 
 pub shift-code : (z : ℤ) (s : ℕ) → Fits16 z → signed16 (bits16 (floorDiv (signed16 (bits16 z)) s)) ≡ floorDiv z s
-shift-code z s f = rw (signed-bits z f) (signed-bits (floorDiv z s) (sfits-le (mag-shr z s) f))
+shift-code z s f = rw (signed-bits z f) (signed-bits (floorDiv z s) (div-fits z s f))
 
 module _ (z : ℤ) (s t : ℕ) (positive : 0 < s) (divides : s * t ≡ 32768) where
   pub mul-fits : mag z < t → Fits16 (z *ℤ pos s)

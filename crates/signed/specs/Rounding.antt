@@ -10,7 +10,7 @@ use mathlib.Core.Path.{_≡_, refl, sym, ap, _∙_}
 use mathlib.Core.Bool.{Bool, true, false, false≢true}
 use native.Mathlib.Omega.{arith}
 use native.Mathlib.Nat.{div-add-mod', mod-lt, suc-mul, mul-comm, div-div-eq-div-mul, mul-div-cancel, mul-le-mul-right, div-lt-iff-lt-mul}
-use borrow.Author.Tests.{lt-ltb, le-ltb, le-leb, leb-true, ltb-true, ltb-false}
+use borrow.Author.Tests.{lt-ltb, le-ltb, le-leb, leb-true, leb-false, ltb-true, ltb-false}
 use lib.Arith.{digits-div}
 use lib.Dec.{leb, ltb}
 use lib.IntN.{ℤ, pos, negsuc, negℤ, subℕ, _+ℤ_, _*ℤ_}
@@ -50,6 +50,12 @@ le-trans (negsuc a) b (pos c) h k = refl
 le-trans (negsuc a) (pos b) (negsuc c) h k = absurd (false≢true k)
 le-trans (negsuc a) (negsuc b) (negsuc c) h k =
     let l = leb-true b a h in let m = leb-true c b k in le-leb c a (omega arith)
+
+pub le-total : (a b : ℤ) → leZ a b ≡ false → leZ b a ≡ true
+le-total (pos a) (pos b) e = let h = leb-false a b e in le-leb b a (omega arith)
+le-total (pos a) (negsuc b) e = refl
+le-total (negsuc a) (pos b) e = sym e
+le-total (negsuc a) (negsuc b) e = let h = leb-false b a e in le-leb a b (omega arith)
 
 -- ## The floor of each sign
 

@@ -1,13 +1,15 @@
 -- The units of a temperature and one conversion each way between them. Each number carries its unit in its type.
+--     a plus b, a atMost b, a below b     the sum and the order of two counts of sixteenths; half degrees are another type
 --     toHalfDegrees c      sixteenths in half degrees: divided by 8, rounded down
 --     toSixteenths h       half degrees in sixteenths: times 8; a temperature out of range is refused, with zero sixteenths
 --     wholeOf r            the whole degree at or below a reading: -1 for half a degree below zero
 use Prim.Native.Nat.{ℕ}
 use mathlib.Core.Path.{_≡_, refl, ap}
-use mathlib.Core.Bool.{true}
+use mathlib.Core.Bool.{Bool, true}
 use native.Mathlib.Omega.{arith}
 use lib.Dec.{lit<, lit≤}
-use lib.IntN.{pos, _*ℤ_}
+use lib.IntN.{pos, _+ℤ_, _*ℤ_}
+use lib.Signed.{leZ, ltZ}
 use Rattle.lists.specs.Choice.{if_then_else_}
 use Rattle.refusals.specs.Refusals.{accepted, outOfRange}
 use Rattle.signed.specs.Complement.{Fits16, mul-fits}
@@ -19,6 +21,17 @@ use Rattle.temperature.specs.declared.Reading.the-variants.{InSixteenths
 use Rattle.temperature.specs.declared.Sixteenths.{Sixteenths}
 use Rattle.temperature.specs.declared.WholeDegrees.{WholeDegrees}
 use Rattle.temperature.specs.Range.{inRange, between-size}
+
+infixl 20 _plus_
+abbrev pub _plus_ : Sixteenths → Sixteenths → Sixteenths
+a plus b = record { 0 = a .0 +ℤ b .0 }
+
+infix 10 _atMost_ _below_
+abbrev pub _atMost_ : Sixteenths → Sixteenths → Bool
+a atMost b = leZ (a .0) (b .0)
+
+abbrev pub _below_ : Sixteenths → Sixteenths → Bool
+a below b = ltZ (a .0) (b .0)
 
 abbrev pub toHalfDegrees : Sixteenths → HalfDegrees
 toHalfDegrees c = record { 0 = floorDiv (c .0) 8 }
