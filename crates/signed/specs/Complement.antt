@@ -5,17 +5,17 @@
 --     Fits16 z        z is one of the numbers that sixteen bits hold, -32768 to 32767
 -- The code holds a signed number as its bits, so what it computes is read back from bits at each step: the laws named `..-code` say
 -- that this changes nothing. Assumes nothing.
-use Prim.Native.Nat.{ℕ, zero, suc, _+_, _-_, _*_, _^_, _<_, _≤_}
-use mathlib.Core.Path.{_≡_, refl, sym, ap, _∙_}
+use Prim.Native.Nat.{ℕ, zero, suc, _-_, _*_, _^_, _<_, _≤_}
+use mathlib.Core.Path.{_≡_, refl}
 use mathlib.Core.Bool.{true, false, false≢true}
 use native.Mathlib.Omega.{arith}
-use native.Mathlib.Nat.{lt-of-lt-of-le, le-of-lt}
+use native.Mathlib.Nat.{lt-of-lt-of-le}
 use borrow.Author.Tests.{le-ltb, leb-false}
 use lib.IntN.{ℤ, pos, negsuc, _+ℤ_, _-ℤ_, _*ℤ_}
-use lib.Signed.{mag, shrZ, mag-shr, leZ}
+use lib.Signed.{mag, mag-shr, leZ}
 use mir.Syntax.{Width, w8, w16}
-use mir.Val.{Fits, SFits, toZ, ofZ, bits, hbits}
-use mir.ValLaws.{toZ-ofZ, ofZ-toZ, ofZ-fits, toZ-fits, toZ-pos, sfits-le, half-full}
+use mir.Val.{SFits, toZ, ofZ, bits, hbits}
+use mir.ValLaws.{toZ-ofZ, ofZ-toZ, ofZ-fits, toZ-fits, sfits-le, half-full}
 use Rattle.signed.specs.Rounding.{floorDiv, floorTo, floor-size, mul-size, sub-below, sub-above}
 
 abbrev pub signed16 : ℕ → ℤ

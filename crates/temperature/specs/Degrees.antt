@@ -3,7 +3,7 @@
 --     IsSixteenths x z     sixteen times the value of x is z: x is finite, has the sign of z, and is |z| / 16 in size
 -- Law `degrees-exact`: over the closed range -880 to 2000 nothing is lost; `sixteenths-exact` says it of every 16-bit count.
 -- Assumes nothing.
-use Prim.Native.Nat.{ℕ, suc, _*_, _^_, _<_, _≤_}
+use Prim.Native.Nat.{ℕ, suc, _*_, _^_, _<_}
 use mathlib.Core.Path.{_≡_, refl, sym, ap, _∙_}
 use mathlib.Core.Bool.{Bool, true, false, not}
 use native.Mathlib.Omega.{arith}

@@ -1,5 +1,6 @@
 -- What a finished conversion stores for the sensor's count of sixteenths.
---     stepOf configuration                    the step of bits 6 and 5: 8, 4, 2 or 1 sixteenths for 0, 1, 2 or 3
+--     stepAt resolution                       8, 4, 2 or 1 sixteenths for 0, 1, 2 or 3
+--     stepOf configuration                    the step of the resolution in bits 6 and 5
 --     roundedOf count configuration           the count rounded down to a multiple of that step
 --     measuredOf unit count configuration     the stored reading: rounded sixteenths, or the half degrees at or below the count
 -- The laws cite one law of rounding down, which holds for any step. Assumes nothing.
@@ -7,7 +8,7 @@ use Prim.Native.Nat.{ℕ, _*_, _<_}
 use mathlib.Core.Path.{_≡_, refl, sym}
 use mathlib.Core.Bool.{Bool, true, false}
 use lib.Dec.{eqb, lit<}
-use lib.IntN.{ℤ, pos, negsuc}
+use lib.IntN.{pos}
 use Rattle.family.specs.Configuration.{resolution}
 use Rattle.family.specs.declared.Unit.{Unit}
 use Rattle.family.specs.declared.Unit.the-variants.{Sixteenths as inSixteenths, HalfDegrees as inHalfDegrees}
@@ -17,7 +18,7 @@ use Rattle.signed.specs.Rounding.{floorTo, floor-below, floor-near, floor-div}
 use Rattle.temperature.specs.declared.Reading.{Reading}
 use Rattle.temperature.specs.declared.Reading.the-variants.{InSixteenths, InHalves}
 use Rattle.temperature.specs.declared.Sixteenths.{Sixteenths}
-use Rattle.temperature.specs.Range.{inRange, between-floor, between-div}
+use Rattle.temperature.specs.Range.{between-div, between-floor, highestSixteenths, inRange, lowestSixteenths}
 use Rattle.temperature.specs.Register.{countOf, readingOf, registerOf, reading-register, unitOf}
 use Rattle.temperature.specs.Units.{_atMost_, _below_, _plus_, toHalfDegrees, wholeOf, whole-halves}
 
@@ -88,16 +89,16 @@ pub measured-range : (unit : Unit) (count : Sixteenths) (configuration : ℕ)
 unfolding floorTo
 measured-range inSixteenths count configuration h =
     each-step (λ s. inRange (InSixteenths (record { 0 = floorTo s (count .0) })) ≡ true)
-    (between-floor 8 (negsuc 879) (pos 2000) (count .0) (lit< tt) refl h)
-    (between-floor 4 (negsuc 879) (pos 2000) (count .0) (lit< tt) refl h)
-    (between-floor 2 (negsuc 879) (pos 2000) (count .0) (lit< tt) refl h)
-    (between-floor 1 (negsuc 879) (pos 2000) (count .0) (lit< tt) refl h)
+    (between-floor 8 lowestSixteenths highestSixteenths (count .0) (lit< tt) refl h)
+    (between-floor 4 lowestSixteenths highestSixteenths (count .0) (lit< tt) refl h)
+    (between-floor 2 lowestSixteenths highestSixteenths (count .0) (lit< tt) refl h)
+    (between-floor 1 lowestSixteenths highestSixteenths (count .0) (lit< tt) refl h)
     configuration
-measured-range inHalfDegrees count configuration h = between-div 8 (negsuc 879) (pos 2000) (count .0) (lit< tt) h
+measured-range inHalfDegrees count configuration h = between-div 8 lowestSixteenths highestSixteenths (count .0) (lit< tt) h
 
 -- ## What is stored fits the register, which gives it back
 
-measured-fits : (unit : Unit) (count : Sixteenths) (configuration : ℕ)
+pub measured-fits : (unit : Unit) (count : Sixteenths) (configuration : ℕ)
     → Fits16 (count .0) → Fits16 (countOf (measuredOf unit count configuration))
 measured-fits inSixteenths count configuration f =
     each-step (λ s. Fits16 (floorTo s (count .0)))
@@ -108,7 +109,7 @@ measured-fits inSixteenths count configuration f =
     configuration
 measured-fits inHalfDegrees count configuration f = div-fits (count .0) 8 f
 
-unit-measured : (unit : Unit) (count : Sixteenths) (configuration : ℕ) → unitOf (measuredOf unit count configuration) ≡ unit
+pub unit-measured : (unit : Unit) (count : Sixteenths) (configuration : ℕ) → unitOf (measuredOf unit count configuration) ≡ unit
 unit-measured inSixteenths count configuration = refl
 unit-measured inHalfDegrees count configuration = refl
 

@@ -16,9 +16,23 @@ use Rattle.temperature.specs.declared.Reading.the-variants.{InSixteenths
 abbrev pub between : ℤ → ℤ → ℤ → Bool
 between low high z = leZ low z && leZ z high
 
+-- -55 and +125 degrees in sixteenths
+abbrev pub lowestSixteenths : ℤ
+lowestSixteenths = negℤ (pos 880)
+
+abbrev pub highestSixteenths : ℤ
+highestSixteenths = pos 2000
+
+-- and in half degrees
+abbrev pub lowestHalves : ℤ
+lowestHalves = negℤ (pos 110)
+
+abbrev pub highestHalves : ℤ
+highestHalves = pos 250
+
 abbrev pub inRange : Reading → Bool
-inRange (InSixteenths c) = between (negℤ (pos 880)) (pos 2000) (c .0)
-inRange (InHalves h) = between (negℤ (pos 110)) (pos 250) (h .0)
+inRange (InSixteenths c) = between lowestSixteenths highestSixteenths (c .0)
+inRange (InHalves h) = between lowestHalves highestHalves (h .0)
 
 -- ## A range as its two bounds
 

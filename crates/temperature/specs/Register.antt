@@ -1,10 +1,12 @@
 -- The temperature register, scratchpad bytes 0 and 1: a 16-bit two's complement number, low byte first.
+--     countOf r                  the number of a reading, in its own unit
+--     bytesOf z                  the sixteen bits of a number as two bytes
 --     registerOf r               the two bytes of a reading
 --     readingOf unit low high    the reading that two bytes hold, in the unit of the family; all sixteen bits count
 --     unitOf r                   the unit that a reading is counted in
 -- Laws `reading-register` and `register-reading`: each undoes the other. Assumes nothing.
 use Prim.Native.Nat.{ℕ, _+_, _*_, _/_, _%_, _<_}
-use mathlib.Core.Path.{_≡_, refl, ap, _∙_}
+use mathlib.Core.Path.{_≡_, refl}
 use native.Mathlib.Omega.{arith}
 use lib.IntN.{ℤ}
 use Rattle.family.specs.declared.Unit.{Unit}
@@ -14,7 +16,6 @@ use Rattle.temperature.specs.declared.Reading.{Reading}
 use Rattle.temperature.specs.declared.Reading.the-variants.{InSixteenths, InHalves}
 use Rattle.temperature.specs.declared.Register.{Register}
 
--- the number of a reading, in its own unit
 abbrev pub countOf : Reading → ℤ
 countOf (InSixteenths c) = c .0
 countOf (InHalves h) = h .0

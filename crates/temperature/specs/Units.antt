@@ -1,9 +1,12 @@
--- The units of a temperature and one conversion each way between them. Each number carries its unit in its type.
---     a plus b, a atMost b, a below b     the sum and the order of two counts of sixteenths; half degrees are another type
+-- The units of a temperature and one conversion each way between them. Each number carries its unit in its type, so that half
+-- degrees cannot stand where sixteenths are asked.
+--     a plus b             the sum of two counts of sixteenths
+--     a atMost b, a below b    their order
+--     eightfold h          half degrees in sixteenths: times 8
 --     toHalfDegrees c      sixteenths in half degrees: divided by 8, rounded down
---     toSixteenths h       half degrees in sixteenths: times 8; a temperature out of range is refused, with zero sixteenths
+--     toSixteenths h       that, where h is a temperature in range; otherwise it is refused, with zero sixteenths
 --     wholeOf r            the whole degree at or below a reading: -1 for half a degree below zero
-use Prim.Native.Nat.{ℕ}
+-- Assumes nothing.
 use mathlib.Core.Path.{_≡_, refl, ap}
 use mathlib.Core.Bool.{Bool, true}
 use native.Mathlib.Omega.{arith}
@@ -55,9 +58,12 @@ eightfold-fits h e =
     let k = between-size 109 250 250 (h .0) (lit≤ tt) (lit≤ tt) e in
     mul-fits (h .0) 8 4096 (lit< tt) refl (omega arith)
 
--- there and back: nothing is lost from half degrees to sixteenths
-pub halves-back : (h : HalfDegrees) → toHalfDegrees (eightfold h) ≡ h
-halves-back h = ap (λ z. record { 0 = z }) (mul-div (h .0) 8 (lit< tt))
+-- nothing is lost from half degrees to sixteenths
+eightfold-back : (h : HalfDegrees) → toHalfDegrees (eightfold h) ≡ h
+eightfold-back h = ap (λ z. record { 0 = z }) (mul-div (h .0) 8 (lit< tt))
+
+pub sixteenths-back : (h : HalfDegrees) → inRange (InHalves h) ≡ true → toHalfDegrees (toSixteenths h .count) ≡ h
+sixteenths-back h e = rw e (eightfold-back h)
 
 -- a count has the whole degree of its half degrees
 pub whole-halves : (c : Sixteenths) → wholeOf (InHalves (toHalfDegrees c)) ≡ wholeOf (InSixteenths c)

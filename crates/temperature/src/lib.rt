@@ -11,6 +11,15 @@ ghost use Rattle.temperature.specs.Units.{toHalfDegrees, toSixteenths, w
 ghost use Rattle.signed.specs.Complement.{signed16, bits16};
 use family::Unit;
 
+// -55 and +125 degrees, the ends of what the devices measure, in each unit of a reading.
+const LOWEST_SIXTEENTHS: i16 = -880;
+
+const HIGHEST_SIXTEENTHS: i16 = 2000;
+
+const LOWEST_HALVES: i16 = -110;
+
+const HIGHEST_HALVES: i16 = 250;
+
 pub struct Sixteenths(pub i16);
 
 pub struct HalfDegrees(pub i16);
@@ -85,11 +94,11 @@ pub fn in_range(r: Reading) -> bool
     match r {
         Reading::InSixteenths(c) => {
             let z = c.0;
-            -880 <= z && z <= 2000
+            LOWEST_SIXTEENTHS <= z && z <= HIGHEST_SIXTEENTHS
         }
         Reading::InHalves(h) => {
             let z = h.0;
-            -110 <= z && z <= 250
+            LOWEST_HALVES <= z && z <= HIGHEST_HALVES
         }
     }
 }

@@ -1,12 +1,12 @@
 -- A number below zero has the bits of itself and 2 ^ 16, which the wider number holds on the way. Assumes nothing.
 use mathlib.Core.Bool.{true, false}
-use mathlib.Core.Path.{_≡_, refl, sym, _∙_}
+use mathlib.Core.Path.{_≡_, refl, _∙_}
 use lib.Dec.{lit≤}
 use lib.IntN.{pos, _+ℤ_}
 use lib.Signed.{leZ}
 use mir.Syntax.{w16, w32}
 use mir.Val.{SFits, toZ, ofZ}
-use mir.ValLaws.{toZ-ofZ, toZ-pos, ofZ-fits}
+use mir.ValLaws.{toZ-ofZ, ofZ-fits}
 use native.Mathlib.Omega.{arith}
 use Rattle.signed.specs.Complement.{signed16, bits16, signed-bits, bits-below, bits-positive, bits-negative, wider}
 use Rattle.temperature.proofs.bits_of.Statement.{statement}

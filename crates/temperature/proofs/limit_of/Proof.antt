@@ -1,12 +1,11 @@
 -- A byte from 128 on stands for itself less 256. Assumes nothing.
-use Prim.Native.Nat.{_<_}
+use Prim.Native.Nat.{_<_, _≤_}
 use mathlib.Core.Path.{_≡_}
 use native.Mathlib.Omega.{arith}
 use borrow.Author.Needs.{needs}
 use lib.Dec.{lit≤}
 use lib.IntN.{pos, _-ℤ_}
 use mir.Syntax.{w8, w16}
-use mir.Val.{toZ}
 use mir.ValLaws.{toZ-pos, toZ-fits}
 use Rattle.signed.specs.Complement.{signed8, signed16, Fits16, signed-bits, signed-high, wider}
 use Rattle.temperature.proofs.limit_of.Statement.{statement}
@@ -18,8 +17,8 @@ cast-z c = search needs
 less : (c : tie.Else1) → signed16 (c .before .args .byte) -ℤ pos 256 ≡ signed8 (c .before .args .byte)
 less c =
     let n = c .before .args .byte in
-    let h : n < 32768 = omega arith in let k : n < 256 = omega arith in
-    rw (toZ-pos w16 n h) (signed-high w8 n (c .if1 .left) k)
+    let h : n < 32768 = omega arith in let l : 128 ≤ n = omega arith in let k : n < 256 = omega arith in
+    rw (toZ-pos w16 n h) (signed-high w8 n l k)
 
 fits : (c : tie.Else1) → Fits16 (signed8 (c .before .args .byte))
 fits c = wider w8 w16 _ (lit≤ tt) (toZ-fits w8 _ (c .before .fits .byte))

@@ -1,5 +1,5 @@
 -- Bits from 2 ^ 15 on stand for themselves less 2 ^ 16, which the wider number holds on the way. Assumes nothing.
-use Prim.Native.Nat.{_<_}
+use Prim.Native.Nat.{_<_, _≤_}
 use mathlib.Core.Path.{_≡_}
 use native.Mathlib.Omega.{arith}
 use borrow.Author.Needs.{needs}
@@ -15,8 +15,8 @@ use Rattle.temperature.proofs.signed_of.Tie as tie
 less : (c : tie.Else1) → toZ w32 (c .before .args .bits) -ℤ pos 65536 ≡ signed16 (c .before .args .bits)
 less c =
     let n = c .before .args .bits in
-    let h : n < 2147483648 = omega arith in let k : n < 65536 = omega arith in
-    rw (toZ-pos w32 n h) (signed-high w16 n (c .if1 .left) k)
+    let h : n < 2147483648 = omega arith in let l : 32768 ≤ n = omega arith in let k : n < 65536 = omega arith in
+    rw (toZ-pos w32 n h) (signed-high w16 n l k)
 
 fits : (c : tie.Else1) → Fits16 (signed16 (c .before .args .bits))
 fits c = toZ-fits w16 _ (c .before .fits .bits)

@@ -6,7 +6,7 @@ use Rattle.temperature.proofs.to_half_degrees.Tie as tie
 
 returns : tie.Need-returns
 returns c =
-    rw (shift-code (c .before .args .c .0) 8 (record { sfits = c .struct-told .given .0 .1 }))
+    ap (λ z. record { 0 = z }) (shift-code (c .before .args .c .0) 8 (record { sfits = c .struct-told .given .0 .1 }))
 
 pub to-half-degrees-spec : {M : Type 1} → statement M
 to-half-degrees-spec = tie.close (tie.spec returns)

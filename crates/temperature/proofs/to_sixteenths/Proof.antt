@@ -1,8 +1,8 @@
 -- The test's answer is the definition's; within the range eight times the count fits sixteen bits. Assumes nothing.
 use mathlib.Core.Bool.{true, false}
-use mathlib.Core.Path.{_≡_, refl, sym, _∙_}
+use mathlib.Core.Path.{_≡_, sym, _∙_}
 use borrow.Author.Needs.{needs}
-use Rattle.signed.specs.Complement.{Fits16, signed-bits}
+use Rattle.signed.specs.Complement.{signed-bits}
 use Rattle.temperature.specs.Range.{inRange}
 use Rattle.temperature.specs.Units.{eightfold, eightfold-fits}
 use Rattle.temperature.specs.declared.Reading.the-variants.{InHalves}
