@@ -4,7 +4,7 @@
 --     a atMost b, a below b    their order
 --     eightfold h          half degrees in sixteenths: times 8
 --     toHalfDegrees c      sixteenths in half degrees: divided by 8, rounded down
---     toSixteenths h       that, where h is a temperature in range; otherwise it is refused, with zero sixteenths
+--     toSixteenths h       eightfold h, where h is in range; otherwise a refusal, with zero sixteenths
 --     wholeOf r            the whole degree at or below a reading: -1 for half a degree below zero
 -- Assumes nothing.
 use mathlib.Core.Path.{_≡_, refl, ap}
