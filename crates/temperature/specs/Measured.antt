@@ -8,7 +8,6 @@ use Prim.Native.Nat.{ℕ, _*_, _<_}
 use mathlib.Core.Path.{_≡_, refl, sym}
 use mathlib.Core.Bool.{Bool, true, false}
 use lib.Dec.{eqb, lit<}
-use lib.IntN.{pos}
 use Rattle.family.specs.Configuration.{resolution}
 use Rattle.family.specs.declared.Unit.{Unit}
 use Rattle.family.specs.declared.Unit.the-variants.{Sixteenths as inSixteenths, HalfDegrees as inHalfDegrees}
@@ -20,7 +19,7 @@ use Rattle.temperature.specs.declared.Reading.the-variants.{InSixteenths
 use Rattle.temperature.specs.declared.Sixteenths.{Sixteenths}
 use Rattle.temperature.specs.Range.{between-div, between-floor, highestSixteenths, inRange, lowestSixteenths}
 use Rattle.temperature.specs.Register.{countOf, readingOf, registerOf, reading-register, unitOf}
-use Rattle.temperature.specs.Units.{_atMost_, _below_, _plus_, toHalfDegrees, wholeOf, whole-halves}
+use Rattle.temperature.specs.Units.{_atMost_, _below_, _plus_, _sixteenths, toHalfDegrees, wholeOf, whole-halves}
 
 abbrev pub stepAt : ℕ → ℕ
 stepAt r = if eqb r 0 then 8 else if eqb r 1 then 4 else if eqb r 2 then 2 else 1
@@ -53,17 +52,13 @@ each-step P p8 p4 p2 p1 configuration = pick (eqb r 0) (eqb r 1) (eqb r 2)
 step-positive : (configuration : ℕ) → 0 < stepOf configuration
 step-positive = each-step (λ s. 0 < s) (lit< tt) (lit< tt) (lit< tt) (lit< tt)
 
--- a step as a count
-abbrev pub stepCount : ℕ → Sixteenths
-stepCount configuration = record { 0 = pos (stepOf configuration) }
-
 -- ## The stored count is at most the count, and less than a step below it
 
 pub rounded-below : (count : Sixteenths) (configuration : ℕ) → roundedOf count configuration atMost count ≡ true
 rounded-below count configuration = floor-below (stepOf configuration) (count .0) (step-positive configuration)
 
 pub rounded-near : (count : Sixteenths) (configuration : ℕ)
-    → count below (roundedOf count configuration plus stepCount configuration) ≡ true
+    → count below roundedOf count configuration plus stepOf configuration sixteenths ≡ true
 rounded-near count configuration = floor-near (stepOf configuration) (count .0) (step-positive configuration)
 
 -- ## The whole degree of what is stored is that of the count, since each step divides a degree

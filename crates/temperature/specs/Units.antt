@@ -1,12 +1,15 @@
 -- The units of a temperature and one conversion each way between them. Each number carries its unit in its type, so that half
 -- degrees cannot stand where sixteenths are asked.
+--     n sixteenths         a count from 0 on
 --     a plus b             the sum of two counts of sixteenths
---     a atMost b, a below b    their order
+--     a atMost b           whether a ≤ b; a below b, whether a < b
 --     eightfold h          half degrees in sixteenths: times 8
+--     sixteenfold w        whole degrees in sixteenths: times 16
 --     toHalfDegrees c      sixteenths in half degrees: divided by 8, rounded down
 --     toSixteenths h       eightfold h, where h is in range; otherwise a refusal, with zero sixteenths
 --     wholeOf r            the whole degree at or below a reading: -1 for half a degree below zero
 -- Assumes nothing.
+use Prim.Native.Nat.{ℕ}
 use mathlib.Core.Path.{_≡_, refl, ap}
 use mathlib.Core.Bool.{Bool, true}
 use native.Mathlib.Omega.{arith}
@@ -16,7 +19,7 @@ use lib.Signed.{leZ, ltZ}
 use Rattle.lists.specs.Choice.{if_then_else_}
 use Rattle.refusals.specs.Refusals.{accepted, outOfRange}
 use Rattle.signed.specs.Complement.{Fits16, mul-fits}
-use Rattle.signed.specs.Rounding.{floorDiv, mul-div, div-div}
+use Rattle.signed.specs.Rounding.{floorDiv, floorTo, floor-below, floor-near, mul-div, div-div}
 use Rattle.temperature.specs.declared.Converted.{Converted}
 use Rattle.temperature.specs.declared.HalfDegrees.{HalfDegrees}
 use Rattle.temperature.specs.declared.Reading.{Reading}
@@ -24,6 +27,10 @@ use Rattle.temperature.specs.declared.Reading.the-variants.{InSixteenths
 use Rattle.temperature.specs.declared.Sixteenths.{Sixteenths}
 use Rattle.temperature.specs.declared.WholeDegrees.{WholeDegrees}
 use Rattle.temperature.specs.Range.{inRange, between-size}
+
+infix 30 _sixteenths
+abbrev pub _sixteenths : ℕ → Sixteenths
+n sixteenths = record { 0 = pos n }
 
 infixl 20 _plus_
 abbrev pub _plus_ : Sixteenths → Sixteenths → Sixteenths
@@ -42,15 +49,42 @@ toHalfDegrees c = record { 0 = floorDiv (c .0) 8 }
 abbrev pub eightfold : HalfDegrees → Sixteenths
 eightfold h = record { 0 = h .0 *ℤ pos 8 }
 
+abbrev pub sixteenfold : WholeDegrees → Sixteenths
+sixteenfold w = record { 0 = w .0 *ℤ pos 16 }
+
 abbrev pub toSixteenths : HalfDegrees → Converted
 toSixteenths h =
     if inRange (InHalves h)
     then record { refusal = accepted; count = eightfold h }
-    else record { refusal = outOfRange; count = record { 0 = pos 0 } }
+    else record { refusal = outOfRange; count = 0 sixteenths }
 
 abbrev pub wholeOf : Reading → WholeDegrees
 wholeOf (InSixteenths c) = record { 0 = floorDiv (c .0) 16 }
 wholeOf (InHalves h) = record { 0 = floorDiv (h .0) 2 }
+
+-- ## Both coarser units round down: at most the count, and less than one of the unit below it
+
+pub halves-below : (c : Sixteenths) → eightfold (toHalfDegrees c) atMost c ≡ true
+unfolding floorTo
+halves-below c = floor-below 8 (c .0) (lit< tt)
+
+pub halves-near : (c : Sixteenths) → c below eightfold (toHalfDegrees c) plus 8 sixteenths ≡ true
+unfolding floorTo
+halves-near c = floor-near 8 (c .0) (lit< tt)
+
+pub whole-below : (c : Sixteenths) → sixteenfold (wholeOf (InSixteenths c)) atMost c ≡ true
+unfolding floorTo
+whole-below c = floor-below 16 (c .0) (lit< tt)
+
+pub whole-near : (c : Sixteenths) → c below sixteenfold (wholeOf (InSixteenths c)) plus 16 sixteenths ≡ true
+unfolding floorTo
+whole-near c = floor-near 16 (c .0) (lit< tt)
+
+-- a count has the whole degree of its half degrees
+pub whole-halves : (c : Sixteenths) → wholeOf (InHalves (toHalfDegrees c)) ≡ wholeOf (InSixteenths c)
+whole-halves c = ap (λ z. record { 0 = z }) (div-div (c .0) 8 2)
+
+-- ## There and back
 
 -- eight times a count in range fits sixteen bits
 pub eightfold-fits : (h : HalfDegrees) → inRange (InHalves h) ≡ true → Fits16 (eightfold h .0)
@@ -64,7 +98,3 @@ eightfold-back h = ap (λ z. record { 0 = z }) (mul-div (h .0) 8 (lit< tt))
 
 pub sixteenths-back : (h : HalfDegrees) → inRange (InHalves h) ≡ true → toHalfDegrees (toSixteenths h .count) ≡ h
 sixteenths-back h e = rw e (eightfold-back h)
-
--- a count has the whole degree of its half degrees
-pub whole-halves : (c : Sixteenths) → wholeOf (InHalves (toHalfDegrees c)) ≡ wholeOf (InSixteenths c)
-whole-halves c = ap (λ z. record { 0 = z }) (div-div (c .0) 8 2)
