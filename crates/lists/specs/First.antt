@@ -11,6 +11,7 @@ use native.Mathlib.Numerals.{add-one}
 use lib.ListN.{length, take, drop, getD, length-take, drop-of-length-le}
 use lib.Seq.{drop-cons, getD-take}
 use Rattle.lists.specs.Choice.{if_then_else_}
+use Rattle.lists.specs.Fold.{all, all-passes, all-fails, all-end}
 
 unfoldable pub firstWith : {A R : Type 0} → (A → Bool) → (ℕ → R) → R → ℕ → List A → R
 firstWith p f z k [] = z
@@ -44,3 +45,25 @@ first-skip p f z i n l h =
     let a : length (take n l) ≤ i = simp length-take (omega arith) in
     let b : length (take n l) ≤ i + 1 = omega arith in
     first-end p f z i n l a ∙ sym (first-end p f z (i + 1) n l b)
+
+-- ## Whether all of the first n pass, as a loop that returns at the first that fails tells it
+
+module _ {A : Type 0} (p : A → Bool) (i n : ℕ) (l : List A) where
+  pub all-onward : (d : A) → i < n → i < length l → p (getD l i d) ≡ true → all p (onward i n l) ≡ all p (onward (i + 1) n l)
+  all-onward d h k t =
+      let b : i < length (take n l) = simp length-take (omega arith) in
+      all-passes p (take n l) i d b (ap p (getD-take n l i d h) ∙ t)
+
+  pub all-stopped : (d : A) → i < n → i < length l → p (getD l i d) ≡ false → all p (onward i n l) ≡ false
+  all-stopped d h k t =
+      let b : i < length (take n l) = simp length-take (omega arith) in
+      all-fails p (take n l) i d b (ap p (getD-take n l i d h) ∙ t)
+
+  pub all-skip : n ≤ i → all p (onward i n l) ≡ all p (onward (i + 1) n l)
+  all-skip h =
+      let a : length (take n l) ≤ i = simp length-take (omega arith) in
+      let b : length (take n l) ≤ i + 1 = omega arith in
+      all-end p (take n l) i a ∙ sym (all-end p (take n l) (i + 1) b)
+
+  pub all-passed : length l ≤ i → all p (onward i n l) ≡ true
+  all-passed h = let a : length (take n l) ≤ i = simp length-take (omega arith) in all-end p (take n l) i a

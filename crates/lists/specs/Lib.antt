@@ -4,3 +4,4 @@ pub mod Front
 pub mod Fold
 pub mod First
 pub mod Laid
+pub mod Places

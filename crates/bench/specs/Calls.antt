@@ -1,0 +1,93 @@
+-- The other calls on a bench: adding, the end of a conversion or a copy, and a power cycle. None of them looks at the wire, so that a device that
+-- holds it stops none of them. A refusal leaves the bench as it was.
+--     addedTo b new                  5 or 7 for the code, 8 for a code that is there, 9 for a 33rd device; else the new device after the others
+--     conversionFinished b code n    12 for a code that is not there, 13 unless it is converting, 11 for a count out of range; else its conversion is done
+--     copyFinished b code            12 for a code that is not there, 13 unless it is copying; else its copy is done
+--     powerCycled b code             12 for a code that is not there; else the device is powered up again
+-- These name one device, the first with the code; no other changes.
+use Prim.Native.Nat.{ℕ, _+_}
+use mathlib.Core.Bool.{Bool, true, false, not}
+use lib.Dec.{eqb, ltb}
+use lib.ListN.{getD, set}
+use Rattle.lists.specs.Choice.{if_then_else_}
+use Rattle.refusals.specs.Refusals.{accepted, duplicate, benchFull, outOfRange, notFound, mismatch}
+use Rattle.rom.specs.Code.{codeRefusal}
+use Rattle.temperature.specs.Range.{inRange}
+use Rattle.temperature.specs.declared.Reading.the-variants.{InSixteenths}
+use Rattle.temperature.specs.declared.Sixteenths.{Sixteenths}
+use Rattle.device.specs.Finish.{conversionDone, copyDone}
+use Rattle.device.specs.Power.{powerUp, joined}
+use Rattle.device.specs.declared.Activity.{Activity}
+use Rattle.device.specs.declared.Activity.the-variants.{Idle, Converting, Copying}
+use Rattle.device.specs.declared.Device.{Device}
+use Rattle.device.specs.declared.Joining.{Joining}
+use Rattle.bench.specs.declared.Bench.{Bench}
+use Rattle.bench.specs.declared.Changed.{Changed}
+use Rattle.bench.specs.declared.Place.{Place}
+use Rattle.bench.specs.declared.Place.the-variants.{At, Nowhere}
+use Rattle.bench.specs.Bench.{vacant, placeOf}
+
+abbrev pub refused : ℕ → Bench → Changed
+refused n b = record { refusal = n; bench = b }
+
+abbrev pub changed : Bench → Changed
+changed b = record { refusal = accepted; bench = b }
+
+-- ## Adding
+
+abbrev pub isThere : Place → Bool
+isThere (At i) = true
+isThere Nowhere = false
+
+abbrev pub withNew : Bench → Device → Bench
+withNew b d = record { devices = set (b .devices) (b .count) d; count = b .count + 1 }
+
+-- after the others, where there is a place left
+abbrev pub putLast : Bench → Device → Changed
+putLast b d = if ltb (b .count) 32 then changed (withNew b d) else refused benchFull b
+
+unfoldable pub addedTo : Bench → Joining → Changed
+addedTo b new =
+    if not (eqb (codeRefusal (new .code)) accepted) then refused (codeRefusal (new .code)) b
+    else if isThere (placeOf b (new .code)) then refused duplicate b
+    else putLast b (joined new)
+
+-- ## One device
+
+abbrev pub deviceAt : Bench → ℕ → Device
+deviceAt b i = getD (b .devices) i vacant
+
+abbrev pub withDevice : Bench → ℕ → Device → Bench
+withDevice b i d = record { devices = set (b .devices) i d; count = b .count }
+
+abbrev pub endConversion : Bench → ℕ → Sixteenths → Activity → Changed
+endConversion b i n Idle = refused mismatch b
+endConversion b i n Converting =
+    if inRange (InSixteenths n) then changed (withDevice b i (conversionDone (deviceAt b i) n)) else refused outOfRange b
+endConversion b i n (Copying s) = refused mismatch b
+
+abbrev pub conversionFinishedAt : Bench → Sixteenths → Place → Changed
+conversionFinishedAt b n (At i) = endConversion b i n (deviceAt b i .activity)
+conversionFinishedAt b n Nowhere = refused notFound b
+
+unfoldable pub conversionFinished : Bench → ℕ → Sixteenths → Changed
+conversionFinished b code n = conversionFinishedAt b n (placeOf b code)
+
+abbrev pub endCopy : Bench → ℕ → Activity → Changed
+endCopy b i Idle = refused mismatch b
+endCopy b i Converting = refused mismatch b
+endCopy b i (Copying s) = changed (withDevice b i (copyDone (deviceAt b i) s))
+
+abbrev pub copyFinishedAt : Bench → Place → Changed
+copyFinishedAt b (At i) = endCopy b i (deviceAt b i .activity)
+copyFinishedAt b Nowhere = refused notFound b
+
+unfoldable pub copyFinished : Bench → ℕ → Changed
+copyFinished b code = copyFinishedAt b (placeOf b code)
+
+abbrev pub powerCycledAt : Bench → Place → Changed
+powerCycledAt b (At i) = changed (withDevice b i (powerUp (deviceAt b i)))
+powerCycledAt b Nowhere = refused notFound b
+
+unfoldable pub powerCycled : Bench → ℕ → Changed
+powerCycled b code = powerCycledAt b (placeOf b code)
