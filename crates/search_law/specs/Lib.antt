@@ -1,2 +1,4 @@
 pub mod Codes
 pub mod Pass
+pub mod Listing
+pub mod Departures
