@@ -2,3 +2,5 @@ pub mod Codes
 pub mod Pass
 pub mod Listing
 pub mod Departures
+pub mod Wire
+pub mod Issued
