@@ -4,3 +4,5 @@ pub mod Listing
 pub mod Departures
 pub mod Wire
 pub mod Issued
+pub mod Paths
+pub mod Searchers
