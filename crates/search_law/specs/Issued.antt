@@ -6,18 +6,9 @@ use mathlib.Core.Bool.{Bool, true}
 use mathlib.Core.Option.{Option, none, some, Option·map}
 use mathlib.Core.List.{List, [], _∷_, _++_}
 use Prim.Native.Nat.{ℕ, zero, suc}
-use native.Mathlib.Omega.{arith}
 use Rattle.search_law.specs.Codes.{Code, first, rest}
-use Rattle.search_law.specs.Pass.{Triple, triple, Plan, choice, onSome, found}
+use Rattle.search_law.specs.Pass.{Triple, triple, Plan, choice, onSome, on-some, never, found}
 use Rattle.search_law.specs.Wire.{Bus, Run, run, Pass, passed, tripleOffers, passOffers, slots, triplets, wirePass}
-
--- What holds of each way on from an answer.
-pub on-some : {A R : Type 0} (Q : R → Type 0) (o : Option A) (r : R) (f : A → R) → Q r → ((x : A) → Q (f x)) → Q (onSome o r f)
-on-some Q none r f h k = h
-on-some Q (some x) r f h k = k x
-
-pub never : {A : Type 0} {x : A} → none ≡ some x → ⊥
-never e = let z : _≡_ {A = ℕ} 0 1 = cc in omega arith
 
 -- A list that was made longer at its front.
 pub record Longer {A : Type 0} (x : A) (o : Option (List A)) (l : List A) : Type 0 where

@@ -6,3 +6,5 @@ pub mod Wire
 pub mod Issued
 pub mod Paths
 pub mod Searchers
+pub mod Sits
+pub mod OnTheWire
