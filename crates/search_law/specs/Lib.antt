@@ -8,3 +8,4 @@ pub mod Paths
 pub mod Searchers
 pub mod Sits
 pub mod OnTheWire
+pub mod Complete

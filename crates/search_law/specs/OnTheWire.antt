@@ -58,3 +58,76 @@ module _ {B : Bus} {M : Model} (C : Carries B M) {command : List Bool} {n : ℕ}
       rw (read-bit C Z p l ds s, read-co-bit C Z p l ds s)
       (on-both Walks (choice (line S) (coLine S) (first plan)) _ _ _ _ (walks-none (line S ∷ coLine S ∷ []) two)
       (λ d. rw (write-bit C Z p l ds s d) (walks-more (triple (line S) (coLine S) d) _ _ (i d))))
+
+  -- ## The reset and the command
+
+  take-bits : (P : M .Dev → Type 0) (bs : List Bool) (ds : B .Devices) → Each (Takes M P bs) (C .live ds)
+      → (slots B bs ds .lines ≡ bs) × Each P (C .live (slots B bs ds .devices))
+  unfolding slots
+  take-bits P [] ds h = (refl, h)
+  take-bits P (b ∷ bs) ds h =
+      let t = take-bit Z P b bs (C .live ds) h in
+      let e : B .line b ds ≡ b = C .line-is b ds ∙ rw (t .0) (and-true b) in
+      let i = take-bits P bs (B .after b ds) (rw (C .after-is b ds, e) (t .1)) in
+      (rw (e, i .0), i .1)
+
+  started : (ds : B .Devices) → (slots B command (B .reset ds) .lines ≡ command)
+      × Each (λ d. cond (Z .joins d) (Z .Own 0 d) (Z .Out d)) (C .live (slots B command (B .reset ds) .devices))
+  started ds = take-bits _ command (B .reset ds) (rw (C .reset-is ds) (each-restart Z _ (Z .command-taken) (C .live ds)))
+
+  -- The line shows the command as the master sends it: everybody listens.
+  pub command-shown : (ds : B .Devices) → slots B command (B .reset ds) .lines ≡ command
+  command-shown ds = started ds .0
+
+  -- Then each device that takes part is about to send its first bit, and every other is quiet.
+  pub sits-started : (ds : B .Devices) → Each (Sits Z [] (Z .Own 0)) (C .live (slots B command (B .reset ds) .devices))
+  sits-started ds = each-implies (λ d h. rw (agrees-nil, and-true) h) (C .live (slots B command (B .reset ds) .devices)) (started ds .1)
+
+  -- ## Who takes part stays the same
+
+  joined-slots : (xs : List Bool) (ds : B .Devices) → joined C Z (slots B xs ds .devices) ≡ joined C Z ds
+  unfolding slots
+  joined-slots [] ds = refl
+  joined-slots (x ∷ xs) ds = joined-slots xs (B .after x ds) ∙ joined-after C Z x ds
+
+  joined-started : (ds : B .Devices) → joined C Z (slots B command (B .reset ds) .devices) ≡ joined C Z ds
+  joined-started ds = joined-slots command (B .reset ds) ∙ joined-reset C Z ds
+
+  joined-triplets : (m : ℕ) (plan : Plan) (ds : B .Devices) → joined C Z (triplets B m plan ds .devices) ≡ joined C Z ds
+  unfolding triplets
+  joined-triplets zero plan ds = refl
+  joined-triplets (suc m) plan ds =
+      let one = B .after true ds in
+      let two = B .after true one in
+      let read : joined C Z two ≡ joined C Z ds = joined-after C Z true one ∙ joined-after C Z true ds in
+      let i : (d : Bool) → joined C Z (triplets B m (rest plan) (B .after d two) .devices) ≡ joined C Z (B .after d two) =
+      λ d. joined-triplets m (rest plan) (B .after d two) in
+      on-some (λ (r : Pass (B .Devices)). joined C Z (r .devices) ≡ joined C Z ds) (choice (B .line true ds) (B .line true one) (first plan)) _ _ read
+      (λ d. i d ∙ joined-after C Z d two ∙ read)
+
+  pub joined-pass : (m : ℕ) (plan : Plan) (ds : B .Devices) → joined C Z (wirePass B command m plan ds .devices) ≡ joined C Z ds
+  joined-pass m plan ds = joined-triplets m plan (slots B command (B .reset ds) .devices) ∙ joined-started ds
+
+  -- ## A pass
+
+  walked : (plan : Plan) (ds : B .Devices) → Walks (pass n plan (joined C Z ds)) (triplets B n plan (slots B command (B .reset ds) .devices))
+  walked plan ds =
+      simp (path-nil, joined-started) at (triplets-walk n plan [] (slots B command (B .reset ds) .devices) (omega arith) (sits-started ds))
+
+  pub pass-on-wire : (plan : Plan) (ds : B .Devices) → wirePass B command n plan ds .triples ≡ pass n plan (joined C Z ds)
+  pass-on-wire plan ds = walked plan ds .triples-are
+
+  pub pass-lines : (plan : Plan) (ds : B .Devices) (ts : List Triple) → pass n plan (joined C Z ds) ≡ some ts
+      → wirePass B command n plan ds .lines ≡ command ++ shown ts
+  pass-lines plan ds ts e = let i = walked plan ds .lines-are ts e in rw (command-shown ds, i)
+
+  -- Where nobody takes part, the first two reads show 1 and 1.
+  pub nobody-reads : 0 < n → (ds : B .Devices) → joined C Z ds ≡ []
+      → (B .line true (slots B command (B .reset ds) .devices) ≡ true)
+      × (B .line true (B .after true (slots B command (B .reset ds) .devices)) ≡ true)
+  unfolding all
+  nobody-reads l ds e =
+      let es = slots B command (B .reset ds) .devices in
+      let s = sits-started ds in
+      let f : onPath [] (joined C Z es) ≡ [] = path-nil _ ∙ joined-started ds ∙ e in
+      (read-bit C Z [] l es s ∙ ap line f, read-co-bit C Z [] l es s ∙ ap coLine f)
