@@ -16,13 +16,14 @@ use native.Mathlib.Omega.{arith}
 use lib.ListN.{length}
 use Rattle.lists.specs.Fold.{all}
 use Rattle.search_law.specs.Codes.{Code, first, rest, line, coLine, follow, nobody, Each, Pairs, Sized, Distinct, Before}
-use Rattle.search_law.specs.Pass.{Triple, triple, Plan, choice, onSome, on-some, never, pass, found, next}
+use Rattle.search_law.specs.Pass.{Triple, triple, Plan, choice, onSome, never, pass, found, next}
 use Rattle.search_law.specs.Listing.{inOrder, order-pairs, order-all, order-length}
 use Rattle.search_law.specs.Departures.{Lists, end, more, lists}
 use Rattle.search_law.specs.Wire.{Bus, Run, run, Passes, ran, Pass, passed, Search, searched, passOffers, slots, passes, triplets, wirePass, searchFrom, wireSearch}
 use Rattle.search_law.specs.Issued.{longer, slots-append, pass-issued}
 use Rattle.search_law.specs.Searchers.{Model, Carries, Searchers, participants}
-use Rattle.search_law.specs.Sits.{joined}
+use Rattle.search_law.specs.Holds.{search-holds}
+use Rattle.search_law.specs.Sits.{joined, joined-after, joined-reset}
 use Rattle.search_law.specs.OnTheWire.{shown, pass-on-wire, pass-lines, joined-pass, command-shown, nobody-reads}
 
 abbrev pub allowed : Triple → Bool
@@ -101,7 +102,7 @@ module _ {B : Bus} {M : Model} (C : Carries B M) {command : List Bool} {n : ℕ}
       let w = pass-on-wire C Z plan ds ∙ g in
       let u = pass-run plan ds ts g in
       let es = wirePass B command n plan ds .devices in
-      let i = search-lists fuel S es (joined-pass C Z n plan ds ∙ e) r (omega arith) in
+      let i = search-lists fuel S es (joined-pass C Z plan ds ∙ e) r (omega arith) in
       rw (w, ← u) (rw (i .0), (pass-shown plan ds ts g, i .1))
 
   -- A search is the passes of the listing, where somebody takes part.
@@ -149,16 +150,6 @@ module _ {B : Bus} {M : Model} (C : Carries B M) {command : List Bool} {n : ℕ}
       rw (t, command-shown C Z ds, slots-append B command (true ∷ true ∷ []) (B .reset ds))
 
   -- Who takes part stays the same, so that a search may follow a search.
-  search-from-joined : (fuel : ℕ) (o : Option Plan) (ds : B .Devices) → joined C Z (searchFrom B command fuel n o ds .devices) ≡ joined C Z ds
-  unfolding searchFrom
-  search-from-joined zero o ds = refl
-  search-from-joined (suc fuel) none ds = refl
-  search-from-joined (suc fuel) (some plan) ds =
-      let r = wirePass B command n plan ds in
-      let i : (o : Option Plan) → joined C Z (searchFrom B command fuel n o (r .devices) .devices) ≡ joined C Z (r .devices) =
-      λ o. search-from-joined fuel o (r .devices) in
-      on-some (λ (t : Search (B .Devices)). joined C Z (t .devices) ≡ joined C Z ds) (r .triples) _ _ (joined-pass C Z n plan ds)
-      (λ ts. i (next ts) ∙ joined-pass C Z n plan ds)
-
   pub search-joined : (fuel : ℕ) (ds : B .Devices) → joined C Z (wireSearch B command fuel n ds .devices) ≡ joined C Z ds
-  search-joined fuel ds = search-from-joined fuel (some []) ds
+  search-joined fuel ds =
+      search-holds B (λ es. joined C Z es ≡ joined C Z ds) (λ x es e. joined-after C Z x es ∙ e) (λ es e. joined-reset C Z es ∙ e) command n fuel ds refl

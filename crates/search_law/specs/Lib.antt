@@ -4,8 +4,10 @@ pub mod Listing
 pub mod Departures
 pub mod Wire
 pub mod Issued
+pub mod Holds
 pub mod Paths
 pub mod Searchers
 pub mod Sits
 pub mod OnTheWire
 pub mod Complete
+pub mod Keeps

@@ -12,10 +12,11 @@ use native.Mathlib.Omega.{arith}
 use lib.ListN.{length, length-append}
 use Rattle.lists.specs.Fold.{all}
 use Rattle.search_law.specs.Codes.{Code, first, rest, line, coLine, follow, Each, each-implies}
-use Rattle.search_law.specs.Pass.{Triple, triple, Plan, choice, onSome, on-some, on-both, never, pass, found}
+use Rattle.search_law.specs.Pass.{Triple, triple, Plan, choice, onSome, on-both, never, pass, found}
 use Rattle.search_law.specs.Paths.{onPath, path-nil, agrees, agrees-nil, path-snoc}
 use Rattle.search_law.specs.Wire.{Bus, Run, run, Pass, passed, slots, triplets, wirePass}
 use Rattle.search_law.specs.Issued.{longer}
+use Rattle.search_law.specs.Holds.{slots-hold, pass-holds}
 use Rattle.search_law.specs.Searchers.{Model, Carries, Takes, Searchers, participants}
 use Rattle.search_law.specs.Sits.{Sits, each-restart, take-bit, joined, joined-after, joined-reset, once, twice, read-bit, read-co-bit, write-bit, sits-on}
 
@@ -61,6 +62,13 @@ module _ {B : Bus} {M : Model} (C : Carries B M) {command : List Bool} {n : ℕ}
 
   -- ## The reset and the command
 
+  -- A device as the command leaves it.
+  abbrev pub Starts : M .Dev → Type 0
+  Starts d = cond (Z .joins d) (Z .Own 0 d) (Z .Out d)
+
+  pub takes-command : (ds : B .Devices) → Each (Takes M Starts command) (C .live (B .reset ds))
+  takes-command ds = rw (C .reset-is ds) (each-restart Z (Takes M Starts command) (Z .command-taken) (C .live ds))
+
   take-bits : (P : M .Dev → Type 0) (bs : List Bool) (ds : B .Devices) → Each (Takes M P bs) (C .live ds)
       → (slots B bs ds .lines ≡ bs) × Each P (C .live (slots B bs ds .devices))
   unfolding slots
@@ -71,9 +79,8 @@ module _ {B : Bus} {M : Model} (C : Carries B M) {command : List Bool} {n : ℕ}
       let i = take-bits P bs (B .after b ds) (rw (C .after-is b ds, e) (t .1)) in
       (rw (e, i .0), i .1)
 
-  started : (ds : B .Devices) → (slots B command (B .reset ds) .lines ≡ command)
-      × Each (λ d. cond (Z .joins d) (Z .Own 0 d) (Z .Out d)) (C .live (slots B command (B .reset ds) .devices))
-  started ds = take-bits _ command (B .reset ds) (rw (C .reset-is ds) (each-restart Z _ (Z .command-taken) (C .live ds)))
+  started : (ds : B .Devices) → (slots B command (B .reset ds) .lines ≡ command) × Each Starts (C .live (slots B command (B .reset ds) .devices))
+  started ds = take-bits Starts command (B .reset ds) (takes-command ds)
 
   -- The line shows the command as the master sends it: everybody listens.
   pub command-shown : (ds : B .Devices) → slots B command (B .reset ds) .lines ≡ command
@@ -85,28 +92,13 @@ module _ {B : Bus} {M : Model} (C : Carries B M) {command : List Bool} {n : ℕ}
 
   -- ## Who takes part stays the same
 
-  joined-slots : (xs : List Bool) (ds : B .Devices) → joined C Z (slots B xs ds .devices) ≡ joined C Z ds
-  unfolding slots
-  joined-slots [] ds = refl
-  joined-slots (x ∷ xs) ds = joined-slots xs (B .after x ds) ∙ joined-after C Z x ds
-
   joined-started : (ds : B .Devices) → joined C Z (slots B command (B .reset ds) .devices) ≡ joined C Z ds
-  joined-started ds = joined-slots command (B .reset ds) ∙ joined-reset C Z ds
+  joined-started ds =
+      slots-hold B (λ es. joined C Z es ≡ joined C Z ds) (λ x es e. joined-after C Z x es ∙ e) command (B .reset ds) (joined-reset C Z ds)
 
-  joined-triplets : (m : ℕ) (plan : Plan) (ds : B .Devices) → joined C Z (triplets B m plan ds .devices) ≡ joined C Z ds
-  unfolding triplets
-  joined-triplets zero plan ds = refl
-  joined-triplets (suc m) plan ds =
-      let one = B .after true ds in
-      let two = B .after true one in
-      let read : joined C Z two ≡ joined C Z ds = joined-after C Z true one ∙ joined-after C Z true ds in
-      let i : (d : Bool) → joined C Z (triplets B m (rest plan) (B .after d two) .devices) ≡ joined C Z (B .after d two) =
-      λ d. joined-triplets m (rest plan) (B .after d two) in
-      on-some (λ (r : Pass (B .Devices)). joined C Z (r .devices) ≡ joined C Z ds) (choice (B .line true ds) (B .line true one) (first plan)) _ _ read
-      (λ d. i d ∙ joined-after C Z d two ∙ read)
-
-  pub joined-pass : (m : ℕ) (plan : Plan) (ds : B .Devices) → joined C Z (wirePass B command m plan ds .devices) ≡ joined C Z ds
-  joined-pass m plan ds = joined-triplets m plan (slots B command (B .reset ds) .devices) ∙ joined-started ds
+  pub joined-pass : (plan : Plan) (ds : B .Devices) → joined C Z (wirePass B command n plan ds .devices) ≡ joined C Z ds
+  joined-pass plan ds =
+      pass-holds B (λ es. joined C Z es ≡ joined C Z ds) (λ x es e. joined-after C Z x es ∙ e) (λ es e. joined-reset C Z es ∙ e) command n plan ds refl
 
   -- ## A pass
 
