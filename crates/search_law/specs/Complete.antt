@@ -18,7 +18,7 @@ use Rattle.lists.specs.Fold.{all}
 use Rattle.search_law.specs.Codes.{Code, first, rest, line, coLine, follow, nobody, Each, Pairs, Sized, Distinct, Before}
 use Rattle.search_law.specs.Pass.{Triple, triple, Plan, choice, onSome, never, pass, found, next}
 use Rattle.search_law.specs.Listing.{inOrder, order-pairs, order-all, order-length}
-use Rattle.search_law.specs.Departures.{Lists, end, more, lists}
+use Rattle.search_law.specs.Lists.{Lists, end, more, lists}
 use Rattle.search_law.specs.Wire.{Bus, Run, run, Passes, ran, Pass, passed, Search, searched, passOffers, slots, passes, triplets, wirePass, searchFrom, wireSearch}
 use Rattle.search_law.specs.Issued.{longer, slots-append, pass-issued}
 use Rattle.search_law.specs.Searchers.{Model, Carries, Searchers, participants}

@@ -11,3 +11,4 @@ pub mod Sits
 pub mod OnTheWire
 pub mod Complete
 pub mod Keeps
+pub mod Departure
