@@ -1,7 +1,7 @@
 pub mod Codes
 pub mod Pass
 pub mod Listing
-pub mod Departures
+pub mod Lists
 pub mod Wire
 pub mod Issued
 pub mod Holds
@@ -12,3 +12,5 @@ pub mod OnTheWire
 pub mod Complete
 pub mod Keeps
 pub mod Departure
+pub mod PassLoop
+pub mod SearchLoop
