@@ -71,8 +71,14 @@ loopSearch B command fuel n ds = turns B command n fuel (sweep true 0 n [] [] ds
 
 -- ## It is the search by plans
 
+-- The sweep t is the search r, with its codes as numbers.
+pub record SameSearch {D : Type 0} (r : Search D) (t : Sweep D) : Type 0 where
+  pub codes-are : t .codes ≡ map numberOf (r .codes)
+  pub lines-are : t .lines ≡ r .lines
+  pub devices-are : t .devices ≡ r .devices
+
 -- A sweep that has come from s to t has made the search r.
-pub record SameSearch {D : Type 0} (s : Sweep D) (r : Search D) (t : Sweep D) : Type 0 where
+record Made {D : Type 0} (s : Sweep D) (r : Search D) (t : Sweep D) : Type 0 where
   pub codes-are : t .codes ≡ s .codes ++ map numberOf (r .codes)
   pub lines-are : t .lines ≡ s .lines ++ r .lines
   pub devices-are : t .devices ≡ r .devices
@@ -87,7 +93,7 @@ unfolding found
 found-length [] = refl
 found-length (t ∷ ts) = ap suc (found-length ts)
 
-same-none : {D : Type 0} (s : Sweep D) → SameSearch s (searched [] [] (s .devices)) s
+same-none : {D : Type 0} (s : Sweep D) → Made s (searched [] [] (s .devices)) s
 same-none s = record { codes-are = sym (append-nil (s .codes)); lines-are = sym (append-nil (s .lines)); devices-are = refl }
 
 module _ (B : Bus) (command : List Bool) (n : ℕ) where
@@ -121,3 +127,50 @@ module _ (B : Bus) (command : List Bool) (n : ℕ) where
           let f = found-length ts in
           (g ∙ e, λ k b. rw (p, d) (takes-plan (found ts) (lastFrom 0 n ts) k (omega arith)))
       by-test false e = g ∙ e
+
+  -- One pass, and the search after it.
+  by-answer : (s : Sweep (B .Devices)) (plan : Plan) (w : Walk (B .Devices)) (k : ℕ) → SamePass n (wirePass B command n plan (s .devices)) w
+      → ((o : Option Plan) (t : Sweep (B .Devices)) → Goes n o t → Made t (searchFrom B command k n o (t .devices)) (turns B command n k t))
+      → (o : Option (List Triple)) → wirePass B command n plan (s .devices) .triples ≡ o
+      → Made s
+      (onSome o (searched [] (wirePass B command n plan (s .devices) .lines ∷ []) (wirePass B command n plan (s .devices) .devices)) (λ ts.
+      let r = searchFrom B command k n (next ts) (wirePass B command n plan (s .devices) .devices) in
+      searched (found ts ∷ r .codes) (wirePass B command n plan (s .devices) .lines ∷ r .lines) (r .devices)))
+      (turns B command n k (withPass B command n s w))
+  by-answer s plan w k m i none e =
+      let a : w .answered ≡ false = m .answered-is ∙ ap answers e in
+      let t = withPass B command n s w in
+      let over : turns B command n k t ≡ t = turns-over B command n k t (rw a) in
+      rw over (record {
+        codes-are = rw a (sym (append-nil (s .codes)));
+        lines-are = rw (m .lines-are);
+        devices-are = m .devices-are;
+      })
+  by-answer s plan w k m i (some ts) e =
+      let a : w .answered ≡ true = m .answered-is ∙ ap answers e in
+      let c = m .code-is ts e in
+      let d = m .last-is ts e in
+      let t = withPass B command n s w in
+      let l = triplets-length n plan _ ts e in
+      let h = i (next ts) t (goes-on ts t l (rw (a, d)) c d) in
+      record {
+        codes-are = h .codes-are ∙ rw (a, c, m .devices-are) (append-assoc (s .codes) (numberOf (found ts) ∷ []) _);
+        lines-are = h .lines-are ∙ rw (m .lines-are, m .devices-are) (append-assoc (s .lines) (_ ∷ []) _);
+        devices-are = h .devices-are ∙ rw (m .devices-are);
+      }
+
+  turns-search : (k : ℕ) (o : Option Plan) (s : Sweep (B .Devices)) → Goes n o s → Made s (searchFrom B command k n o (s .devices)) (turns B command n k s)
+  unfolding turns searchFrom
+  turns-search zero o s g = same-none s
+  turns-search (suc k) none s g = rw (turns-over B command n (suc k) s g) (same-none s)
+  turns-search (suc k) (some plan) s g =
+      let w = loopPass B command n (s .previous) (s .departure) (s .devices) in
+      let m = loop-pass B n (s .previous) (s .departure) plan (g .1) command (s .devices) in
+      let i : (o : Option Plan) (t : Sweep (B .Devices)) → Goes n o t → Made t (searchFrom B command k n o (t .devices)) (turns B command n k t) =
+      λ o t. turns-search k o t in
+      rw (turn-pass B command n s (g .0)) (by-answer s plan w k m i (wirePass B command n plan (s .devices) .triples) refl)
+
+  pub loop-search : (fuel : ℕ) (ds : B .Devices) → SameSearch (wireSearch B command fuel n ds) (loopSearch B command fuel n ds)
+  loop-search fuel ds =
+      let m = turns-search fuel (some []) (sweep true 0 n [] [] ds) (refl, λ k h. takes-first n k h) in
+      record { codes-are = m .codes-are; lines-are = m .lines-are; devices-are = m .devices-are }
