@@ -14,3 +14,4 @@ pub mod Keeps
 pub mod Departure
 pub mod PassLoop
 pub mod SearchLoop
+pub mod Numbers
