@@ -15,3 +15,4 @@ pub mod Departure
 pub mod PassLoop
 pub mod SearchLoop
 pub mod Numbers
+pub mod Small
