@@ -16,3 +16,4 @@ pub mod PassLoop
 pub mod SearchLoop
 pub mod Numbers
 pub mod Small
+pub mod Examples
