@@ -5,7 +5,7 @@ use mathlib.Core.Option.{Option, none, some}
 use mathlib.Core.List.{List, [], _∷_}
 use Prim.Native.Nat.{ℕ, zero, suc}
 use Rattle.search_law.specs.Codes.{first, rest}
-use Rattle.search_law.specs.Pass.{Plan, choice, on-some, next}
+use Rattle.search_law.specs.Pass.{Plan, choice, on-some}
 use Rattle.search_law.specs.Wire.{Bus, Pass, Search, slots, triplets, wirePass, searchFrom, wireSearch}
 
 module _ (B : Bus) (Q : B .Devices → Type 0) (by-slot : (x : Bool) (ds : B .Devices) → Q ds → Q (B .after x ds)) where
@@ -37,7 +37,7 @@ module _ (B : Bus) (Q : B .Devices → Type 0) (by-slot : (x : Bool) (ds : B .De
         let p = wirePass B command n plan ds in
         let r = pass-holds plan ds q in
         let i : (o : Option Plan) → Q (searchFrom B command fuel n o (p .devices) .devices) = λ o. search-from-holds fuel o (p .devices) r in
-        on-some (λ (s : Search (B .Devices)). Q (s .devices)) (p .triples) _ _ r (λ ts. i (next ts))
+        on-some (λ (s : Search (B .Devices)). Q (s .devices)) (p .triples) _ _ r (λ ts. i _)
 
     pub search-holds : (fuel : ℕ) (ds : B .Devices) → Q ds → Q (wireSearch B command fuel n ds .devices)
     search-holds fuel ds q = search-from-holds fuel (some []) ds q

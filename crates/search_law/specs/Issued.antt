@@ -41,7 +41,7 @@ module _ (B : Bus) where
       let a = B .line true ds in
       let b = B .line true once in
       let i : (d : Bool) (us : List Triple) → triplets B n (rest plan) (B .after d twice) .triples ≡ some us
-          → runOf (triplets B n (rest plan) (B .after d twice)) ≡ slots B (tripleOffers (found us)) (B .after d twice) =
+      → runOf (triplets B n (rest plan) (B .after d twice)) ≡ slots B (tripleOffers (found us)) (B .after d twice) =
       λ d. triplets-issued n (rest plan) (B .after d twice) in
       on-some (λ p. p .triples ≡ some ts → runOf p ≡ slots B (tripleOffers (found ts)) ds) (choice a b (first plan)) _ _
       (λ z. absurd (never z))

@@ -11,7 +11,7 @@ use Prim.Native.Nat.{ℕ, zero, suc, _+_, _<_}
 use native.Mathlib.Omega.{arith}
 use lib.ListN.{length}
 use Rattle.search_law.specs.Codes.{first, rest, Each}
-use Rattle.search_law.specs.Pass.{Plan, choice, on-some, next}
+use Rattle.search_law.specs.Pass.{Plan, choice, on-some}
 use Rattle.search_law.specs.Paths.{agrees}
 use Rattle.search_law.specs.Wire.{Bus, Pass, Search, slots, triplets, wirePass, searchFrom, wireSearch}
 use Rattle.search_law.specs.Searchers.{Model, Carries, Takes, Searchers}
@@ -109,7 +109,7 @@ module _ {B : Bus} {M : Model} (C : Carries B M) {command : List Bool} {n : ℕ}
       let p = wirePass B command n plan ds in
       let t = pass-keeps plan ds in
       let i : (o : Option Plan) → had (searchFrom B command fuel n o (p .devices) .devices) ≡ had ds = λ o. search-from-keeps fuel o (p .devices) ∙ t in
-      on-some (λ (s : Search (B .Devices)). had (s .devices) ≡ had ds) (p .triples) _ _ t (λ ts. i (next ts))
+      on-some (λ (s : Search (B .Devices)). had (s .devices) ≡ had ds) (p .triples) _ _ t (λ ts. i _)
 
   pub search-keeps : (fuel : ℕ) (ds : B .Devices) → had (wireSearch B command fuel n ds .devices) ≡ had ds
   search-keeps fuel ds = search-from-keeps fuel (some []) ds

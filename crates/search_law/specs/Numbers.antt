@@ -77,8 +77,8 @@ module _ (n : ℕ) (c d : Code) (h : length c ≡ n) (k : length d ≡ n) (b : B
       record {
         place = length p;
         same-below = λ i f.
-        bit-left i (omega arith) ∙ ap (λ (t : Code). getD t i false) (b .is-left) ∙ List·getD-append p (false ∷ b .left) false i f
-        ∙ sym (bit-right i (omega arith) ∙ ap (λ (t : Code). getD t i false) (b .is-right) ∙ List·getD-append p (true ∷ b .right) false i f);
+            bit-left i (omega arith) ∙ ap (λ (t : Code). getD t i false) (b .is-left) ∙ List·getD-append p (false ∷ b .left) false i f
+            ∙ sym (bit-right i (omega arith) ∙ ap (λ (t : Code). getD t i false) (b .is-right) ∙ List·getD-append p (true ∷ b .right) false i f);
         zero-there = bit-left (length p) l ∙ ap (λ (t : Code). getD t (length p) false) (b .is-left) ∙ getD-append-seam p false (b .left) false;
         one-there = bit-right (length p) l ∙ ap (λ (t : Code). getD t (length p) false) (b .is-right) ∙ getD-append-seam p true (b .right) false;
       }

@@ -37,9 +37,9 @@ unfolding shown
 walks-more t o r w = record {
   triples-are = rw (w .triples-are);
   lines-are = λ ts e.
-  let k = longer t o ts e in
-  let i = w .lines-are (k .others) (k .others-is) in
-  rw (k .is, i);
+      let k = longer t o ts e in
+      let i = w .lines-are (k .others) (k .others-is) in
+      rw (k .is, i);
 }
 
 pub length-snoc : (p : List Bool) (d : Bool) → length (p ++ d ∷ []) ≡ suc (length p)

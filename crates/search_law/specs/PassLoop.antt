@@ -135,13 +135,13 @@ module _ {D : Type 0} (j : ℕ) (w : Walk D) (t : Triple) (l : Bool) (ds : D) (r
     lines-are = m .lines-are ∙ append-assoc (w .lines) (t .bit ∷ t .coBit ∷ l ∷ []) (r .lines);
     devices-are = m .devices-are;
     code-is = λ ts e.
-    let k = longer t (r .triples) ts e in
-    let c = m .code-is (k .others) (k .others-is) in
-    let p = code-more (bitNumber (t .sent)) (numberOf (found (k .others))) j in
-    rw (k .is) (omega arith);
+        let k = longer t (r .triples) ts e in
+        let c = m .code-is (k .others) (k .others-is) in
+        let p = code-more (bitNumber (t .sent)) (numberOf (found (k .others))) j in
+        rw (k .is) (omega arith);
     last-is = λ ts e.
-    let k = longer t (r .triples) ts e in
-    rw (k .is) (m .last-is (k .others) (k .others-is));
+        let k = longer t (r .triples) ts e in
+        rw (k .is) (m .last-is (k .others) (k .others-is));
   }
 
 first-drop : (j : ℕ) (plan : Plan) → first (drop j plan) ≡ getD plan j false
