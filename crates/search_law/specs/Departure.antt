@@ -16,7 +16,7 @@ use lib.ListN.{length, getD, take}
 use Rattle.lists.specs.Choice.{if_then_else_}
 use Rattle.bits.specs.Bits.{odd, bitAt, bitsOf, numberOf, bits-number, bits-at}
 use Rattle.search_law.specs.Codes.{Code}
-use Rattle.search_law.specs.Pass.{Triple, Plan, onSome, found, tookZero, next}
+use Rattle.search_law.specs.Pass.{Triple, Plan, onSome, found, tookZero, departed, next}
 
 abbrev pub takes : ℕ → ℕ → ℕ → Bool
 takes prev D j = if ltb j D then bitAt prev j else eqb j D
@@ -84,14 +84,16 @@ last-lt (t ∷ ts) k e = go (lastOf ts) (tookZero t) (λ i f. last-lt ts i f) e
 next-last : (ts : List Triple) → next ts ≡ Option·map (λ D. take D (found ts) ++ true ∷ []) (lastOf ts)
 unfolding next found lastOf
 next-last [] = refl
-next-last (t ∷ ts) = let i = next-last ts in rw i (go (lastOf ts) (tookZero t))
+next-last (t ∷ ts) = let i = next-last ts in rw i (go (lastOf ts))
   where
-    go : (o : Option ℕ) (z : Bool)
-        → onSome (Option·map (λ D. take D (found ts) ++ true ∷ []) o) (if z then some (true ∷ []) else none) (λ plan. some (t .sent ∷ plan))
-        ≡ Option·map (λ D. take D (t .sent ∷ found ts) ++ true ∷ []) (onSome o (if z then some 0 else none) (λ k. some (suc k)))
-    go none true = refl
-    go none false = refl
-    go (some k) z = refl
+    here : (z : Bool) → (if z then some (true ∷ []) else none) ≡ Option·map (λ D. take D (t .sent ∷ found ts) ++ true ∷ []) (if z then some 0 else none)
+    here true = refl
+    here false = refl
+
+    go : (o : Option ℕ) → departed t (Option·map (λ D. take D (found ts) ++ true ∷ []) o)
+        ≡ Option·map (λ D. take D (t .sent ∷ found ts) ++ true ∷ []) (onSome o (if tookZero t then some 0 else none) (λ k. some (suc k)))
+    go none = here (tookZero t)
+    go (some k) = refl
 
 pub next-plan : (ts : List Triple) → next ts ≡ planOf (length ts) (found ts) (lastFrom 0 (length ts) ts)
 next-plan ts = next-last ts ∙ rw (last-from 0 (length ts) ts) (go (lastOf ts) (λ k e. last-lt ts k e))

@@ -5,8 +5,8 @@ use mathlib.Core.Option.{Option, none, some}
 use mathlib.Core.List.{List, [], _∷_}
 use Prim.Native.Nat.{ℕ, zero, suc}
 use Rattle.search_law.specs.Codes.{first, rest}
-use Rattle.search_law.specs.Pass.{Plan, choice, on-some}
-use Rattle.search_law.specs.Wire.{Bus, Pass, Search, slots, triplets, wirePass, searchFrom, wireSearch}
+use Rattle.search_law.specs.Pass.{triple, Plan, choice, on-some, found, next}
+use Rattle.search_law.specs.Wire.{Bus, Pass, passed, withTriple, Search, searched, withCode, slots, triplets, wirePass, searchFrom, wireSearch}
 
 module _ (B : Bus) (Q : B .Devices → Type 0) (by-slot : (x : Bool) (ds : B .Devices) → Q ds → Q (B .after x ds)) where
   pub slots-hold : (xs : List Bool) (ds : B .Devices) → Q ds → Q (slots B xs ds .devices)
@@ -21,9 +21,12 @@ module _ (B : Bus) (Q : B .Devices → Type 0) (by-slot : (x : Bool) (ds : B .De
       let once = B .after true ds in
       let twice = B .after true once in
       let r = by-slot true once (by-slot true ds q) in
+      let a = B .line true ds in
+      let b = B .line true once in
       let i : (d : Bool) → Q (triplets B n (rest plan) (B .after d twice) .devices) =
       λ d. triplets-hold n (rest plan) (B .after d twice) (by-slot d twice r) in
-      on-some (λ (p : Pass (B .Devices)). Q (p .devices)) (choice (B .line true ds) (B .line true once) (first plan)) _ _ r i
+      on-some (λ (p : Pass (B .Devices)). Q (p .devices)) (choice a b (first plan)) (passed none (a ∷ b ∷ []) twice)
+      (λ d. withTriple (triple a b d) (B .line d twice) (triplets B n (rest plan) (B .after d twice))) r i
 
   module _ (by-reset : (ds : B .Devices) → Q ds → Q (B .reset ds)) (command : List Bool) (n : ℕ) where
     pub pass-holds : (plan : Plan) (ds : B .Devices) → Q ds → Q (wirePass B command n plan ds .devices)
@@ -37,7 +40,8 @@ module _ (B : Bus) (Q : B .Devices → Type 0) (by-slot : (x : Bool) (ds : B .De
         let p = wirePass B command n plan ds in
         let r = pass-holds plan ds q in
         let i : (o : Option Plan) → Q (searchFrom B command fuel n o (p .devices) .devices) = λ o. search-from-holds fuel o (p .devices) r in
-        on-some (λ (s : Search (B .Devices)). Q (s .devices)) (p .triples) _ _ r (λ ts. i _)
+        on-some (λ (s : Search (B .Devices)). Q (s .devices)) (p .triples) (searched [] (p .lines ∷ []) (p .devices))
+        (λ ts. withCode (found ts) (p .lines) (searchFrom B command fuel n (next ts) (p .devices))) r (λ ts. i (next ts))
 
     pub search-holds : (fuel : ℕ) (ds : B .Devices) → Q ds → Q (wireSearch B command fuel n ds .devices)
-    search-holds fuel ds q = search-from-holds fuel (some []) ds q
+    search-holds fuel ds q = search-from-holds _ _ ds q

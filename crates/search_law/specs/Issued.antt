@@ -8,7 +8,7 @@ use mathlib.Core.List.{List, [], _∷_, _++_}
 use Prim.Native.Nat.{ℕ, zero, suc}
 use Rattle.search_law.specs.Codes.{Code, first, rest}
 use Rattle.search_law.specs.Pass.{Triple, triple, Plan, choice, onSome, on-some, never, found}
-use Rattle.search_law.specs.Wire.{Bus, Run, run, Pass, passed, tripleOffers, passOffers, slots, triplets, wirePass}
+use Rattle.search_law.specs.Wire.{Bus, Run, run, Pass, passed, withTriple, tripleOffers, passOffers, slots, triplets, wirePass}
 
 -- A list that was made longer at its front.
 pub record Longer {A : Type 0} (x : A) (o : Option (List A)) (l : List A) : Type 0 where
@@ -43,7 +43,8 @@ module _ (B : Bus) where
       let i : (d : Bool) (us : List Triple) → triplets B n (rest plan) (B .after d twice) .triples ≡ some us
       → runOf (triplets B n (rest plan) (B .after d twice)) ≡ slots B (tripleOffers (found us)) (B .after d twice) =
       λ d. triplets-issued n (rest plan) (B .after d twice) in
-      on-some (λ p. p .triples ≡ some ts → runOf p ≡ slots B (tripleOffers (found ts)) ds) (choice a b (first plan)) _ _
+      on-some (λ p. p .triples ≡ some ts → runOf p ≡ slots B (tripleOffers (found ts)) ds) (choice a b (first plan)) (passed none (a ∷ b ∷ []) twice)
+      (λ d. withTriple (triple a b d) (B .line d twice) (triplets B n (rest plan) (B .after d twice)))
       (λ z. absurd (never z))
       (λ d z.
       let k = longer (triple a b d) _ ts z in

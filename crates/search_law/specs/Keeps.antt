@@ -11,11 +11,11 @@ use Prim.Native.Nat.{ℕ, zero, suc, _+_, _<_}
 use native.Mathlib.Omega.{arith}
 use lib.ListN.{length}
 use Rattle.search_law.specs.Codes.{first, rest, Each}
-use Rattle.search_law.specs.Pass.{Plan, choice, on-some}
+use Rattle.search_law.specs.Pass.{triple, Plan, choice, on-some, found, next}
 use Rattle.search_law.specs.Paths.{agrees}
-use Rattle.search_law.specs.Wire.{Bus, Pass, Search, slots, triplets, wirePass, searchFrom, wireSearch}
+use Rattle.search_law.specs.Wire.{Bus, Pass, passed, withTriple, Search, searched, withCode, slots, triplets, wirePass, searchFrom, wireSearch}
 use Rattle.search_law.specs.Searchers.{Model, Carries, Takes, Searchers}
-use Rattle.search_law.specs.Sits.{Sits, take-bit, twice, sits-co, sits-way-next, sits-on}
+use Rattle.search_law.specs.Sits.{Sits, take-bit, sits-co, sits-way-next, sits-on}
 use Rattle.search_law.specs.OnTheWire.{length-snoc, Starts, takes-command, sits-started}
 
 abbrev pub heard : (M : Model) → List Bool → M .Dev → M .Dev
@@ -90,13 +90,16 @@ module _ {B : Bus} {M : Model} (C : Carries B M) {command : List Bool} {n : ℕ}
       let l : length p < n = omega arith in
       let j = length p in
       let once = B .after true ds in
-      let two = twice C Z p l ds s in
+      let two = B .after true once in
+      let a = B .line true ds in
+      let b = B .line true once in
       let t = slot-keeps p (Z .Co j) true once (K .co-keeps j l) (sits-co C Z p l ds s) ∙ slot-keeps p (Z .Own j) true ds (K .own-keeps j l) s in
       let i : (d : Bool) → had (triplets B m (rest plan) (B .after d two) .devices) ≡ had ds =
       λ d.
       triplets-keep m (rest plan) (p ++ d ∷ []) (B .after d two) (omega (arith, length-snoc p d)) (rw length-snoc (sits-on C Z p l ds s d))
       ∙ slot-keeps p (Z .Way j) d two (K .way-keeps j l) (sits-way-next C Z p l ds s) ∙ t in
-      on-some (λ (r : Pass (B .Devices)). had (r .devices) ≡ had ds) (choice (B .line true ds) (B .line true once) (first plan)) _ _ t i
+      on-some (λ (r : Pass (B .Devices)). had (r .devices) ≡ had ds) (choice a b (first plan)) (passed none (a ∷ b ∷ []) two)
+      (λ d. withTriple (triple a b d) (B .line d two) (triplets B m (rest plan) (B .after d two))) t i
 
   pub pass-keeps : (plan : Plan) (ds : B .Devices) → had (wirePass B command n plan ds .devices) ≡ had ds
   pass-keeps plan ds = triplets-keep n plan [] (slots B command (B .reset ds) .devices) (omega arith) (sits-started C Z ds) ∙ started-keeps ds
@@ -109,7 +112,8 @@ module _ {B : Bus} {M : Model} (C : Carries B M) {command : List Bool} {n : ℕ}
       let p = wirePass B command n plan ds in
       let t = pass-keeps plan ds in
       let i : (o : Option Plan) → had (searchFrom B command fuel n o (p .devices) .devices) ≡ had ds = λ o. search-from-keeps fuel o (p .devices) ∙ t in
-      on-some (λ (s : Search (B .Devices)). had (s .devices) ≡ had ds) (p .triples) _ _ t (λ ts. i _)
+      on-some (λ (s : Search (B .Devices)). had (s .devices) ≡ had ds) (p .triples) (searched [] (p .lines ∷ []) (p .devices))
+      (λ ts. withCode (found ts) (p .lines) (searchFrom B command fuel n (next ts) (p .devices))) t (λ ts. i (next ts))
 
   pub search-keeps : (fuel : ℕ) (ds : B .Devices) → had (wireSearch B command fuel n ds .devices) ≡ had ds
-  search-keeps fuel ds = search-from-keeps fuel (some []) ds
+  search-keeps fuel ds = search-from-keeps _ _ ds

@@ -7,10 +7,9 @@ use mathlib.Core.Bool.{Bool, true, false, _&&_, and-false, true≢false}
 use mathlib.Core.Option.{Option, none, some}
 use mathlib.Core.List.{List, [], _∷_, _++_, map, append-nil}
 use Prim.Native.Nat.{ℕ, zero, suc}
-use Rattle.lists.specs.Choice.{if_then_else_}
 use Rattle.lists.specs.Fold.{all}
 use Rattle.search_law.specs.Codes.{Code, line, coLine, follow, nobody}
-use Rattle.search_law.specs.Pass.{Triple, triple, Plan, choice, onSome, pass, found, tookZero, next}
+use Rattle.search_law.specs.Pass.{Triple, triple, Plan, choice, onSome, pass, found, departed, next}
 use Rattle.search_law.specs.Listing.{inOrder, order-nobody}
 
 pub data Lists (n : ℕ) (S : List Code) : Option Plan → List Code → Type 0 where
@@ -31,10 +30,6 @@ co-line-is [] = refl
 co-line-is ([] ∷ S) = co-line-is S
 co-line-is ((true ∷ c) ∷ S) = refl
 co-line-is ((false ∷ c) ∷ S) = co-line-is S
-
--- The plan that a first triple leaves, with the one that the triples after it leave.
-abbrev departed : Triple → Option Plan → Option Plan
-departed t o = onSome o (if tookZero t then some (true ∷ []) else none) (λ plan. some (t .sent ∷ plan))
 
 module _ (n : ℕ) (S : List Code) (x y : Bool) (A : line S ≡ x) (B : coLine S ≡ y) where
   -- What is listed of those that go on after b is listed of all, with b in front; then what a departure at this bit lists.

@@ -14,7 +14,7 @@ use Rattle.lists.specs.Fold.{all}
 use Rattle.search_law.specs.Codes.{Code, first, rest, line, coLine, follow, Each, each-implies}
 use Rattle.search_law.specs.Pass.{Triple, triple, Plan, choice, onSome, on-both, never, pass, found}
 use Rattle.search_law.specs.Paths.{onPath, path-nil, agrees, agrees-nil, path-snoc}
-use Rattle.search_law.specs.Wire.{Bus, Run, run, Pass, passed, slots, triplets, wirePass}
+use Rattle.search_law.specs.Wire.{Bus, Pass, passed, withTriple, slots, triplets, wirePass}
 use Rattle.search_law.specs.Issued.{longer}
 use Rattle.search_law.specs.Holds.{slots-hold, pass-holds}
 use Rattle.search_law.specs.Searchers.{Model, Carries, Takes, Searchers, participants}
@@ -32,7 +32,7 @@ walks-none : {D : Type 0} (l : List Bool) (ds : D) → Walks none (passed none l
 walks-none l ds = record { triples-are = refl; lines-are = λ ts e. absurd (never e) }
 
 walks-more : {D : Type 0} (t : Triple) (o : Option (List Triple)) (r : Pass D) → Walks o r
-    → Walks (Option·map (λ ts. t ∷ ts) o) (passed (Option·map (λ ts. t ∷ ts) (r .triples)) (t .bit ∷ t .coBit ∷ t .sent ∷ r .lines) (r .devices))
+    → Walks (Option·map (λ ts. t ∷ ts) o) (withTriple t (t .sent) r)
 unfolding shown
 walks-more t o r w = record {
   triples-are = rw (w .triples-are);
@@ -57,7 +57,9 @@ module _ {B : Bus} {M : Model} (C : Carries B M) {command : List Bool} {n : ℕ}
       let i : (d : Bool) → Walks (pass m (rest plan) (follow d S)) (triplets B m (rest plan) (B .after d two)) =
       λ d. simp (path-snoc, joined-after) at (triplets-walk m (rest plan) (p ++ d ∷ []) (B .after d two) (omega (arith, length-snoc p d)) (rw length-snoc (sits-on C Z p l ds s d))) in
       rw (read-bit C Z p l ds s, read-co-bit C Z p l ds s)
-      (on-both Walks (choice (line S) (coLine S) (first plan)) _ _ _ _ (walks-none (line S ∷ coLine S ∷ []) two)
+      (on-both Walks (choice (line S) (coLine S) (first plan)) none (λ d. Option·map (λ ts. triple (line S) (coLine S) d ∷ ts) (pass m (rest plan) (follow d S)))
+      (passed none (line S ∷ coLine S ∷ []) two) (λ d. withTriple (triple (line S) (coLine S) d) (B .line d two) (triplets B m (rest plan) (B .after d two)))
+      (walks-none (line S ∷ coLine S ∷ []) two)
       (λ d. rw (write-bit C Z p l ds s d) (walks-more (triple (line S) (coLine S) d) _ _ (i d))))
 
   -- ## The reset and the command

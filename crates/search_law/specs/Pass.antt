@@ -65,6 +65,11 @@ found (t ∷ ts) = t .sent ∷ found ts
 abbrev pub tookZero : Triple → Bool
 tookZero t = not (t .bit || t .coBit || t .sent)
 
+-- The plan that a triple leaves, where those after it leave o.
+abbrev pub departed : Triple → Option Plan → Option Plan
+departed t (some plan) = some (t .sent ∷ plan)
+departed t none = if tookZero t then some (true ∷ []) else none
+
 unfoldable pub next : List Triple → Option Plan
 next [] = none
-next (t ∷ ts) = onSome (next ts) (if tookZero t then some (true ∷ []) else none) (λ plan. some (t .sent ∷ plan))
+next (t ∷ ts) = departed t (next ts)

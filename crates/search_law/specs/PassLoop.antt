@@ -18,7 +18,7 @@ use Rattle.lists.specs.Choice.{if_then_else_}
 use Rattle.bits.specs.Bits.{bitNumber, numberOf}
 use Rattle.search_law.specs.Codes.{first, rest}
 use Rattle.search_law.specs.Pass.{Triple, triple, Plan, choice, onSome, on-both, never, found, tookZero}
-use Rattle.search_law.specs.Wire.{Bus, Run, Pass, passed, slots, triplets, wirePass}
+use Rattle.search_law.specs.Wire.{Bus, Run, Pass, passed, withTriple, slots, triplets, wirePass}
 use Rattle.search_law.specs.Issued.{longer}
 use Rattle.search_law.specs.Departure.{takes, lastFrom}
 
@@ -31,6 +31,15 @@ pub record Walk (D : Type 0) : Type 0 where
 
 abbrev pub walk : {D : Type 0} → Bool → ℕ → ℕ → List Bool → D → Walk D
 walk a c k l ds = record { answered = a; code = c; last = k; lines = l; devices = ds }
+
+-- A walk after the triple at place j, in whose third slot the line showed l.
+abbrev pub walkOn : {D : Type 0} → ℕ → Walk D → Triple → Bool → D → Walk D
+walkOn j w t l ds =
+    walk true (w .code + bitNumber (t .sent) * 2 ^ j) (if tookZero t then j else w .last) (w .lines ++ t .bit ∷ t .coBit ∷ l ∷ []) ds
+
+-- A walk after two reads that nobody has answered.
+abbrev pub walkEnds : {D : Type 0} → Walk D → List Bool → D → Walk D
+walkEnds w l ds = walk false (w .code) (w .last) (w .lines ++ l) ds
 
 pub if-false : {A : Type 0} (t : Bool) (x y : A) → t ≡ false → (if t then x else y) ≡ y
 if-false true x y e = absurd (true≢false e)
@@ -48,8 +57,7 @@ module _ (B : Bus) (prev D : ℕ) where
       let twice = B .after true once in
       let a = B .line true (w .devices) in
       let b = B .line true once in
-      onSome (choice a b (takes prev D j)) (walk false (w .code) (w .last) (w .lines ++ a ∷ b ∷ []) twice) (λ d.
-      walk true (w .code + bitNumber d * 2 ^ j) (if tookZero (triple a b d) then j else w .last) (w .lines ++ a ∷ b ∷ B .line d twice ∷ []) (B .after d twice))
+      onSome (choice a b (takes prev D j)) (walkEnds w (a ∷ b ∷ []) twice) (λ d. walkOn j w (triple a b d) (B .line d twice) (B .after d twice))
 
   unfoldable pub bitStep : ℕ → Walk (B .Devices) → Walk (B .Devices)
   bitStep j w = if w .answered then onward j w else w
@@ -117,7 +125,7 @@ code-more b c j =
     let e : c * 2 ^ suc j ≡ 2 * c * 2 ^ j = ap (λ (k : ℕ). c * k) (pow-suc 2 j) ∙ sym (mul-assoc c (2 ^ j) 2) ∙ mul-comm (c * 2 ^ j) 2 ∙ sym (mul-assoc 2 c (2 ^ j)) in
     rw (e, add-mul b (2 * c) (2 ^ j))
 
-made-none : {D : Type 0} (j : ℕ) (w : Walk D) (l : List Bool) (ds : D) → Made j w (passed none l ds) (walk false (w .code) (w .last) (w .lines ++ l) ds)
+made-none : {D : Type 0} (j : ℕ) (w : Walk D) (l : List Bool) (ds : D) → Made j w (passed none l ds) (walkEnds w l ds)
 made-none j w l ds = record {
   answered-is = refl;
   lines-are = refl;
@@ -127,8 +135,7 @@ made-none j w l ds = record {
 }
 
 module _ {D : Type 0} (j : ℕ) (w : Walk D) (t : Triple) (l : Bool) (ds : D) (r : Pass D) (s : Walk D) where
-  made-more : Made (suc j) (walk true (w .code + bitNumber (t .sent) * 2 ^ j) (if tookZero t then j else w .last) (w .lines ++ t .bit ∷ t .coBit ∷ l ∷ []) ds) r s
-      → Made j w (passed (Option·map (λ ts. t ∷ ts) (r .triples)) (t .bit ∷ t .coBit ∷ l ∷ r .lines) (r .devices)) s
+  made-more : Made (suc j) (walkOn j w t l ds) r s → Made j w (withTriple t l r) s
   unfolding found numberOf lastFrom
   made-more m = record {
     answered-is = m .answered-is ∙ answers-map t (r .triples);
@@ -176,8 +183,10 @@ module _ (B : Bus) (n prev D : ℕ) (plan : Plan) (same : (k : ℕ) → k < n �
       let i : (v : Walk (B .Devices)) → v .answered ≡ true → Made (suc j) v (triplets B m (drop (suc j) plan) (v .devices)) (steps B prev D m (suc j) v) =
       λ v k. steps-made m (suc j) v (omega arith) k in
       rw (bit-step B prev D j w h, same j l, first-drop, rest-drop)
-      (on-both (λ v r. Made j w r (steps B prev D m (suc j) v)) (choice a b (getD plan j false)) _ _ _ _
-      (rw (steps-over B prev D m (suc j) (walk false (w .code) (w .last) (w .lines ++ a ∷ b ∷ []) twice) refl) (made-none j w (a ∷ b ∷ []) twice))
+      (on-both (λ v r. Made j w r (steps B prev D m (suc j) v)) (choice a b (getD plan j false))
+      (walkEnds w (a ∷ b ∷ []) twice) (λ d. walkOn j w (triple a b d) (B .line d twice) (B .after d twice))
+      (passed none (a ∷ b ∷ []) twice) (λ d. withTriple (triple a b d) (B .line d twice) (triplets B m (drop (suc j) plan) (B .after d twice)))
+      (rw (steps-over B prev D m (suc j) (walkEnds w (a ∷ b ∷ []) twice) refl) (made-none j w (a ∷ b ∷ []) twice))
       (λ d. made-more j w (triple a b d) (B .line d twice) (B .after d twice) _ _ (i _ refl)))
 
   -- A pass by places, where the places take what the plan has.

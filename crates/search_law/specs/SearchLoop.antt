@@ -18,7 +18,7 @@ use Rattle.lists.specs.Choice.{if_then_else_}
 use Rattle.bits.specs.Bits.{numberOf}
 use Rattle.search_law.specs.Codes.{Code, first, rest}
 use Rattle.search_law.specs.Pass.{Triple, triple, Plan, choice, onSome, on-some, never, found, next}
-use Rattle.search_law.specs.Wire.{Bus, Run, Pass, Search, searched, slots, triplets, wirePass, searchFrom, wireSearch}
+use Rattle.search_law.specs.Wire.{Bus, Run, Pass, passed, withTriple, Search, searched, withCode, slots, triplets, wirePass, searchFrom, wireSearch}
 use Rattle.search_law.specs.Issued.{longer}
 use Rattle.search_law.specs.Departure.{takes, lastFrom, planOf, takes-plan, takes-first, next-plan}
 use Rattle.search_law.specs.PassLoop.{Walk, if-true, if-false, answers, loopPass, SamePass, loop-pass}
@@ -107,7 +107,8 @@ module _ (B : Bus) (command : List Bool) (n : ℕ) where
       let b = B .line true once in
       let i : (d : Bool) (us : List Triple) → triplets B m (rest plan) (B .after d twice) .triples ≡ some us → length us ≡ m =
       λ d. triplets-length m (rest plan) (B .after d twice) in
-      on-some (λ (p : Pass (B .Devices)). p .triples ≡ some ts → length ts ≡ suc m) (choice a b (first plan)) _ _
+      on-some (λ (p : Pass (B .Devices)). p .triples ≡ some ts → length ts ≡ suc m) (choice a b (first plan)) (passed none (a ∷ b ∷ []) twice)
+      (λ d. withTriple (triple a b d) (B .line d twice) (triplets B m (rest plan) (B .after d twice)))
       (λ z. absurd (never z))
       (λ d z.
       let k = longer (triple a b d) _ ts z in
@@ -134,8 +135,7 @@ module _ (B : Bus) (command : List Bool) (n : ℕ) where
       → (o : Option (List Triple)) → wirePass B command n plan (s .devices) .triples ≡ o
       → Made s
       (onSome o (searched [] (wirePass B command n plan (s .devices) .lines ∷ []) (wirePass B command n plan (s .devices) .devices)) (λ ts.
-      let r = searchFrom B command k n (next ts) (wirePass B command n plan (s .devices) .devices) in
-      searched (found ts ∷ r .codes) (wirePass B command n plan (s .devices) .lines ∷ r .lines) (r .devices)))
+      withCode (found ts) (wirePass B command n plan (s .devices) .lines) (searchFrom B command k n (next ts) (wirePass B command n plan (s .devices) .devices))))
       (turns B command n k (withPass B command n s w))
   by-answer s plan w k m i none e =
       let a : w .answered ≡ false = m .answered-is ∙ ap answers e in

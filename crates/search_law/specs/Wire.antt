@@ -44,6 +44,10 @@ pub record Pass (D : Type 0) : Type 0 where
 abbrev pub passed : {D : Type 0} → Option (List Triple) → List Bool → D → Pass D
 passed o l ds = record { triples = o; lines = l; devices = ds }
 
+-- A pass with a triple before it, in whose third slot the line showed l.
+abbrev pub withTriple : {D : Type 0} → Triple → Bool → Pass D → Pass D
+withTriple t l p = passed (Option·map (λ ts. t ∷ ts) (p .triples)) (t .bit ∷ t .coBit ∷ l ∷ p .lines) (p .devices)
+
 -- What a search gives: the codes in the order in which they were found, for each pass the line's bits, and the devices after the last slot.
 pub record Search (D : Type 0) : Type 0 where
   pub codes : List Code
@@ -52,6 +56,10 @@ pub record Search (D : Type 0) : Type 0 where
 
 abbrev pub searched : {D : Type 0} → List Code → List (List Bool) → D → Search D
 searched cs l ds = record { codes = cs; lines = l; devices = ds }
+
+-- A search with a pass before it, which has found c and shown l.
+abbrev pub withCode : {D : Type 0} → Code → List Bool → Search D → Search D
+withCode c l s = searched (c ∷ s .codes) (l ∷ s .lines) (s .devices)
 
 unfoldable pub tripleOffers : Code → List Bool
 tripleOffers [] = []
@@ -81,8 +89,7 @@ module _ (B : Bus) where
       let a = B .line true ds in
       let b = B .line true once in
       onSome (choice a b (first plan)) (passed none (a ∷ b ∷ []) twice) (λ d.
-      let r = triplets n (rest plan) (B .after d twice) in
-      passed (Option·map (λ ts. triple a b d ∷ ts) (r .triples)) (a ∷ b ∷ B .line d twice ∷ r .lines) (r .devices))
+      withTriple (triple a b d) (B .line d twice) (triplets n (rest plan) (B .after d twice)))
 
   abbrev pub wirePass : List Bool → ℕ → Plan → B .Devices → Pass (B .Devices)
   wirePass command n plan ds =
@@ -97,8 +104,7 @@ module _ (B : Bus) where
   searchFrom command (suc fuel) n (some plan) ds =
       let r = wirePass command n plan ds in
       onSome (r .triples) (searched [] (r .lines ∷ []) (r .devices)) (λ ts.
-      let s = searchFrom command fuel n (next ts) (r .devices) in
-      searched (found ts ∷ s .codes) (r .lines ∷ s .lines) (s .devices))
+      withCode (found ts) (r .lines) (searchFrom command fuel n (next ts) (r .devices)))
 
   abbrev pub wireSearch : List Bool → ℕ → ℕ → B .Devices → Search (B .Devices)
   wireSearch command fuel n ds = searchFrom command fuel n (some []) ds
