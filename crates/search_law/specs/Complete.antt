@@ -11,16 +11,16 @@ use mathlib.Core.Path.{_≡_, refl, sym, ap, _∙_}
 use mathlib.Core.Bool.{Bool, true, false, not, true≢false}
 use mathlib.Core.Option.{Option, none, some, Option·map}
 use mathlib.Core.List.{List, [], _∷_, _++_, List·Permᴰ}
-use Prim.Native.Nat.{ℕ, zero, suc, _≤_, _<_}
+use Prim.Native.Nat.{ℕ, zero, suc, _+_, _*_, _≤_, _<_}
 use native.Mathlib.Omega.{arith}
 use lib.ListN.{length}
 use Rattle.lists.specs.Fold.{all}
 use Rattle.search_law.specs.Codes.{Code, first, rest, line, coLine, follow, nobody, Each, Pairs, Sized, Distinct, Before}
 use Rattle.search_law.specs.Pass.{Triple, triple, Plan, choice, onSome, never, pass, found, next}
-use Rattle.search_law.specs.Listing.{inOrder, order-pairs, order-all, order-length}
+use Rattle.search_law.specs.Listing.{inOrder, order-pairs, order-all, order-length, each-perm}
 use Rattle.search_law.specs.Lists.{Lists, end, more, lists}
 use Rattle.search_law.specs.Wire.{Bus, Run, run, Passes, ran, Pass, passed, Search, searched, passOffers, slots, passes, triplets, wirePass, searchFrom, wireSearch}
-use Rattle.search_law.specs.Issued.{longer, slots-append, pass-issued}
+use Rattle.search_law.specs.Issued.{longer, slots-append, pass-issued, passes-count, passes-slots}
 use Rattle.search_law.specs.Searchers.{Model, Carries, Searchers, participants}
 use Rattle.search_law.specs.Holds.{search-holds}
 use Rattle.search_law.specs.Sits.{joined, joined-after, joined-reset}
@@ -47,10 +47,11 @@ Along R [] (y ∷ m) = ⊥
 Along R (x ∷ l) [] = ⊥
 Along R (x ∷ l) (y ∷ m) = R x y × Along R l m
 
-pub record Complete (B : Bus) (command : List Bool) (S : List Code) (ds : B .Devices) (r : Search (B .Devices)) : Type 0 where
+pub record Complete (B : Bus) (command : List Bool) (n : ℕ) (S : List Code) (ds : B .Devices) (r : Search (B .Devices)) : Type 0 where
   pub all-listed : List·Permᴰ S (r .codes)
   pub ordered : Pairs Before (r .codes)
-  pub passes-count : length (r .lines) ≡ length S
+  pub passes-are : length (r .lines) ≡ length S
+  pub slots-are : Each (λ l. length l ≡ length command + 3 * n) (r .lines)
   pub slots-issued : ran (r .lines) (r .devices) ≡ passes B command (r .codes) ds
   pub frames : Along (PassShown command) (r .codes) (r .lines)
 
@@ -112,14 +113,9 @@ module _ {B : Bus} {M : Model} (C : Carries B M) {command : List Bool} {n : ℕ}
       let l = order-length n (joined C Z ds) s d in
       search-lists fuel (joined C Z ds) ds refl (lists n (joined C Z ds) h) (omega arith) .0
 
-  passes-length : (cs : List Code) (ds : B .Devices) → length (passes B command cs ds .lines) ≡ length cs
-  unfolding passes
-  passes-length [] ds = refl
-  passes-length (c ∷ cs) ds = ap suc (passes-length cs (slots B (passOffers command c) (B .reset ds) .devices))
-
   -- Where somebody takes part.
   pub search-complete : (fuel : ℕ) (ds : B .Devices) → Sized n (joined C Z ds) → Distinct (joined C Z ds) → nobody (joined C Z ds) ≡ false
-      → length (joined C Z ds) ≤ fuel → Complete B command (joined C Z ds) ds (wireSearch B command fuel n ds)
+      → length (joined C Z ds) ≤ fuel → Complete B command n (joined C Z ds) ds (wireSearch B command fuel n ds)
   search-complete fuel ds s d h f =
       let S = joined C Z ds in
       let l = order-length n S s d in
@@ -127,7 +123,8 @@ module _ {B : Bus} {M : Model} (C : Carries B M) {command : List Bool} {n : ℕ}
       rw (r .0) (record {
         all-listed = order-all n S s d;
         ordered = order-pairs n S;
-        passes-count = passes-length (inOrder n S) ds ∙ sym l;
+        passes-are = passes-count B command (inOrder n S) ds ∙ sym l;
+        slots-are = passes-slots B command n (inOrder n S) ds (each-perm (λ c. length c ≡ n) (order-all n S s d) s);
         slots-issued = refl;
         frames = r .1;
       })
@@ -153,3 +150,13 @@ module _ {B : Bus} {M : Model} (C : Carries B M) {command : List Bool} {n : ℕ}
   pub search-joined : (fuel : ℕ) (ds : B .Devices) → joined C Z (wireSearch B command fuel n ds .devices) ≡ joined C Z ds
   search-joined fuel ds =
       search-holds B (λ es. joined C Z es ≡ joined C Z ds) (λ x es e. joined-after C Z x es ∙ e) (λ es e. joined-reset C Z es ∙ e) command n fuel ds refl
+
+  -- A second search lists the same.
+  pub search-again : (fuel : ℕ) (ds : B .Devices) → Sized n (joined C Z ds) → Distinct (joined C Z ds) → nobody (joined C Z ds) ≡ false
+      → length (joined C Z ds) ≤ fuel
+      → wireSearch B command fuel n (wireSearch B command fuel n ds .devices) .codes ≡ wireSearch B command fuel n ds .codes
+  search-again fuel ds s d h f =
+      let e = search-joined fuel ds in
+      let a = search-is fuel ds s d h f in
+      let b = search-is fuel (wireSearch B command fuel n ds .devices) (rw e s) (rw e d) (rw e h) (rw e f) in
+      ap (λ r. r .codes) b ∙ ap (inOrder n) e ∙ sym (ap (λ r. r .codes) a)

@@ -6,7 +6,7 @@ use mathlib.Core.List.{List, [], _∷_}
 use Prim.Native.Nat.{ℕ, zero, suc}
 use Rattle.search_law.specs.Codes.{first, rest}
 use Rattle.search_law.specs.Pass.{triple, Plan, choice, on-some, found, next}
-use Rattle.search_law.specs.Wire.{Bus, Pass, passed, withTriple, Search, searched, withCode, slots, triplets, wirePass, searchFrom, wireSearch}
+use Rattle.search_law.specs.Wire.{Bus, Pass, passed, withTriple, Search, unanswered, withCode, slots, triplets, wirePass, searchFrom, wireSearch}
 
 module _ (B : Bus) (Q : B .Devices → Type 0) (by-slot : (x : Bool) (ds : B .Devices) → Q ds → Q (B .after x ds)) where
   pub slots-hold : (xs : List Bool) (ds : B .Devices) → Q ds → Q (slots B xs ds .devices)
@@ -40,7 +40,7 @@ module _ (B : Bus) (Q : B .Devices → Type 0) (by-slot : (x : Bool) (ds : B .De
         let p = wirePass B command n plan ds in
         let r = pass-holds plan ds q in
         let i : (o : Option Plan) → Q (searchFrom B command fuel n o (p .devices) .devices) = λ o. search-from-holds fuel o (p .devices) r in
-        on-some (λ (s : Search (B .Devices)). Q (s .devices)) (p .triples) (searched [] (p .lines ∷ []) (p .devices))
+        on-some (λ (s : Search (B .Devices)). Q (s .devices)) (p .triples) (unanswered p)
         (λ ts. withCode (found ts) (p .lines) (searchFrom B command fuel n (next ts) (p .devices))) r (λ ts. i (next ts))
 
     pub search-holds : (fuel : ℕ) (ds : B .Devices) → Q ds → Q (wireSearch B command fuel n ds .devices)

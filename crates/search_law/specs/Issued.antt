@@ -1,14 +1,16 @@
 -- What a master's pass shows and leaves is what the slots give that it has issued, on any bus at all: a pass that has found a code is a run of
 -- that code's slots, `pass-issued`; and the run of two runs is one after the other, `slots-append`.
 -- Assumes nothing.
-use mathlib.Core.Path.{_≡_, refl, ap}
+use mathlib.Core.Path.{_≡_, refl, ap, _∙_}
 use mathlib.Core.Bool.{Bool, true}
 use mathlib.Core.Option.{Option, none, some, Option·map}
 use mathlib.Core.List.{List, [], _∷_, _++_}
-use Prim.Native.Nat.{ℕ, zero, suc}
-use Rattle.search_law.specs.Codes.{Code, first, rest}
+use Prim.Native.Nat.{ℕ, zero, suc, _+_, _*_}
+use native.Mathlib.Omega.{arith}
+use lib.ListN.{length, length-append}
+use Rattle.search_law.specs.Codes.{Code, first, rest, Each, Sized}
 use Rattle.search_law.specs.Pass.{Triple, triple, Plan, choice, onSome, on-some, never, found}
-use Rattle.search_law.specs.Wire.{Bus, Run, run, Pass, passed, withTriple, tripleOffers, passOffers, slots, triplets, wirePass}
+use Rattle.search_law.specs.Wire.{Bus, Run, run, Pass, passed, withTriple, tripleOffers, passOffers, slots, passes, triplets, wirePass}
 
 -- A list that was made longer at its front.
 pub record Longer {A : Type 0} (x : A) (o : Option (List A)) (l : List A) : Type 0 where
@@ -19,6 +21,11 @@ pub record Longer {A : Type 0} (x : A) (o : Option (List A)) (l : List A) : Type
 pub longer : {A : Type 0} (x : A) (o : Option (List A)) (l : List A) → Option·map (λ t. x ∷ t) o ≡ some l → Longer x o l
 longer x none l e = absurd (never e)
 longer x (some t) l e = record { others = t; others-is = refl; is = cc }
+
+triple-offers : (c : Code) → length (tripleOffers c) ≡ 3 * length c
+unfolding tripleOffers
+triple-offers [] = refl
+triple-offers (b ∷ c) = let i = triple-offers c in omega arith
 
 module _ (B : Bus) where
   pub slots-append : (xs ys : List Bool) (ds : B .Devices)
@@ -58,3 +65,25 @@ module _ (B : Bus) where
       let s = slots B command (B .reset ds) in
       let i = triplets-issued n plan (s .devices) ts e in
       rw (slots-append command (tripleOffers (found ts)) (B .reset ds), ← i)
+
+  -- ## How many slots
+
+  slots-length : (xs : List Bool) (ds : B .Devices) → length (slots B xs ds .lines) ≡ length xs
+  unfolding slots
+  slots-length [] ds = refl
+  slots-length (x ∷ xs) ds = ap suc (slots-length xs (B .after x ds))
+
+  -- The passes of codes of n bits: one for each, of the command's slots and three for each bit.
+  pub passes-count : (command : List Bool) (cs : List Code) (ds : B .Devices) → length (passes B command cs ds .lines) ≡ length cs
+  unfolding passes
+  passes-count command [] ds = refl
+  passes-count command (c ∷ cs) ds = ap suc (passes-count command cs (slots B (passOffers command c) (B .reset ds) .devices))
+
+  pub passes-slots : (command : List Bool) (n : ℕ) (cs : List Code) (ds : B .Devices) → Sized n cs
+      → Each (λ l. length l ≡ length command + 3 * n) (passes B command cs ds .lines)
+  unfolding passes
+  passes-slots command n [] ds h = tt
+  passes-slots command n (c ∷ cs) ds h =
+      let t = triple-offers c in
+      let e : length (passOffers command c) ≡ length command + 3 * n = simp length-append (omega arith) in
+      (slots-length (passOffers command c) (B .reset ds) ∙ e, passes-slots command n cs (slots B (passOffers command c) (B .reset ds) .devices) (h .1))

@@ -13,7 +13,7 @@ use lib.ListN.{length}
 use Rattle.search_law.specs.Codes.{first, rest, Each}
 use Rattle.search_law.specs.Pass.{triple, Plan, choice, on-some, found, next}
 use Rattle.search_law.specs.Paths.{agrees}
-use Rattle.search_law.specs.Wire.{Bus, Pass, passed, withTriple, Search, searched, withCode, slots, triplets, wirePass, searchFrom, wireSearch}
+use Rattle.search_law.specs.Wire.{Bus, Pass, passed, withTriple, Search, unanswered, withCode, slots, triplets, wirePass, searchFrom, wireSearch}
 use Rattle.search_law.specs.Searchers.{Model, Carries, Takes, Searchers}
 use Rattle.search_law.specs.Sits.{Sits, take-bit, sits-co, sits-way-next, sits-on}
 use Rattle.search_law.specs.OnTheWire.{length-snoc, Starts, takes-command, sits-started}
@@ -112,7 +112,7 @@ module _ {B : Bus} {M : Model} (C : Carries B M) {command : List Bool} {n : ℕ}
       let p = wirePass B command n plan ds in
       let t = pass-keeps plan ds in
       let i : (o : Option Plan) → had (searchFrom B command fuel n o (p .devices) .devices) ≡ had ds = λ o. search-from-keeps fuel o (p .devices) ∙ t in
-      on-some (λ (s : Search (B .Devices)). had (s .devices) ≡ had ds) (p .triples) (searched [] (p .lines ∷ []) (p .devices))
+      on-some (λ (s : Search (B .Devices)). had (s .devices) ≡ had ds) (p .triples) (unanswered p)
       (λ ts. withCode (found ts) (p .lines) (searchFrom B command fuel n (next ts) (p .devices))) t (λ ts. i (next ts))
 
   pub search-keeps : (fuel : ℕ) (ds : B .Devices) → had (wireSearch B command fuel n ds .devices) ≡ had ds

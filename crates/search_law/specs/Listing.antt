@@ -124,5 +124,12 @@ perm-length (List·Permᴰ·cons e p) = ap suc (perm-length p)
 perm-length (List·Permᴰ·swap e f) = refl
 perm-length (List·Permᴰ·trans p q) = perm-length p ∙ perm-length q
 
+-- What holds of each holds of each of a permutation.
+pub each-perm : {A : Type 0} (P : A → Type 0) {l m : List A} → List·Permᴰ l m → Each P l → Each P m
+each-perm P List·Permᴰ·nil h = tt
+each-perm P (List·Permᴰ·cons e p) h = (rw e at (h .0), each-perm P p (h .1))
+each-perm P (List·Permᴰ·swap e f) h = (rw f at (h .1 .0), (rw e at (h .0), h .1 .1))
+each-perm P (List·Permᴰ·trans p q) h = each-perm P q (each-perm P p h)
+
 pub order-length : (n : ℕ) (S : List Code) → Sized n S → Distinct S → length S ≡ length (inOrder n S)
 order-length n S h k = perm-length (order-all n S h k)

@@ -6,14 +6,14 @@
 use mathlib.Core.Path.{_≡_, refl, sym, ap, _∙_}
 use mathlib.Core.Logic.{_≢_}
 use mathlib.Core.Bool.{Bool, true, false}
-use mathlib.Core.List.{List, [], _∷_, _++_, map}
-use mathlib.Core.List.{List·Permᴰ, List·Permᴰ·nil, List·Permᴰ·cons, List·Permᴰ·swap, List·Permᴰ·trans, Permᴰ·map}
+use mathlib.Core.List.{List, [], _∷_, _++_, map, List·Permᴰ, Permᴰ·map}
 use Prim.Native.Nat.{ℕ, _^_, _<_, _≤_}
 use native.Mathlib.Omega.{arith}
 use lib.ListN.{length, getD, length-append, length-map, List·getD-append}
 use lib.Seq.{getD-append-seam}
 use Rattle.bits.specs.Bits.{bitAt, bitsOf, numberOf, bits-length, number-bits, bits-number, bits-at}
 use Rattle.search_law.specs.Codes.{Code, nobody, Each, Pairs, Sized, Distinct, Before}
+use Rattle.search_law.specs.Listing.{each-perm}
 use Rattle.search_law.specs.Wire.{Bus, wireSearch}
 use Rattle.search_law.specs.Searchers.{Model, Carries, Searchers}
 use Rattle.search_law.specs.Sits.{joined}
@@ -93,12 +93,6 @@ pairs-sooner n (c ∷ cs) s b = (each-sooner n c cs (s .0) (s .1) (b .0), pairs-
 
 -- ## What is listed
 
-pub each-perm : {A : Type 0} (P : A → Type 0) {l m : List A} → List·Permᴰ l m → Each P l → Each P m
-each-perm P List·Permᴰ·nil h = tt
-each-perm P (List·Permᴰ·cons e p) h = (rw e at (h .0), each-perm P p (h .1))
-each-perm P (List·Permᴰ·swap e f) h = (rw f at (h .1 .0), (rw e at (h .0), h .1 .1))
-each-perm P (List·Permᴰ·trans p q) h = each-perm P q (each-perm P p h)
-
 pub record Numbered (n : ℕ) (ns : List ℕ) (cs : List Code) : Type 0 where
   pub all-listed : List·Permᴰ ns (map numberOf cs)
   pub ordered : Pairs Sooner (map numberOf cs)
@@ -117,7 +111,7 @@ somebody n (x ∷ l) h = refl
 module _ {B : Bus} {M : Model} (C : Carries B M) {command : List Bool} {n : ℕ} (Z : Searchers M command n) (fuel : ℕ) (ds : B .Devices)
     (ns : List ℕ) (e : joined C Z ds ≡ map (bitsOf n) ns) (b : Below n ns) (d : Distinct ns) (h : 0 < length ns) (f : length ns ≤ fuel)
   where
-    pub numbers-complete : Complete B command (map (bitsOf n) ns) ds (wireSearch B command fuel n ds)
+    pub numbers-complete : Complete B command n (map (bitsOf n) ns) ds (wireSearch B command fuel n ds)
     numbers-complete =
         rw e at
         (search-complete C Z fuel ds (rw e (bits-sized n ns)) (rw e (bits-distinct n ns b d)) (rw e (somebody n ns h)) (rw (e, length-map ns (bitsOf n)) f))

@@ -18,7 +18,7 @@ use Rattle.lists.specs.Choice.{if_then_else_}
 use Rattle.bits.specs.Bits.{numberOf}
 use Rattle.search_law.specs.Codes.{Code, first, rest}
 use Rattle.search_law.specs.Pass.{Triple, triple, Plan, choice, onSome, on-some, never, found, next}
-use Rattle.search_law.specs.Wire.{Bus, Run, Pass, passed, withTriple, Search, searched, withCode, slots, triplets, wirePass, searchFrom, wireSearch}
+use Rattle.search_law.specs.Wire.{Bus, Run, Pass, passed, withTriple, Search, searched, unanswered, withCode, slots, triplets, wirePass, searchFrom, wireSearch}
 use Rattle.search_law.specs.Issued.{longer}
 use Rattle.search_law.specs.Departure.{takes, lastFrom, planOf, takes-plan, takes-first, next-plan}
 use Rattle.search_law.specs.PassLoop.{Walk, if-true, if-false, answers, loopPass, SamePass, loop-pass}
@@ -134,7 +134,7 @@ module _ (B : Bus) (command : List Bool) (n : ℕ) where
       → ((o : Option Plan) (t : Sweep (B .Devices)) → Goes n o t → Made t (searchFrom B command k n o (t .devices)) (turns B command n k t))
       → (o : Option (List Triple)) → wirePass B command n plan (s .devices) .triples ≡ o
       → Made s
-      (onSome o (searched [] (wirePass B command n plan (s .devices) .lines ∷ []) (wirePass B command n plan (s .devices) .devices)) (λ ts.
+      (onSome o (unanswered (wirePass B command n plan (s .devices))) (λ ts.
       withCode (found ts) (wirePass B command n plan (s .devices) .lines) (searchFrom B command k n (next ts) (wirePass B command n plan (s .devices) .devices))))
       (turns B command n k (withPass B command n s w))
   by-answer s plan w k m i none e =

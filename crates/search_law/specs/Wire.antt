@@ -57,6 +57,10 @@ pub record Search (D : Type 0) : Type 0 where
 abbrev pub searched : {D : Type 0} → List Code → List (List Bool) → D → Search D
 searched cs l ds = record { codes = cs; lines = l; devices = ds }
 
+-- A search that ends with a pass in which nobody has answered.
+abbrev pub unanswered : {D : Type 0} → Pass D → Search D
+unanswered p = searched [] (p .lines ∷ []) (p .devices)
+
 -- A search with a pass before it, which has found c and shown l.
 abbrev pub withCode : {D : Type 0} → Code → List Bool → Search D → Search D
 withCode c l s = searched (c ∷ s .codes) (l ∷ s .lines) (s .devices)
@@ -103,7 +107,7 @@ module _ (B : Bus) where
   searchFrom command (suc fuel) n none ds = searched [] [] ds
   searchFrom command (suc fuel) n (some plan) ds =
       let r = wirePass command n plan ds in
-      onSome (r .triples) (searched [] (r .lines ∷ []) (r .devices)) (λ ts.
+      onSome (r .triples) (unanswered r) (λ ts.
       withCode (found ts) (r .lines) (searchFrom command fuel n (next ts) (r .devices)))
 
   abbrev pub wireSearch : List Bool → ℕ → ℕ → B .Devices → Search (B .Devices)
