@@ -11,7 +11,7 @@
 --     Distinct l           no two of l are the same
 --     Before c d           at the first bit in which they differ c has 0 and d has 1
 -- Assumes nothing.
-use mathlib.Core.Path.{_≡_, refl, sym, _∙_}
+use mathlib.Core.Path.{_≡_, sym, _∙_}
 use mathlib.Core.Logic.{_≢_}
 use mathlib.Core.Bool.{Bool, true, false, not, Bool·beq, true≢false}
 use mathlib.Core.List.{List, [], _∷_, _++_, append-cancel-left, head-eq-of-cons-eq}

@@ -8,20 +8,19 @@
 --     Complete ..                all that is claimed of a search
 -- Assumes nothing.
 use mathlib.Core.Path.{_≡_, refl, sym, ap, _∙_}
-use mathlib.Core.Bool.{Bool, true, false, not, true≢false}
+use mathlib.Core.Bool.{Bool, true, false, not}
 use mathlib.Core.Option.{Option, none, some, Option·map}
 use mathlib.Core.List.{List, [], _∷_, _++_, List·Permᴰ}
 use Prim.Native.Nat.{ℕ, zero, suc, _+_, _*_, _≤_, _<_}
 use native.Mathlib.Omega.{arith}
 use lib.ListN.{length}
-use Rattle.lists.specs.Fold.{all}
 use Rattle.search_law.specs.Codes.{Code, first, rest, line, coLine, follow, nobody, Each, Pairs, Sized, Distinct, Before}
-use Rattle.search_law.specs.Pass.{Triple, triple, Plan, choice, onSome, never, pass, found, next}
+use Rattle.search_law.specs.Pass.{Triple, triple, Plan, choice, onSome, never, pass, found}
 use Rattle.search_law.specs.Listing.{inOrder, order-pairs, order-all, order-length, each-perm}
 use Rattle.search_law.specs.Lists.{Lists, end, more, lists}
-use Rattle.search_law.specs.Wire.{Bus, Run, run, Passes, ran, Pass, passed, Search, searched, passOffers, slots, passes, triplets, wirePass, searchFrom, wireSearch}
+use Rattle.search_law.specs.Wire.{Bus, run, ran, passed, Search, searched, passOffers, slots, passes, triplets, wirePass, searchFrom, wireSearch}
 use Rattle.search_law.specs.Issued.{longer, slots-append, pass-issued, passes-count, passes-slots}
-use Rattle.search_law.specs.Searchers.{Model, Carries, Searchers, participants}
+use Rattle.search_law.specs.Searchers.{Model, Carries, Searchers}
 use Rattle.search_law.specs.Holds.{search-holds}
 use Rattle.search_law.specs.Sits.{joined, joined-after, joined-reset}
 use Rattle.search_law.specs.OnTheWire.{shown, pass-on-wire, pass-lines, joined-pass, command-shown, nobody-reads}
@@ -144,7 +143,8 @@ module _ {B : Bus} {M : Model} (C : Carries B M) {command : List Bool} {n : ℕ}
       let es = slots B command (B .reset ds) .devices in
       let r = nobody-reads C Z h ds e in
       let t = triplets-nobody n [] es h (r .0) (r .1) in
-      rw (t, command-shown C Z ds, slots-append B command (true ∷ true ∷ []) (B .reset ds))
+      let l = command-shown C Z ds in
+      simp (t, l, slots-append B command (true ∷ true ∷ []) (B .reset ds))
 
   -- Who takes part stays the same, so that a search may follow a search.
   pub search-joined : (fuel : ℕ) (ds : B .Devices) → joined C Z (wireSearch B command fuel n ds .devices) ≡ joined C Z ds

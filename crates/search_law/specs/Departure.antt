@@ -14,7 +14,7 @@ use borrow.Author.Tests.{lt-ltb, le-ltb, ltb-true}
 use lib.Dec.{ltb, eqb, leb·zero, leb·suc-zero, leb·suc-suc, eqb·suc-zero, eqb·suc-suc}
 use lib.ListN.{length, getD, take}
 use Rattle.lists.specs.Choice.{if_then_else_}
-use Rattle.bits.specs.Bits.{odd, bitAt, bitsOf, numberOf, bits-number, bits-at}
+use Rattle.bits.specs.Bits.{bitAt, numberOf, bits-number, bits-at}
 use Rattle.search_law.specs.Codes.{Code}
 use Rattle.search_law.specs.Pass.{Triple, Plan, onSome, found, tookZero, departed, next}
 

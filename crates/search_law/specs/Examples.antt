@@ -3,7 +3,6 @@
 use mathlib.Core.Path.{_≡_, refl}
 use mathlib.Core.Bool.{Bool, true, false}
 use mathlib.Core.List.{List, [], _∷_, map}
-use Prim.Native.Nat.{ℕ}
 use Rattle.lists.specs.Fold.{all}
 use Rattle.bits.specs.Bits.{bitsOf, numberOf}
 use Rattle.search_law.specs.Codes.{Code}

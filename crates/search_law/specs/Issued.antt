@@ -9,7 +9,7 @@ use Prim.Native.Nat.{ℕ, zero, suc, _+_, _*_}
 use native.Mathlib.Omega.{arith}
 use lib.ListN.{length, length-append}
 use Rattle.search_law.specs.Codes.{Code, first, rest, Each, Sized}
-use Rattle.search_law.specs.Pass.{Triple, triple, Plan, choice, onSome, on-some, never, found}
+use Rattle.search_law.specs.Pass.{Triple, triple, Plan, choice, on-some, never, found}
 use Rattle.search_law.specs.Wire.{Bus, Run, run, Pass, passed, withTriple, tripleOffers, passOffers, slots, passes, triplets, wirePass}
 
 -- A list that was made longer at its front.
@@ -77,7 +77,7 @@ module _ (B : Bus) where
   pub passes-count : (command : List Bool) (cs : List Code) (ds : B .Devices) → length (passes B command cs ds .lines) ≡ length cs
   unfolding passes
   passes-count command [] ds = refl
-  passes-count command (c ∷ cs) ds = ap suc (passes-count command cs (slots B (passOffers command c) (B .reset ds) .devices))
+  passes-count command (c ∷ cs) ds = ap suc (passes-count command cs _)
 
   pub passes-slots : (command : List Bool) (n : ℕ) (cs : List Code) (ds : B .Devices) → Sized n cs
       → Each (λ l. length l ≡ length command + 3 * n) (passes B command cs ds .lines)
@@ -86,4 +86,4 @@ module _ (B : Bus) where
   passes-slots command n (c ∷ cs) ds h =
       let t = triple-offers c in
       let e : length (passOffers command c) ≡ length command + 3 * n = simp length-append (omega arith) in
-      (slots-length (passOffers command c) (B .reset ds) ∙ e, passes-slots command n cs (slots B (passOffers command c) (B .reset ds) .devices) (h .1))
+      (slots-length (passOffers command c) _ ∙ e, passes-slots command n cs _ (h .1))

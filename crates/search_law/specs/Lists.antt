@@ -2,14 +2,14 @@
 --     Lists n S plan cs      the passes over S from a plan on find cs, one code each, and the last leaves no plan
 -- By induction on the codes' length: the passes over those that send 0 first, then the departure at this bit, then those that send 1.
 -- Assumes nothing.
-use mathlib.Core.Path.{_≡_, refl, sym, ap, _∙_}
+use mathlib.Core.Path.{_≡_, refl, _∙_}
 use mathlib.Core.Bool.{Bool, true, false, _&&_, and-false, true≢false}
 use mathlib.Core.Option.{Option, none, some}
 use mathlib.Core.List.{List, [], _∷_, _++_, map, append-nil}
 use Prim.Native.Nat.{ℕ, zero, suc}
 use Rattle.lists.specs.Fold.{all}
 use Rattle.search_law.specs.Codes.{Code, line, coLine, follow, nobody}
-use Rattle.search_law.specs.Pass.{Triple, triple, Plan, choice, onSome, pass, found, departed, next}
+use Rattle.search_law.specs.Pass.{Triple, triple, Plan, choice, pass, found, departed, next}
 use Rattle.search_law.specs.Listing.{inOrder, order-nobody}
 
 pub data Lists (n : ℕ) (S : List Code) : Option Plan → List Code → Type 0 where

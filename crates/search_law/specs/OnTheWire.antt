@@ -3,22 +3,22 @@
 --     shown ts          the line's bits of some triples
 --     Walks o r         the slots of the bits in r had the triples o, and the line showed just these
 -- Assumes nothing.
-use mathlib.Core.Path.{_≡_, refl, sym, ap, _∙_}
-use mathlib.Core.Bool.{Bool, true, false, _&&_, cond, and-true}
+use mathlib.Core.Path.{_≡_, refl, ap, _∙_}
+use mathlib.Core.Bool.{Bool, true, cond, and-true}
 use mathlib.Core.Option.{Option, none, some, Option·map}
-use mathlib.Core.List.{List, [], _∷_, _++_, map}
+use mathlib.Core.List.{List, [], _∷_, _++_}
 use Prim.Native.Nat.{ℕ, zero, suc, _+_, _<_}
 use native.Mathlib.Omega.{arith}
 use lib.ListN.{length, length-append}
 use Rattle.lists.specs.Fold.{all}
-use Rattle.search_law.specs.Codes.{Code, first, rest, line, coLine, follow, Each, each-implies}
-use Rattle.search_law.specs.Pass.{Triple, triple, Plan, choice, onSome, on-both, never, pass, found}
-use Rattle.search_law.specs.Paths.{onPath, path-nil, agrees, agrees-nil, path-snoc}
+use Rattle.search_law.specs.Codes.{first, rest, line, coLine, follow, Each, each-implies}
+use Rattle.search_law.specs.Pass.{Triple, triple, Plan, choice, on-both, never, pass}
+use Rattle.search_law.specs.Paths.{onPath, path-nil, agrees-nil, path-snoc}
 use Rattle.search_law.specs.Wire.{Bus, Pass, passed, withTriple, slots, triplets, wirePass}
 use Rattle.search_law.specs.Issued.{longer}
 use Rattle.search_law.specs.Holds.{slots-hold, pass-holds}
-use Rattle.search_law.specs.Searchers.{Model, Carries, Takes, Searchers, participants}
-use Rattle.search_law.specs.Sits.{Sits, each-restart, take-bit, joined, joined-after, joined-reset, once, twice, read-bit, read-co-bit, write-bit, sits-on}
+use Rattle.search_law.specs.Searchers.{Model, Carries, Takes, Searchers}
+use Rattle.search_law.specs.Sits.{Sits, each-restart, take-bit, joined, joined-after, joined-reset, twice, read-bit, read-co-bit, write-bit, sits-on}
 
 unfoldable pub shown : List Triple → List Bool
 shown [] = []

@@ -18,7 +18,7 @@ use Rattle.lists.specs.Choice.{if_then_else_}
 use Rattle.bits.specs.Bits.{bitNumber, numberOf}
 use Rattle.search_law.specs.Codes.{first, rest}
 use Rattle.search_law.specs.Pass.{Triple, triple, Plan, choice, onSome, on-both, never, found, tookZero}
-use Rattle.search_law.specs.Wire.{Bus, Run, Pass, passed, withTriple, slots, triplets, wirePass}
+use Rattle.search_law.specs.Wire.{Bus, Pass, passed, withTriple, slots, triplets, wirePass}
 use Rattle.search_law.specs.Issued.{longer}
 use Rattle.search_law.specs.Departure.{takes, lastFrom}
 

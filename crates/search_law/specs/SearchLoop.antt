@@ -7,7 +7,7 @@
 -- Assumes nothing.
 use mathlib.Core.Path.{_≡_, refl, sym, ap, _∙_}
 use mathlib.Core.Bool.{Bool, true, false, _&&_}
-use mathlib.Core.Option.{Option, none, some, Option·map}
+use mathlib.Core.Option.{Option, none, some}
 use mathlib.Core.List.{List, [], _∷_, _++_, map, append-nil, append-assoc}
 use Prim.Native.Nat.{ℕ, zero, suc, _+_, _-_, _<_, _≤_}
 use native.Mathlib.Omega.{arith}
@@ -16,9 +16,9 @@ use lib.Dec.{ltb}
 use lib.ListN.{length, getD, take}
 use Rattle.lists.specs.Choice.{if_then_else_}
 use Rattle.bits.specs.Bits.{numberOf}
-use Rattle.search_law.specs.Codes.{Code, first, rest}
+use Rattle.search_law.specs.Codes.{first, rest}
 use Rattle.search_law.specs.Pass.{Triple, triple, Plan, choice, onSome, on-some, never, found, next}
-use Rattle.search_law.specs.Wire.{Bus, Run, Pass, passed, withTriple, Search, searched, unanswered, withCode, slots, triplets, wirePass, searchFrom, wireSearch}
+use Rattle.search_law.specs.Wire.{Bus, Pass, passed, withTriple, Search, searched, unanswered, withCode, triplets, wirePass, searchFrom, wireSearch}
 use Rattle.search_law.specs.Issued.{longer}
 use Rattle.search_law.specs.Departure.{takes, lastFrom, planOf, takes-plan, takes-first, next-plan}
 use Rattle.search_law.specs.PassLoop.{Walk, if-true, if-false, answers, loopPass, SamePass, loop-pass}

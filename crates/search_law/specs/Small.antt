@@ -4,18 +4,18 @@
 --     offers, hears    what it puts on the line, and its next stage when the line has shown a bit
 --     model n          these devices, for codes of n bits
 -- Assumes nothing.
-use mathlib.Core.Path.{_≡_, refl, sym, ap, _∙_}
-use mathlib.Core.Bool.{Bool, true, false, not, _&&_, cond, Bool·beq}
+use mathlib.Core.Path.{_≡_, refl}
+use mathlib.Core.Bool.{Bool, true, false, not, cond, Bool·beq}
 use mathlib.Core.List.{List, [], _∷_, _++_}
 use Prim.Native.Nat.{ℕ, suc, _<_}
 use borrow.Author.Tests.{lt-ltb}
 use lib.Dec.{eqb, ltb}
 use lib.ListN.{length, getD}
 use Rattle.lists.specs.Choice.{if_then_else_}
-use Rattle.bits.specs.Bits.{odd, bitNumber, bitsOf, numberOf}
+use Rattle.bits.specs.Bits.{bitsOf, numberOf}
 use Rattle.search_law.specs.Codes.{Code}
 use Rattle.search_law.specs.Searchers.{Model, Takes, Searchers}
-use Rattle.search_law.specs.Keeps.{heard, Keeps}
+use Rattle.search_law.specs.Keeps.{Keeps}
 
 abbrev pub SEARCH_ROM : ℕ
 SEARCH_ROM = 0xF0
