@@ -11,10 +11,10 @@
 --     Distinct l           no two of l are the same
 --     Before c d           at the first bit in which they differ c has 0 and d has 1
 -- Assumes nothing.
-use mathlib.Core.Path.{_≡_, sym, _∙_}
+use mathlib.Core.Path.{_≡_}
 use mathlib.Core.Logic.{_≢_}
-use mathlib.Core.Bool.{Bool, true, false, not, Bool·beq, true≢false}
-use mathlib.Core.List.{List, [], _∷_, _++_, append-cancel-left, head-eq-of-cons-eq}
+use mathlib.Core.Bool.{Bool, true, false, not, Bool·beq}
+use mathlib.Core.List.{List, [], _∷_, _++_}
 use Prim.Native.Nat.{ℕ}
 use lib.ListN.{length}
 use Rattle.lists.specs.Choice.{if_then_else_}
@@ -70,16 +70,6 @@ pub record Before (c d : Code) : Type 0 where
   pub is-left : c ≡ common ++ false ∷ left
   pub is-right : d ≡ common ++ true ∷ right
 
--- Of two codes in order, and so of a list in order, no two are the same.
-before-differs : (c d : Code) → Before c d → c ≢ d
-before-differs c d h e =
-    let f = append-cancel-left (h .common) (false ∷ h .left) (true ∷ h .right) (sym (h .is-left) ∙ e ∙ h .is-right) in
-    true≢false (sym (head-eq-of-cons-eq f))
-
 pub each-implies : {A : Type 0} {P Q : A → Type 0} → ((x : A) → P x → Q x) → (l : List A) → Each P l → Each Q l
 each-implies f [] h = tt
 each-implies f (x ∷ l) h = (f x (h .0), each-implies f l (h .1))
-
-pub in-order-distinct : (S : List Code) → Pairs Before S → Distinct S
-in-order-distinct [] h = tt
-in-order-distinct (c ∷ S) h = (each-implies (before-differs c) S (h .0), in-order-distinct S (h .1))

@@ -64,7 +64,7 @@ choice-allowed false true w d e = let f : d ≡ false = cc in rw f
 choice-allowed true false w d e = let f : d ≡ true = cc in rw f
 choice-allowed true true w d e = absurd (never e)
 
-pub pass-allowed : (n : ℕ) (plan : Plan) (S : List Code) (ts : List Triple) → pass n plan S ≡ some ts → Each (λ t. allowed t ≡ true) ts
+pass-allowed : (n : ℕ) (plan : Plan) (S : List Code) (ts : List Triple) → pass n plan S ≡ some ts → Each (λ t. allowed t ≡ true) ts
 unfolding pass
 pass-allowed zero plan S ts e = let f : ts ≡ [] = cc in rw f tt
 pass-allowed (suc n) plan S ts e =

@@ -55,7 +55,10 @@ module _ {B : Bus} {M : Model} (C : Carries B M) {command : List Bool} {n : ℕ}
       let S = onPath p (joined C Z ds) in
       let two = twice C Z p l ds s in
       let i : (d : Bool) → Walks (pass m (rest plan) (follow d S)) (triplets B m (rest plan) (B .after d two)) =
-      λ d. simp (path-snoc, joined-after) at (triplets-walk m (rest plan) (p ++ d ∷ []) (B .after d two) (omega (arith, length-snoc p d)) (rw length-snoc (sits-on C Z p l ds s d))) in
+      λ d.
+      let k : length (p ++ d ∷ []) + m ≡ n = omega (arith, length-snoc p d) in
+      let t : Each (Sits Z (p ++ d ∷ []) (Z .Own (length (p ++ d ∷ [])))) (C .live (B .after d two)) = rw length-snoc (sits-on C Z p l ds s d) in
+      simp (path-snoc, joined-after) at (triplets-walk m (rest plan) (p ++ d ∷ []) (B .after d two) k t) in
       rw (read-bit C Z p l ds s, read-co-bit C Z p l ds s)
       (on-both Walks (choice (line S) (coLine S) (first plan)) none (λ d. Option·map (λ ts. triple (line S) (coLine S) d ∷ ts) (pass m (rest plan) (follow d S)))
       (passed none (line S ∷ coLine S ∷ []) two) (λ d. withTriple (triple (line S) (coLine S) d) (B .line d two) (triplets B m (rest plan) (B .after d two)))

@@ -122,7 +122,8 @@ answers-map t (some ts) = refl
 
 code-more : (b c j : ℕ) → b * 2 ^ j + c * 2 ^ suc j ≡ (b + 2 * c) * 2 ^ j
 code-more b c j =
-    let e : c * 2 ^ suc j ≡ 2 * c * 2 ^ j = ap (λ (k : ℕ). c * k) (pow-suc 2 j) ∙ sym (mul-assoc c (2 ^ j) 2) ∙ mul-comm (c * 2 ^ j) 2 ∙ sym (mul-assoc 2 c (2 ^ j)) in
+    let e : c * 2 ^ suc j ≡ 2 * c * 2 ^ j = ap (λ (k : ℕ). c * k) (pow-suc 2 j) ∙ sym (mul-assoc c (2 ^ j) 2) ∙ mul-comm (c * 2 ^ j) 2
+    ∙ sym (mul-assoc 2 c (2 ^ j)) in
     rw (e, add-mul b (2 * c) (2 ^ j))
 
 made-none : {D : Type 0} (j : ℕ) (w : Walk D) (l : List Bool) (ds : D) → Made j w (passed none l ds) (walkEnds w l ds)

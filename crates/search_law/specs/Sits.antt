@@ -40,7 +40,7 @@ module _ {M : Model} {command : List Bool} {n : ℕ} (Z : Searchers M command n)
       let e = sit-offer p P f d (h d) (s .0) in
       rw (e, i, all-if, if-and)
 
-  pub each-hear : (P Q : M .Dev → Type 0) (x : Bool) → ((d : M .Dev) → P d → Q (M .hear x d)) → (ds : List (M .Dev)) → Each P ds
+  each-hear : (P Q : M .Dev → Type 0) (x : Bool) → ((d : M .Dev) → P d → Q (M .hear x d)) → (ds : List (M .Dev)) → Each P ds
       → Each Q (map (M .hear x) ds)
   each-hear P Q x h [] s = tt
   each-hear P Q x h (d ∷ ds) s = (h d (s .0), each-hear P Q x h ds (s .1))
@@ -125,7 +125,9 @@ module _ {B : Bus} {M : Model} (C : Carries B M) {command : List Bool} {n : ℕ}
         ∙ simp (joined-after, co-line-path)
 
     pub sits-way-next : Each (Sits Z p (Z .Way (length p))) (C .live twice)
-    sits-way-next = each-after _ _ true once (sits-hear Z p (Z .Co (length p)) (Z .Way (length p)) (B .line true once) (Z .co-hear (length p) l (B .line true once))) sits-co
+    sits-way-next =
+        each-after _ _ true once (sits-hear Z p (Z .Co (length p)) (Z .Way (length p)) (B .line true once) (Z .co-hear (length p) l (B .line true once)))
+        sits-co
 
     all-quiet : (S : List Code) → all (λ c. if agrees p c then true else true) S ≡ true
     unfolding all
