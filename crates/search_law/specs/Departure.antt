@@ -31,7 +31,7 @@ planOf n c D = if ltb D n then some (take D c ++ true ∷ []) else none
 
 -- ## What a plan takes
 
-bit-of-code : (c : Code) (j : ℕ) → j < length c → bitAt (numberOf c) j ≡ getD c j false
+pub bit-of-code : (c : Code) (j : ℕ) → j < length c → bitAt (numberOf c) j ≡ getD c j false
 bit-of-code c j h = sym (bits-at (length c) (numberOf c) j h) ∙ ap (λ (l : List Bool). getD l j false) (bits-number c)
 
 plan-bit : (c : Code) (D j : ℕ) → D ≤ length c → getD (take D c ++ true ∷ []) j false ≡ (if ltb j D then getD c j false else eqb j D)

@@ -11,10 +11,11 @@ use Prim.Native.Nat.{ℕ, _^_, _<_, _≤_}
 use native.Mathlib.Omega.{arith}
 use lib.ListN.{length, getD, length-append, length-map, List·getD-append}
 use lib.Seq.{getD-append-seam}
-use Rattle.bits.specs.Bits.{bitAt, bitsOf, numberOf, bits-length, number-bits, bits-number, bits-at}
+use Rattle.bits.specs.Bits.{bitAt, bitsOf, numberOf, bits-length, number-bits, bits-number}
 use Rattle.search_law.specs.Codes.{Code, nobody, Each, Pairs, Sized, Distinct, Before}
 use Rattle.search_law.specs.Listing.{each-perm}
 use Rattle.search_law.specs.Wire.{Bus, wireSearch}
+use Rattle.search_law.specs.Departure.{bit-of-code}
 use Rattle.search_law.specs.Searchers.{Model, Carries, Searchers}
 use Rattle.search_law.specs.Sits.{joined}
 use Rattle.search_law.specs.Complete.{Complete, search-complete}
@@ -61,12 +62,6 @@ bits-numbers n (c ∷ cs) h = let i = bits-numbers n cs (h .1) in rw (code-back 
 -- ## The order
 
 module _ (n : ℕ) (c d : Code) (h : length c ≡ n) (k : length d ≡ n) (b : Before c d) where
-  bit-left : (i : ℕ) → i < n → bitAt (numberOf c) i ≡ getD c i false
-  bit-left i l = sym (bits-at n (numberOf c) i l) ∙ rw (code-back n c h)
-
-  bit-right : (i : ℕ) → i < n → bitAt (numberOf d) i ≡ getD d i false
-  bit-right i l = sym (bits-at n (numberOf d) i l) ∙ rw (code-back n d k)
-
   place-lt : length (b .common) < n
   place-lt = omega (arith, simp length-append at (ap length (b .is-left)))
 
@@ -77,10 +72,10 @@ module _ (n : ℕ) (c d : Code) (h : length c ≡ n) (k : length d ≡ n) (b : B
       record {
         place = length p;
         same-below = λ i f.
-            bit-left i (omega arith) ∙ ap (λ (t : Code). getD t i false) (b .is-left) ∙ List·getD-append p (false ∷ b .left) false i f
-            ∙ sym (bit-right i (omega arith) ∙ ap (λ (t : Code). getD t i false) (b .is-right) ∙ List·getD-append p (true ∷ b .right) false i f);
-        zero-there = bit-left (length p) l ∙ ap (λ (t : Code). getD t (length p) false) (b .is-left) ∙ getD-append-seam p false (b .left) false;
-        one-there = bit-right (length p) l ∙ ap (λ (t : Code). getD t (length p) false) (b .is-right) ∙ getD-append-seam p true (b .right) false;
+            bit-of-code c i (omega arith) ∙ ap (λ (t : Code). getD t i false) (b .is-left) ∙ List·getD-append p (false ∷ b .left) false i f
+            ∙ sym (bit-of-code d i (omega arith) ∙ ap (λ (t : Code). getD t i false) (b .is-right) ∙ List·getD-append p (true ∷ b .right) false i f);
+        zero-there = bit-of-code c (length p) (omega arith) ∙ ap (λ (t : Code). getD t (length p) false) (b .is-left) ∙ getD-append-seam p false (b .left) false;
+        one-there = bit-of-code d (length p) (omega arith) ∙ ap (λ (t : Code). getD t (length p) false) (b .is-right) ∙ getD-append-seam p true (b .right) false;
       }
 
 each-sooner : (n : ℕ) (c : Code) (cs : List Code) → length c ≡ n → Sized n cs → Each (Before c) cs → Each (Sooner (numberOf c)) (map numberOf cs)

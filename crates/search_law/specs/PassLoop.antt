@@ -16,8 +16,9 @@ use native.Mathlib.Numerals.{add-one}
 use lib.ListN.{getD, drop}
 use Rattle.lists.specs.Choice.{if_then_else_}
 use Rattle.bits.specs.Bits.{bitNumber, numberOf}
-use Rattle.search_law.specs.Codes.{first, rest}
+use Rattle.search_law.specs.Codes.{rest}
 use Rattle.search_law.specs.Pass.{Triple, triple, Plan, choice, onSome, on-both, never, found, tookZero}
+use Rattle.search_law.specs.Paths.{first-drop}
 use Rattle.search_law.specs.Wire.{Bus, Pass, passed, withTriple, slots, triplets, wirePass}
 use Rattle.search_law.specs.Issued.{longer}
 use Rattle.search_law.specs.Departure.{takes, lastFrom}
@@ -151,12 +152,6 @@ module _ {D : Type 0} (j : ℕ) (w : Walk D) (t : Triple) (l : Bool) (ds : D) (r
         let k = longer t (r .triples) ts e in
         rw (k .is) (m .last-is (k .others) (k .others-is));
   }
-
-first-drop : (j : ℕ) (plan : Plan) → first (drop j plan) ≡ getD plan j false
-first-drop zero [] = refl
-first-drop (suc j) [] = refl
-first-drop zero (b ∷ plan) = refl
-first-drop (suc j) (b ∷ plan) = first-drop j plan
 
 rest-drop : (j : ℕ) (plan : Plan) → rest (drop j plan) ≡ drop (suc j) plan
 rest-drop zero [] = refl

@@ -85,7 +85,7 @@ unfolding all
 all-path f p [] = rw path-none
 all-path f p (c ∷ S) = let i = all-path f p S in rw (path-cons, all-if, i)
 
-first-drop : (j : ℕ) (c : Code) → first (drop j c) ≡ getD c j false
+pub first-drop : (j : ℕ) (c : Code) → first (drop j c) ≡ getD c j false
 first-drop zero [] = refl
 first-drop (suc j) [] = refl
 first-drop zero (b ∷ c) = refl
