@@ -1,0 +1,59 @@
+-- Laws on lists that the definitions of this crate rest on and that speak of no frame.
+--     Bytes l      every element of l is below 256
+-- Assumes nothing.
+use Prim.Native.Nat.{ℕ, zero, suc, _+_, _<_, _≤_}
+use mathlib.Core.Path.{_≡_, refl, sym, ap, _∙_}
+use mathlib.Core.Bool.{Bool, true, false, _&&_, and-assoc, false≢true}
+use mathlib.Core.List.{List, [], _∷_, _++_}
+use native.Mathlib.Omega.{arith}
+use native.Mathlib.Numerals.{add-one}
+use native.Mathlib.Nat.{le-of-lt}
+use lib.ListN.{length, set, take, drop, getD, take-append-drop}
+use lib.Seq.{take-suc, length-take-le, drop-cons, getD-take, getD-drop}
+use Rattle.lists.specs.Fold.{all}
+use Rattle.lists.specs.Laid.{laid, laid-store}
+
+abbrev pub Bytes : List ℕ → Type 0
+Bytes l = (k : ℕ) → getD l k 0 < 256
+
+-- ## Truth values
+
+pub and-left : (a b : Bool) → (a && b) ≡ true → a ≡ true
+and-left true b e = refl
+and-left false b e = e
+
+pub and-right : (a b : Bool) → (a && b) ≡ true → b ≡ true
+and-right true b e = e
+and-right false b e = absurd (false≢true e)
+
+-- ## All of a list
+
+module _ {A : Type 0} (p : A → Bool) where
+  pub all-append : (l m : List A) → all p (l ++ m) ≡ (all p l && all p m)
+  unfolding all
+  all-append [] m = refl
+  all-append (x ∷ l) m = let e = all-append l m in rw e (sym (and-assoc (p x) (all p l) (all p m)))
+
+  pub all-take : (n : ℕ) (l : List A) → all p l ≡ true → all p (take n l) ≡ true
+  all-take n l h =
+      and-left (all p (take n l)) (all p (drop n l))
+      (sym (all-append (take n l) (drop n l)) ∙ ap (all p) (take-append-drop n l) ∙ h)
+
+  pub all-drop : (n : ℕ) (l : List A) → all p l ≡ true → all p (drop n l) ≡ true
+  all-drop n l h =
+      and-right (all p (take n l)) (all p (drop n l))
+      (sym (all-append (take n l) (drop n l)) ∙ ap (all p) (take-append-drop n l) ∙ h)
+
+  pub all-at : (l : List A) (d : A) (i : ℕ) → i < length l → all p l ≡ true → p (getD l i d) ≡ true
+  unfolding all
+  all-at [] d i h t = absurd (omega arith)
+  all-at (x ∷ l) d zero h t = and-left (p x) (all p l) t
+  all-at (x ∷ l) d (suc i) h t = all-at l d i (omega arith) (and-right (p x) (all p l) t)
+
+-- ## A list laid element by element
+
+pub laid-next : {A : Type 0} (d : List A) (at : ℕ) (x : List A) (i n : ℕ) (z v : A) → at + i ≡ n → i < length x → n < length d
+    → v ≡ getD x i z → set (laid d at (take i x)) n v ≡ laid d at (take (i + 1) x)
+laid-next d at x i n z v e h k same =
+    let l : at + length (take i x) ≡ n = rw (length-take-le i x (le-of-lt h)) e in
+    laid-store d at (take i x) v n l k ∙ rw (add-one i, take-suc x i z h, same)

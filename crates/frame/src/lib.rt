@@ -1,0 +1,24 @@
+// Frames: what the wire showed after one reset, and the line of a recording that carries it.
+ghost use mathlib.Core.Path.{_≡_};
+ghost use Prim.Native.Nat.{ℕ, _+_, _*_, _≤_, _<_};
+ghost use mathlib.Core.Bool.{true};
+ghost use lib.ListN.{length, getD, drop};
+
+// One reset with the slots after it. Slot i is bit i % 8 of bits[i / 8].
+pub struct Frame {
+    // whether any device showed its presence
+    pub presence: bool,
+    // how many slots follow the reset
+    pub count: u16,
+    // the line's bits
+    pub bits: [u8; 64],
+}
+
+// A frame with no slot yet.
+pub fn blank(presence: bool) -> Frame {
+    Frame {
+        presence,
+        count: 0,
+        bits: [0; 64],
+    }
+}
