@@ -50,6 +50,21 @@ module _ {A : Type 0} (p : A → Bool) where
   all-at (x ∷ l) d zero h t = and-left (p x) (all p l) t
   all-at (x ∷ l) d (suc i) h t = all-at l d i (omega arith) (and-right (p x) (all p l) t)
 
+-- ## A store past the front
+
+pub set-append-add : {A : Type 0} (l m : List A) (n : ℕ) (a : A) → set (l ++ m) (length l + n) a ≡ l ++ set m n a
+set-append-add [] m n a = let e : 0 + n ≡ n = omega arith in rw e
+set-append-add (x ∷ l) m n a =
+    let e : suc (length l) + n ≡ suc (length l + n) = omega arith in
+    rw (e, set-append-add l m n a)
+
+pub bytes-set : (l : List ℕ) (i v : ℕ) → Bytes l → v < 256 → Bytes (set l i v)
+bytes-set [] i v h b k = h k
+bytes-set (x ∷ l) zero v h b zero = b
+bytes-set (x ∷ l) zero v h b (suc k) = h (suc k)
+bytes-set (x ∷ l) (suc i) v h b zero = h 0
+bytes-set (x ∷ l) (suc i) v h b (suc k) = bytes-set l i v (λ m. h (suc m)) b k
+
 -- ## A list laid element by element
 
 pub laid-next : {A : Type 0} (d : List A) (at : ℕ) (x : List A) (i n : ℕ) (z v : A) → at + i ≡ n → i < length x → n < length d

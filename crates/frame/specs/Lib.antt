@@ -1,2 +1,5 @@
 pub mod Laws
 pub mod Hex
+pub mod Frames
+pub mod Lines
+pub mod Reading
