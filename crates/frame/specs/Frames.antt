@@ -11,7 +11,7 @@
 -- Assumes nothing.
 use Prim.Native.Nat.{ℕ, zero, suc, _+_, _*_, _/_, _%_, _^_, _<_, _≤_, _-_}
 use mathlib.Core.Path.{_≡_, refl, sym, ap, _∙_}
-use mathlib.Core.Bool.{Bool, true, false, not, _&&_, _||_, or-true}
+use mathlib.Core.Bool.{Bool, true, false, not, _&&_, _||_, or-true, and-true}
 use mathlib.Core.List.{List, [], _∷_, _++_, append-assoc, append-nil}
 use native.Mathlib.Omega.{arith}
 use native.Mathlib.Nat.{pow-suc}
@@ -19,13 +19,14 @@ use lib.Pow.{shr-lt}
 use native.Mathlib.Numerals.{add-one}
 use borrow.Author.Tests.{eq-eqb, ne-eqb, eqb-true, eqb-false, lt-ltb, le-leb, leb-true}
 use lib.Dec.{eqb, leb, ltb, lit<}
-use lib.ListN.{length, set, take, drop, getD, replicate, length-set, length-replicate, getD-replicate, length-take, length-append}
+use lib.ListN.{length, set, take, drop, getD, replicate, length-set, length-replicate, getD-replicate, length-take, length-drop, length-append, take-append-drop}
 use lib.Seq.{drop-nil, drop-append-add, drop-append-le, drop-at, set-append-left, take-suc-set, drop-set-lt, getD-set-same, getD-set-other, length-take-le, drop-drop}
 use Rattle.lists.specs.Choice.{if_then_else_}
 use Rattle.lists.specs.Fold.{fold, all}
-use Rattle.bits.specs.Bits.{odd, bitsOf, numberOf, bytesBits, bits-length, bits-number, bits-append, number-lt, bytes-length}
+use Rattle.lists.specs.Laid.{laid}
+use Rattle.bits.specs.Bits.{odd, bitsOf, numberOf, bytesBits, bits-length, bits-number, bits-append, number-lt, bytes-length, bytes-append}
 use Rattle.frame.specs.declared.Frame.{Frame}
-use Rattle.frame.specs.Laws.{Bytes, all-append, all-drop, and-left, and-right, set-append-add, bytes-set}
+use Rattle.frame.specs.Laws.{Bytes, all-append, all-drop, and-left, and-right, set-append-add, bytes-set, bytes-drop, bytes-append-bytes, drop-replicate}
 
 -- the most slots that a frame has
 abbrev pub mostSlots : ℕ
@@ -78,13 +79,13 @@ pub record Held (f : Frame) : Type 0 where
 
 -- ## Bits of bytes
 
-pub bytes-drop : (i : ℕ) (l : List ℕ) → drop (8 * i) (bytesBits l) ≡ bytesBits (drop i l)
+pub bits-drop : (i : ℕ) (l : List ℕ) → drop (8 * i) (bytesBits l) ≡ bytesBits (drop i l)
 unfolding bytesBits
-bytes-drop zero l = refl
-bytes-drop (suc i) [] = drop-nil (8 * suc i)
-bytes-drop (suc i) (x ∷ l) =
+bits-drop zero l = refl
+bits-drop (suc i) [] = drop-nil (8 * suc i)
+bits-drop (suc i) (x ∷ l) =
     let e : 8 * suc i ≡ length (bitsOf 8 x) + 8 * i = rw (bits-length 8 x) (omega arith) in
-    rw (e, drop-append-add (bitsOf 8 x) (bytesBits l) (8 * i), bytes-drop i l)
+    rw (e, drop-append-add (bitsOf 8 x) (bytesBits l) (8 * i), bits-drop i l)
 
 -- no bit of a number is set just where the number is 0
 half-zero : (x : ℕ) → (not (odd x) && eqb (x / 2) 0) ≡ eqb x 0
@@ -140,6 +141,38 @@ clear-zeros (x ∷ l) h c =
     let z = eqb-true (x / 1) 0 (and-left (eqb (x / 1) 0) (clearFrom 0 l) e) in
     let o : x ≡ 0 = omega arith in
     rw o (ap (λ (t : List ℕ). 0 ∷ t) (clear-zeros l (λ k. h (suc k)) (and-right (eqb (x / 1) 0) (clearFrom 0 l) e)))
+
+-- ## Bytes laid over those of a blank frame
+
+module _ (x : List ℕ) (few : length x ≤ 64) where
+  pad-parts : laid noBits 0 x ≡ x ++ replicate (64 - length x) 0
+  unfolding laid noBits
+  pad-parts = let z : 0 + length x ≡ length x = omega arith in rw z (ap (λ (t : List ℕ). x ++ t) (drop-replicate (length x) 64 0))
+
+  pub pad-length : length (laid noBits 0 x) ≡ 64
+  pad-length = ap length pad-parts ∙ simp (length-append, length-replicate) (omega arith)
+
+  pub pad-bytes : Bytes x → Bytes (laid noBits 0 x)
+  pad-bytes h = rw pad-parts (bytes-append-bytes x (replicate (64 - length x) 0) h (zeros-bytes (64 - length x)))
+
+  pub pad-clear : (n : ℕ) → n ≤ 8 * length x → clearFrom n (laid noBits 0 x) ≡ clearFrom n x
+  pad-clear n h =
+      let w : n ≤ length (bytesBits x) = rw (bytes-length x) h in
+      let z : List ℕ = replicate (64 - length x) 0 in
+      rw (pad-parts, bytes-append x z, drop-append-le n (bytesBits x) (bytesBits z) w, all-append not (drop n (bytesBits x)) (bytesBits z), zeros-clear (64 - length x))
+      (and-true (clearFrom n x))
+
+pub pad-back : (l : List ℕ) (n c : ℕ) → length l ≡ 64 → Bytes l → n ≤ 64 → c ≤ 8 * n → clearFrom c l ≡ true → laid noBits 0 (take n l) ≡ l
+pad-back l n c s h k w e =
+    let t : length (take n l) ≡ n = length-take-le n l (omega arith) in
+    let few : length (take n l) ≤ 64 = omega arith in
+    let b : c + (8 * n - c) ≡ 8 * n = omega arith in
+    let past : clearFrom (8 * n) l ≡ true =
+    rw (← b, ← drop-drop (8 * n - c) c (bytesBits l)) (all-drop not (8 * n - c) (drop c (bytesBits l)) e) in
+    let zero-rest : drop n l ≡ replicate (length (drop n l)) 0 =
+    clear-zeros (drop n l) (bytes-drop n l h) (rw (← bits-drop n l) past) in
+    let m : length (drop n l) ≡ 64 - n = length-drop n l ∙ ap (λ (a : ℕ). a - n) s in
+    pad-parts (take n l) few ∙ rw (t, ← m, ← zero-rest) (take-append-drop n l)
 
 -- ## One bit replaced
 

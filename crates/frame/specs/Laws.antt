@@ -1,14 +1,15 @@
 -- Laws on lists that the definitions of this crate rest on and that speak of no frame.
 --     Bytes l      every element of l is below 256
 -- Assumes nothing.
-use Prim.Native.Nat.{ℕ, zero, suc, _+_, _<_, _≤_}
+use Prim.Native.Nat.{ℕ, zero, suc, _+_, _-_, _<_, _≤_}
 use mathlib.Core.Path.{_≡_, refl, sym, ap, _∙_}
 use mathlib.Core.Bool.{Bool, true, false, _&&_, and-assoc, false≢true}
 use mathlib.Core.List.{List, [], _∷_, _++_}
 use native.Mathlib.Omega.{arith}
 use native.Mathlib.Numerals.{add-one}
 use native.Mathlib.Nat.{le-of-lt}
-use lib.ListN.{length, set, take, drop, getD, take-append-drop}
+use lib.Dec.{lit<}
+use lib.ListN.{length, set, take, drop, getD, replicate, take-append-drop}
 use lib.Seq.{take-suc, length-take-le, drop-cons, getD-take, getD-drop}
 use Rattle.lists.specs.Fold.{all}
 use Rattle.lists.specs.Laid.{laid, laid-store}
@@ -64,6 +65,25 @@ bytes-set (x ∷ l) zero v h b zero = b
 bytes-set (x ∷ l) zero v h b (suc k) = h (suc k)
 bytes-set (x ∷ l) (suc i) v h b zero = h 0
 bytes-set (x ∷ l) (suc i) v h b (suc k) = bytes-set l i v (λ m. h (suc m)) b k
+
+pub bytes-take : (n : ℕ) (l : List ℕ) → Bytes l → Bytes (take n l)
+bytes-take zero l h k = lit< tt
+bytes-take (suc n) [] h k = h k
+bytes-take (suc n) (x ∷ l) h zero = h 0
+bytes-take (suc n) (x ∷ l) h (suc k) = bytes-take n l (λ m. h (suc m)) k
+
+pub bytes-drop : (n : ℕ) (l : List ℕ) → Bytes l → Bytes (drop n l)
+bytes-drop n l h k = rw (getD-drop n l k 0) (h (n + k))
+
+pub bytes-append-bytes : (l m : List ℕ) → Bytes l → Bytes m → Bytes (l ++ m)
+bytes-append-bytes [] m h g k = g k
+bytes-append-bytes (x ∷ l) m h g zero = h 0
+bytes-append-bytes (x ∷ l) m h g (suc k) = bytes-append-bytes l m (λ i. h (suc i)) g k
+
+pub drop-replicate : {A : Type 0} (n m : ℕ) (a : A) → drop n (replicate m a) ≡ replicate (m - n) a
+drop-replicate zero m a = let e : m - 0 ≡ m = omega arith in rw e
+drop-replicate (suc n) zero a = let e : 0 - suc n ≡ 0 = omega arith in rw e
+drop-replicate (suc n) (suc m) a = let e : suc m - suc n ≡ m - n = omega arith in rw e (drop-replicate n m a)
 
 -- ## A list laid element by element
 

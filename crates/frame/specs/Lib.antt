@@ -3,3 +3,5 @@ pub mod Hex
 pub mod Frames
 pub mod Lines
 pub mod Reading
+pub mod Writing
+pub mod Recording

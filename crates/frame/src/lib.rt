@@ -14,6 +14,24 @@ pub struct Frame {
     pub bits: [u8; 64],
 }
 
+// What stands at a place of a recording.
+pub struct LineRead {
+    pub refusal: u8,
+    // whether nothing stands there, at or past the end
+    pub done: bool,
+    // the place of the next line; where there is nothing to read, the place asked for
+    pub next: usize,
+    // the frame, blank when there is none
+    pub frame: Frame,
+}
+
+// What came of writing a frame.
+pub struct Written {
+    pub refusal: u8,
+    // the place behind the line
+    pub next: usize,
+}
+
 // A frame with no slot yet.
 pub fn blank(presence: bool) -> Frame {
     Frame {
