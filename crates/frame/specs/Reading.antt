@@ -48,7 +48,7 @@ pub data Reading : Type 0 where
 unfoldable pub readDigits : List ℕ → Reading
 readDigits cs = if wellFormed cs then carries (frameIn cs) else refused malformed
 
-abbrev pub readLine : Line → Reading
+unfoldable pub readLine : Line → Reading
 readLine l =
     if ltb longest (length (l .chars)) then refused malformed
     else if all isDigit (l .chars) && l .fed then readDigits (l .chars)
@@ -59,13 +59,21 @@ abbrev pub answered : ℕ → Reading → LineRead
 answered next (carries f) = record { refusal = accepted; done = false; next = next; frame = f }
 answered next (refused n) = record { refusal = n; done = false; next = next; frame = blankFrame false }
 
+pub answered-next : (n : ℕ) (r : Reading) → answered n r .next ≡ n
+answered-next n (carries f) = refl
+answered-next n (refused k) = refl
+
 -- how many bytes of a recording a line takes: its characters, and its feed if it has one
 abbrev pub width : Line → ℕ
 width l = if l .fed then length (l .chars) + 1 else length (l .chars)
 
+-- the answer where there is no line
+abbrev pub doneAt : ℕ → LineRead
+doneAt at = record { refusal = accepted; done = true; next = at; frame = blankFrame false }
+
 -- the answer for the lines from a place on
 abbrev pub firstRead : ℕ → List Line → LineRead
-firstRead at [] = record { refusal = accepted; done = true; next = at; frame = blankFrame false }
+firstRead at [] = doneAt at
 firstRead at (l ∷ ls) = answered (at + width l) (readLine l)
 
 abbrev pub readAt : List ℕ → ℕ → LineRead
@@ -81,7 +89,7 @@ pub record Accepted (l : Line) (f : Frame) : Type 0 where
   pub spelt : frameIn (l .chars) ≡ f
 
 pub read-accepted : (l : Line) (f : Frame) → readLine l ≡ carries f → Accepted l f
-unfolding readDigits
+unfolding readLine readDigits
 read-accepted l f h = by-test (ltb longest (length (l .chars))) refl (all isDigit (l .chars) && l .fed) refl (wellFormed (l .chars)) refl h
   where
     by-test : (t : Bool) → ltb longest (length (l .chars)) ≡ t → (u : Bool) → (all isDigit (l .chars) && l .fed) ≡ u → (v : Bool) → wellFormed (l .chars) ≡ v
@@ -99,7 +107,7 @@ read-accepted l f h = by-test (ltb longest (length (l .chars))) refl (all isDigi
     }
 
 pub accepted-read : (l : Line) (f : Frame) → Accepted l f → readLine l ≡ carries f
-unfolding readDigits
+unfolding readLine readDigits
 accepted-read l f a =
     rw (le-ltb longest (length (l .chars)) (a .short), a .digital, a .ended, a .formed, a .spelt)
 
