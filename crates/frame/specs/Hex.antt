@@ -12,12 +12,15 @@ use mathlib.Core.Path.{_≡_, refl, sym, ap, _∙_}
 use mathlib.Core.Bool.{Bool, true, false, _&&_, false≢true}
 use mathlib.Core.List.{List, [], _∷_, _++_, append-assoc, append-nil}
 use native.Mathlib.Omega.{arith}
-use native.Mathlib.Nat.{pow-suc}
+use native.Mathlib.Nat.{pow-suc, le-of-lt}
+use native.Mathlib.Numerals.{add-one}
 use borrow.Author.Tests.{lt-ltb, le-ltb, le-leb, lt-leb, leb-true, leb-false, ltb-true, ltb-false}
 use lib.Dec.{ltb, leb, lit<}
-use lib.ListN.{length, getD, length-append}
+use lib.ListN.{length, take, getD, length-append}
+use lib.Seq.{take-suc, length-take-le}
 use Rattle.lists.specs.Choice.{if_then_else_}
 use Rattle.lists.specs.Fold.{fold, fold-append, all}
+use Rattle.lists.specs.Laid.{laid, laid-more}
 use Rattle.frame.specs.Laws.{Bytes, all-append, and-left, and-right}
 
 abbrev pub digitOf : ℕ → ℕ
@@ -88,6 +91,26 @@ digit-value c h = numeral (leb 0x30 c && leb c 0x39) refl
         let d : 0x30 + (c - 0x30) ≡ c = omega arith in
         rw (e, lt-ltb (c - 0x30) 10 b) d
     numeral false e = letter (leb 0x41 c && leb c 0x46) refl e
+
+-- the five ranges of characters, by their bounds
+pub value-below : (c : ℕ) → c < 0x30 → 16 ≡ valueOf c
+value-below c h = let k : c < 0x41 = omega arith in rw (lt-leb 0x30 c h, lt-leb 0x41 c k)
+
+pub value-numeral : (c : ℕ) → 0x30 ≤ c → c ≤ 0x39 → c - 0x30 ≡ valueOf c
+value-numeral c h k = rw (le-leb 0x30 c h, le-leb c 0x39 k)
+
+pub value-between : (c : ℕ) → 0x39 < c → c < 0x41 → 16 ≡ valueOf c
+value-between c h k = let l : 0x30 ≤ c = omega arith in rw (le-leb 0x30 c l, lt-leb c 0x39 h, lt-leb 0x41 c k)
+
+pub value-letter : (c : ℕ) → 0x41 ≤ c → c ≤ 0x46 → c - 0x37 ≡ valueOf c
+value-letter c h k =
+    let l : 0x30 ≤ c = omega arith in let m : 0x39 < c = omega arith in
+    rw (le-leb 0x30 c l, lt-leb c 0x39 m, le-leb 0x41 c h, le-leb c 0x46 k)
+
+pub value-above : (c : ℕ) → 0x46 < c → 16 ≡ valueOf c
+value-above c h =
+    let l : 0x30 ≤ c = omega arith in let m : 0x39 < c = omega arith in let n : 0x41 ≤ c = omega arith in
+    rw (le-leb 0x30 c l, lt-leb c 0x39 m, le-leb 0x41 c n, lt-leb c 0x46 h)
 
 pub digit-is : (v : ℕ) → v < 16 → isDigit (digitOf v) ≡ true
 digit-is v h = rw (value-digit v h) (lt-ltb v 16 h)
@@ -212,3 +235,14 @@ hex-bytes (suc n) (a ∷ b ∷ cs) e h =
     let q : (16 * valueOf a + valueOf b) % 16 ≡ valueOf b = omega arith in
     let i = hex-bytes n cs (omega arith) (and-right (isDigit b) (all isDigit cs) more) in
     rw (p, q, digit-value a da, digit-value b db, i)
+
+-- one byte more after those whose digits are laid
+pub laid-hex : (d : List ℕ) (at : ℕ) (bs : List ℕ) (i : ℕ) → i < length bs → at + 2 * length bs ≤ length d
+    → laid (laid d at (hexOf (take i bs))) (at + 2 * i) (digits 2 (getD bs i 0)) ≡ laid d at (hexOf (take (i + 1) bs))
+unfolding hexOf
+laid-hex d at bs i h r =
+    let l : length (hexOf (take i bs)) ≡ 2 * i = hex-length (take i bs) ∙ ap (λ (k : ℕ). 2 * k) (length-take-le i bs (le-of-lt h)) in
+    let f : at + length (hexOf (take i bs)) ≤ length d = omega arith in
+    let more : hexOf (take (i + 1) bs) ≡ hexOf (take i bs) ++ digits 2 (getD bs i 0) =
+    rw (add-one i, take-suc bs i 0 h, hex-append (take i bs) (getD bs i 0 ∷ []), append-nil (digits 2 (getD bs i 0))) in
+    rw (more, ← l) (laid-more d at (hexOf (take i bs)) (digits 2 (getD bs i 0)) f)

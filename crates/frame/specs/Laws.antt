@@ -9,7 +9,7 @@ use native.Mathlib.Omega.{arith}
 use native.Mathlib.Numerals.{add-one}
 use native.Mathlib.Nat.{le-of-lt}
 use lib.Dec.{lit<}
-use lib.ListN.{length, set, take, drop, getD, replicate, take-append-drop}
+use lib.ListN.{length, set, take, drop, getD, replicate, take-append-drop, drop-of-length-le}
 use lib.Seq.{take-suc, length-take-le, drop-cons, getD-take, getD-drop}
 use Rattle.lists.specs.Fold.{all}
 use Rattle.lists.specs.Laid.{laid, laid-store}
@@ -50,6 +50,15 @@ module _ {A : Type 0} (p : A → Bool) where
   all-at [] d i h t = absurd (omega arith)
   all-at (x ∷ l) d zero h t = and-left (p x) (all p l) t
   all-at (x ∷ l) d (suc i) h t = all-at l d i (omega arith) (and-right (p x) (all p l) t)
+
+  -- what is left to look at from place i
+  pub all-from : (l : List A) (d : A) (i : ℕ) → i < length l → all p (drop i l) ≡ (p (getD l i d) && all p (drop (i + 1) l))
+  unfolding all
+  all-from l d i h = rw (drop-cons l i d h, add-one i)
+
+  pub all-past : (l : List A) (i : ℕ) → length l ≤ i → all p (drop i l) ≡ true
+  unfolding all
+  all-past l i h = rw (drop-of-length-le l h)
 
 -- ## A store past the front
 

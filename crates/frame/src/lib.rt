@@ -1,8 +1,8 @@
 // Frames: what the wire showed after one reset, and the line of a recording that carries it.
 ghost use mathlib.Core.Path.{_≡_};
-ghost use Prim.Native.Nat.{ℕ, _+_, _*_, _≤_, _<_};
-ghost use mathlib.Core.Bool.{true};
-ghost use lib.ListN.{length, getD, drop};
+ghost use Rattle.frame.specs.Frames.{blankFrame};
+
+mod hex;
 
 // One reset with the slots after it. Slot i is bit i % 8 of bits[i / 8].
 pub struct Frame {
@@ -33,7 +33,9 @@ pub struct Written {
 }
 
 // A frame with no slot yet.
-pub fn blank(presence: bool) -> Frame {
+pub fn blank(presence: bool) -> Frame
+    ensures answer { λ r. ⌜ r ≡ blankFrame presence ⌝ }
+{
     Frame {
         presence,
         count: 0,
