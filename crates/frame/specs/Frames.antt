@@ -19,14 +19,14 @@ use lib.Pow.{shr-lt}
 use native.Mathlib.Numerals.{add-one}
 use borrow.Author.Tests.{eq-eqb, ne-eqb, eqb-true, eqb-false, lt-ltb, le-leb, leb-true}
 use lib.Dec.{eqb, leb, ltb, lit<}
-use lib.ListN.{length, set, take, drop, getD, replicate, length-set, length-replicate, getD-replicate, length-take, length-drop, length-append, take-append-drop}
-use lib.Seq.{drop-nil, drop-append-add, drop-append-le, drop-at, set-append-left, take-suc-set, drop-set-lt, getD-set-same, getD-set-other, length-take-le, drop-drop}
+use lib.ListN.{length, set, take, drop, getD, replicate, length-set, length-replicate, getD-replicate, length-take, length-drop, length-append, take-append-drop, List·getD-eq-default, drop-of-length-le}
+use lib.Seq.{drop-nil, drop-cons, drop-append-add, drop-append-le, drop-at, set-append-left, take-suc-set, drop-set-lt, getD-set-same, getD-set-other, length-take-le, drop-drop, getD-take}
 use Rattle.lists.specs.Choice.{if_then_else_}
 use Rattle.lists.specs.Fold.{fold, all}
 use Rattle.lists.specs.Laid.{laid}
-use Rattle.bits.specs.Bits.{odd, bitsOf, numberOf, bytesBits, bits-length, bits-number, bits-append, number-lt, bytes-length, bytes-append}
+use Rattle.bits.specs.Bits.{odd, bitAt, bitNumber, bitsOf, bits-at, number-bits, numberOf, bytesBits, bits-length, bits-number, bits-append, number-lt, bytes-length, bytes-append}
 use Rattle.frame.specs.declared.Frame.{Frame}
-use Rattle.frame.specs.Laws.{Bytes, all-append, all-drop, and-left, and-right, set-append-add, bytes-set, bytes-drop, bytes-append-bytes, drop-replicate}
+use Rattle.frame.specs.Laws.{Bytes, all-append, all-drop, and-left, and-right, set-append-add, bytes-set, bytes-drop, bytes-append-bytes, drop-replicate, number-set, byte-bit, one-bit}
 
 -- the most slots that a frame has
 abbrev pub mostSlots : ℕ
@@ -121,6 +121,21 @@ clear-byte k x l h b =
     let s : x / 2 ^ k < 2 ^ (8 - k) = shr-lt (8 - k) k (rw e b) in
     rw (byte-from k x l h, all-append not (bitsOf (8 - k) (x / 2 ^ k)) (bytesBits l), none-zero (8 - k) (x / 2 ^ k) s)
 
+-- the same along a loop over the bytes, from a place within the byte at i on
+module _ (l : List ℕ) (k i : ℕ) where
+  pub clear-start : (n : ℕ) → k ≡ n % 8 → i ≡ n / 8 → clearFrom k (drop i l) ≡ clearFrom n l
+  clear-start n e f =
+      let s : 8 * i + k ≡ n = omega arith in
+      ap (λ (t : List Bool). all not (drop k t)) (sym (bits-drop i l)) ∙ ap (all not) (drop-drop k (8 * i) (bytesBits l))
+      ∙ ap (λ (m : ℕ). clearFrom m l) s
+
+  pub clear-step : k < 8 → i < length l → getD l i 0 < 256 → clearFrom k (drop i l) ≡ (eqb (getD l i 0 / 2 ^ k) 0 && clearFrom 0 (drop (i + 1) l))
+  clear-step h j b = rw (drop-cons l i 0 j, add-one i) (clear-byte k (getD l i 0) (drop (suc i) l) h b)
+
+  pub clear-end : length l ≤ i → clearFrom k (drop i l) ≡ true
+  unfolding bytesBits all
+  clear-end h = rw (drop-of-length-le l h, drop-nil {A = Bool} k)
+
 -- ## Zero bytes
 
 zeros-bytes : (n : ℕ) → Bytes (replicate n 0)
@@ -182,12 +197,19 @@ with-bits x i b =
     let e : length s ≡ 8 = length-set (bitsOf 8 x) i b ∙ bits-length 8 x in
     ap (λ (k : ℕ). bitsOf k (numberOf s)) (sym e) ∙ bits-number s
 
-with-lt : (x i : ℕ) (b : Bool) → withBit x i b < 256
+pub with-lt : (x i : ℕ) (b : Bool) → withBit x i b < 256
 with-lt x i b =
     let s = set (bitsOf 8 x) i b in
     let e : length s ≡ 8 = length-set (bitsOf 8 x) i b ∙ bits-length 8 x in
     let h = number-lt s in
     rw e at h
+
+pub with-sum : (x i : ℕ) (b : Bool) → x < 256 → i < 8 → withBit x i b + x / 2 ^ i % 2 * 2 ^ i ≡ x + bitNumber b * 2 ^ i
+with-sum x i b h k =
+    let w : i < length (bitsOf 8 x) = rw (bits-length 8 x) k in
+    let o : x / 2 ^ i % 2 ≤ 1 = omega arith in
+    let e = number-set (bitsOf 8 x) i b w in
+    rw (bits-at 8 x i k, number-bits 8 x h, one-bit (x / 2 ^ i % 2) o) at e
 
 bits-set : (l : List ℕ) (q j : ℕ) (b : Bool) → j < 8 → q < length l
     → bytesBits (set l q (withBit (getD l q 0) j b)) ≡ set (bytesBits l) (8 * q + j) b
@@ -205,6 +227,26 @@ pub slot-set : (l : List ℕ) (i : ℕ) (b : Bool) → i < 8 * length l → byte
 slot-set l i b h =
     let e : 8 * (i / 8) + i % 8 ≡ i = omega arith in
     bits-set l (i / 8) (i % 8) b (omega arith) (omega arith) ∙ ap (λ (k : ℕ). set (bytesBits l) k b) e
+
+-- ## One slot by its place
+
+pub slot-here : (f : Frame) (i : ℕ) → length (f .bits) ≡ 64 → i < f .count → i < mostSlots
+    → slotBit f i ≡ bitAt (getD (f .bits) (i / 8) 0) (i % 8)
+slot-here f i s h k =
+    let e : 8 * (i / 8) + i % 8 ≡ i = omega arith in
+    getD-take (f .count) (bytesBits (f .bits)) i false h
+    ∙ ap (λ (n : ℕ). getD (bytesBits (f .bits)) n false) (sym e) ∙ byte-bit (f .bits) (i / 8) (i % 8) (omega arith) (omega arith)
+
+pub slot-none : (f : Frame) (i : ℕ) → f .count ≤ i → slotBit f i ≡ false
+slot-none f i h =
+    let l : length (slotsOf f) ≤ i = rw (length-take (f .count) (bytesBits (f .bits))) (omega arith) in
+    List·getD-eq-default (slotsOf f) false l
+
+pub slot-past : (f : Frame) (i : ℕ) → length (f .bits) ≡ 64 → mostSlots ≤ i → slotBit f i ≡ false
+slot-past f i s h =
+    let w = bytes-length (f .bits) in
+    let l : length (slotsOf f) ≤ i = rw (length-take (f .count) (bytesBits (f .bits))) (omega arith) in
+    List·getD-eq-default (slotsOf f) false l
 
 -- ## One slot more
 

@@ -1,18 +1,19 @@
 -- Laws on lists that the definitions of this crate rest on and that speak of no frame.
 --     Bytes l      every element of l is below 256
 -- Assumes nothing.
-use Prim.Native.Nat.{ℕ, zero, suc, _+_, _-_, _<_, _≤_}
+use Prim.Native.Nat.{ℕ, zero, suc, _+_, _-_, _*_, _/_, _^_, _<_, _≤_}
 use mathlib.Core.Path.{_≡_, refl, sym, ap, _∙_}
 use mathlib.Core.Bool.{Bool, true, false, _&&_, and-assoc, false≢true}
 use mathlib.Core.List.{List, [], _∷_, _++_}
 use native.Mathlib.Omega.{arith}
 use native.Mathlib.Numerals.{add-one}
-use native.Mathlib.Nat.{le-of-lt}
-use lib.Dec.{lit<}
-use lib.ListN.{length, set, take, drop, getD, replicate, take-append-drop, drop-of-length-le}
-use lib.Seq.{take-suc, length-take-le, drop-cons, getD-take, getD-drop}
+use native.Mathlib.Nat.{le-of-lt, pow-succ', mul-left-comm}
+use lib.Dec.{eqb, lit<}
+use lib.ListN.{length, set, take, drop, getD, replicate, take-append-drop, drop-of-length-le, List·getD-append}
+use lib.Seq.{take-suc, length-take-le, drop-cons, getD-take, getD-drop, getD-append-add}
 use Rattle.lists.specs.Fold.{all}
 use Rattle.lists.specs.Laid.{laid, laid-store}
+use Rattle.bits.specs.Bits.{bitNumber, bitAt, bitsOf, numberOf, bytesBits, bits-length, bits-at}
 
 abbrev pub Bytes : List ℕ → Type 0
 Bytes l = (k : ℕ) → getD l k 0 < 256
@@ -26,6 +27,38 @@ and-left false b e = e
 pub and-right : (a b : Bool) → (a && b) ≡ true → b ≡ true
 and-right true b e = e
 and-right false b e = absurd (false≢true e)
+
+-- a number that is 0 or 1, as a truth value and back
+pub one-bit : (n : ℕ) → n ≤ 1 → bitNumber (eqb n 1) ≡ n
+one-bit zero h = refl
+one-bit (suc zero) h = refl
+one-bit (suc (suc n)) h = absurd (omega arith)
+
+-- ## Bits
+
+-- one bit replaced: what it was worth goes, and what it is worth comes
+pub number-set : (bs : List Bool) (i : ℕ) (b : Bool) → i < length bs
+    → numberOf (set bs i b) + bitNumber (getD bs i false) * 2 ^ i ≡ numberOf bs + bitNumber b * 2 ^ i
+unfolding numberOf
+number-set [] i b h = absurd (omega arith)
+number-set (a ∷ bs) zero b h = omega arith
+number-set (a ∷ bs) (suc i) b h =
+    let e = number-set bs i b (omega arith) in
+    let twice : (n : ℕ) → n * 2 ^ suc i ≡ 2 * (n * 2 ^ i) = λ n. rw (pow-succ' 2 i) (mul-left-comm n 2 (2 ^ i)) in
+    let x = twice (bitNumber (getD bs i false)) in let y = twice (bitNumber b) in
+    omega arith
+
+-- the bits of a byte among those of all bytes
+pub byte-bit : (l : List ℕ) (q j : ℕ) → j < 8 → q < length l → getD (bytesBits l) (8 * q + j) false ≡ bitAt (getD l q 0) j
+unfolding bytesBits
+byte-bit [] q j h k = absurd (omega arith)
+byte-bit (x ∷ l) zero j h k =
+    let e : 8 * 0 + j ≡ j = omega arith in
+    let w : j < length (bitsOf 8 x) = rw (bits-length 8 x) h in
+    rw (e, List·getD-append (bitsOf 8 x) (bytesBits l) false j w) (bits-at 8 x j h)
+byte-bit (x ∷ l) (suc q) j h k =
+    let e : 8 * suc q + j ≡ length (bitsOf 8 x) + (8 * q + j) = rw (bits-length 8 x) (omega arith) in
+    rw (e, getD-append-add (bitsOf 8 x) (bytesBits l) (8 * q + j) false) (byte-bit l q j h (omega arith))
 
 -- ## All of a list
 

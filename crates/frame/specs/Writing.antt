@@ -21,7 +21,7 @@ use Rattle.bits.specs.Bits.{bitNumber, bytesBits, bytes-append}
 use Rattle.refusals.specs.Refusals.{accepted, noRoom, malformed}
 use Rattle.frame.specs.declared.Frame.{Frame}
 use Rattle.frame.specs.declared.Written.{Written}
-use Rattle.frame.specs.Laws.{Bytes, and-left, and-right, all-append, all-take, all-drop, bytes-take}
+use Rattle.frame.specs.Laws.{Bytes, and-left, and-right, all-append, all-take, all-drop, bytes-take, one-bit}
 use Rattle.frame.specs.Hex.{isDigit, digits, numberIn, hexOf, bytesOf, digits-length, digits-are, number-digits, digits-number, hex-length, hex-are, bytes-hex, hex-bytes, bytes-length, bytes-bytes}
 use Rattle.frame.specs.Frames.{noBits, bytesFor, clearFrom, lineable, mostSlots, Held, pad-back, pad-length, pad-bytes}
 use Rattle.frame.specs.Lines.{Line, lineFeed}
@@ -79,11 +79,6 @@ bit-one false = refl
 bit-le : (b : Bool) → bitNumber b ≤ 1
 bit-le true = lit≤ tt
 bit-le false = lit≤ tt
-
-one-bit : (n : ℕ) → n ≤ 1 → bitNumber (eqb n 1) ≡ n
-one-bit zero h = refl
-one-bit (suc zero) h = refl
-one-bit (suc (suc n)) h = absurd (omega arith)
 
 -- ## The line's shape
 
