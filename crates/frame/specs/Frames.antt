@@ -51,8 +51,12 @@ bytesFor n = (n + 7) / 8
 abbrev pub clearFrom : ℕ → List ℕ → Bool
 clearFrom n l = all not (drop n (bytesBits l))
 
+-- whether a frame may have n slots: at most 512, and none without presence
+abbrev pub countAllowed : Bool → ℕ → Bool
+countAllowed p n = leb n mostSlots && (p || eqb n 0)
+
 abbrev pub lineable : Frame → Bool
-lineable f = leb (f .count) mostSlots && (f .presence || eqb (f .count) 0) && clearFrom (f .count) (f .bits)
+lineable f = countAllowed (f .presence) (f .count) && clearFrom (f .count) (f .bits)
 
 -- a byte with bit i replaced
 abbrev pub withBit : ℕ → ℕ → Bool → ℕ
@@ -284,7 +288,7 @@ module _ (f : Frame) (b : Bool) (held : Held f) (room : f .count < mostSlots) wh
       let all-bits = bytesBits (f .bits) in
       let few : f .count + 1 ≤ mostSlots = omega arith in
       let past : f .count < f .count + 1 = omega arith in
-      let clear : all not (drop (f .count) all-bits) ≡ true = and-right (leb (f .count) mostSlots && (f .presence || eqb (f .count) 0)) (clearFrom (f .count) (f .bits)) h in
+      let clear : all not (drop (f .count) all-bits) ≡ true = and-right (countAllowed (f .presence) (f .count)) (clearFrom (f .count) (f .bits)) h in
       rw (more, places, le-leb (f .count + 1) mostSlots few, p, drop-set-lt (f .count + 1) all-bits (f .count) b past, ← drop-drop 1 (f .count) all-bits)
       (all-drop not 1 (drop (f .count) all-bits) clear)
 

@@ -23,7 +23,7 @@ use Rattle.frame.specs.declared.Frame.{Frame}
 use Rattle.frame.specs.declared.Written.{Written}
 use Rattle.frame.specs.Laws.{Bytes, and-left, and-right, all-append, all-take, all-drop, bytes-take, one-bit}
 use Rattle.frame.specs.Hex.{isDigit, digits, numberIn, hexOf, bytesOf, digits-length, digits-are, number-digits, digits-number, hex-length, hex-are, bytes-hex, hex-bytes, bytes-length, bytes-bytes}
-use Rattle.frame.specs.Frames.{noBits, bytesFor, clearFrom, lineable, mostSlots, Held, pad-back, pad-length, pad-bytes}
+use Rattle.frame.specs.Frames.{noBits, bytesFor, countAllowed, clearFrom, lineable, mostSlots, Held, pad-back, pad-length, pad-bytes}
 use Rattle.frame.specs.Lines.{Line, lineFeed}
 use Rattle.frame.specs.Reading.{longest, presenceIn, countIn, frameIn, wellFormed, readLine, carries, Accepted, read-accepted, accepted-read}
 
@@ -61,10 +61,10 @@ writeLeaves s at f = if lineable f && fits s at f then laid s at (fedLine f) els
 
 module _ (f : Frame) (h : lineable f ≡ true) where
   pub lineable-count : f .count ≤ mostSlots
-  lineable-count = leb-true (f .count) mostSlots (and-left (leb (f .count) mostSlots) (f .presence || eqb (f .count) 0) (and-left (leb (f .count) mostSlots && (f .presence || eqb (f .count) 0)) (clearFrom (f .count) (f .bits)) h))
+  lineable-count = leb-true (f .count) mostSlots (and-left (leb (f .count) mostSlots) (f .presence || eqb (f .count) 0) (and-left (countAllowed (f .presence) (f .count)) (clearFrom (f .count) (f .bits)) h))
 
   pub lineable-clear : clearFrom (f .count) (f .bits) ≡ true
-  lineable-clear = and-right (leb (f .count) mostSlots && (f .presence || eqb (f .count) 0)) (clearFrom (f .count) (f .bits)) h
+  lineable-clear = and-right (countAllowed (f .presence) (f .count)) (clearFrom (f .count) (f .bits)) h
 
 -- ## A truth value as a number
 

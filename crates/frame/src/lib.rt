@@ -1,9 +1,11 @@
 // Frames: what the wire showed after one reset, and the line of a recording that carries it.
 ghost use mathlib.Core.Path.{_≡_};
-ghost use Prim.Native.Nat.{_<_};
-ghost use Rattle.frame.specs.Frames.{blankFrame, slotBit, pushed, withBit, clearFrom, lineable};
+ghost use Prim.Native.Nat.{_<_, _≤_};
+ghost use Rattle.frame.specs.Frames.{blankFrame, slotBit, pushed, withBit, clearFrom, countAllowed, lineable, bytesFor};
+ghost use Rattle.frame.specs.Reading.{readAt};
 
 mod hex;
+mod reading;
 
 // The most slots that a frame has.
 pub const MOST_SLOTS: u16 = 512;
@@ -109,19 +111,55 @@ fn clear_from(bytes: &[u8], place: u16) -> bool
     true
 }
 
+// Whether a frame may have so many slots.
+fn count_allowed(presence: bool, count: u16) -> bool
+    ensures { λ r. ⌜ r ≡ countAllowed presence count ⌝ }
+{
+    if MOST_SLOTS < count {
+        return false;
+    }
+    if presence {
+        return true;
+    }
+    count == 0
+}
+
 // Whether a line can carry the frame.
 fn can_carry(f: Frame) -> bool
     ensures { λ r. ⌜ r ≡ lineable f ⌝ }
 {
     let count = f.count;
     let bits = f.bits;
-    if MOST_SLOTS < count {
+    let allowed = count_allowed(f.presence, count);
+    if !allowed {
         return false;
     }
-    if !f.presence {
-        if count != 0 {
-            return false;
-        }
-    }
     clear_from(&bits, count)
+}
+
+// How many bytes the slots take.
+fn bytes_for(count: u16) -> usize
+    requires { ⌜ count ≤ 512 ⌝ }
+    ensures { λ r. ⌜ r ≡ bytesFor count ⌝ }
+{
+    ((count + 7) / 8) as usize
+}
+
+// The line that starts at a place, and the place of the next; done at or past the end.
+pub fn read_at(s: &[u8], at: usize) -> LineRead
+    ensures answer { λ r. ⌜ r ≡ readAt (now (s .entry)) at ⌝ }
+{
+    if s.len() <= at {
+        return LineRead {
+            refusal: refusals::ACCEPTED,
+            done: true,
+            next: at,
+            frame: blank(false),
+        };
+    }
+    let end = reading::line_end(s, at);
+    if end < s.len() {
+        return reading::read_line(&s[at..end], true, end + 1);
+    }
+    reading::read_line(&s[at..end], false, end)
 }
