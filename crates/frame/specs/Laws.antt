@@ -12,7 +12,7 @@ use lib.Dec.{eqb, lit<}
 use lib.ListN.{length, set, take, drop, getD, replicate, take-append-drop, drop-of-length-le, List·getD-append}
 use lib.Seq.{take-suc, length-take-le, drop-cons, getD-take, getD-drop, getD-append-add}
 use Rattle.lists.specs.Fold.{all}
-use Rattle.lists.specs.Laid.{laid, laid-store}
+use Rattle.lists.specs.Laid.{laid, laid-store, laid-more}
 use Rattle.bits.specs.Bits.{bitNumber, bitAt, bitsOf, numberOf, bytesBits, bits-length, bits-at}
 
 abbrev pub Bytes : List ℕ → Type 0
@@ -134,3 +134,8 @@ pub laid-next : {A : Type 0} (d : List A) (at : ℕ) (x : List A) (i n : ℕ) (z
 laid-next d at x i n z v e h k same =
     let l : at + length (take i x) ≡ n = rw (length-take-le i x (le-of-lt h)) e in
     laid-store d at (take i x) v n l k ∙ rw (add-one i, take-suc x i z h, same)
+
+-- one list laid just behind another
+pub laid-then : {A : Type 0} (d : List A) (at : ℕ) (x y : List A) (n : ℕ) → at + length x ≡ n → n ≤ length d
+    → laid (laid d at x) n y ≡ laid d at (x ++ y)
+laid-then d at x y n e h = rw (← e) (laid-more d at x y (omega arith))

@@ -3,9 +3,14 @@ ghost use mathlib.Core.Path.{_≡_};
 ghost use Prim.Native.Nat.{_<_, _≤_};
 ghost use Rattle.frame.specs.Frames.{blankFrame, slotBit, pushed, withBit, clearFrom, countAllowed, lineable, bytesFor};
 ghost use Rattle.frame.specs.Reading.{readAt};
+ghost use Rattle.frame.specs.Writing.{writeAnswer, writeLeaves};
 
 mod hex;
 mod reading;
+mod writing;
+
+// The character that ends a line.
+pub const LINE_FEED: u8 = 0x0A;
 
 // The most slots that a frame has.
 pub const MOST_SLOTS: u16 = 512;
@@ -162,4 +167,37 @@ pub fn read_at(s: &[u8], at: usize) -> LineRead
         return reading::read_line(&s[at..end], true, end + 1);
     }
     reading::read_line(&s[at..end], false, end)
+}
+
+// The frame's line with its feed, written at a place. A frame that no line can carry is refused before a lack of room.
+pub fn write_at(s: &mut [u8], at: usize, f: Frame) -> Written
+    ensures answer { λ r. ⌜ r ≡ writeAnswer (now (s .entry)) at f ⌝ }
+    ensures left { λ r. ⌜ now (s .exit) ≡ writeLeaves (now (s .entry)) at f ⌝ }
+{
+    let sound = can_carry(f);
+    if !sound {
+        return Written {
+            refusal: refusals::MALFORMED,
+            next: 0,
+        };
+    }
+    let count = f.count;
+    let width = 7 + 2 * bytes_for(count);
+    if s.len() < at {
+        return Written {
+            refusal: refusals::NO_ROOM,
+            next: 0,
+        };
+    }
+    if s.len() - at < width {
+        return Written {
+            refusal: refusals::NO_ROOM,
+            next: 0,
+        };
+    }
+    writing::put_line(s, at, f);
+    Written {
+        refusal: refusals::ACCEPTED,
+        next: at + width,
+    }
 }

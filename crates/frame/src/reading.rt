@@ -10,10 +10,9 @@ ghost use Rattle.frame.specs.Lines.{feedAt};
 ghost use Rattle.frame.specs.Reading.{countIn, readSlots, readDigits, readLine, answered, refused};
 
 use crate::Frame;
+use crate::LINE_FEED;
 use crate::LineRead;
 use super::hex;
-
-const LINE_FEED: u8 = 0x0A;
 
 // The most characters before a feed.
 const LONGEST: usize = 134;
