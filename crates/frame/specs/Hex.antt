@@ -83,6 +83,7 @@ digit-value c h = numeral (leb 0x30 c && leb c 0x39) refl
         let d : 0x37 + (c - 0x37) ≡ c = omega arith in
         rw (n, e, le-ltb (c - 0x37) 10 b) d
     letter false e n = absurd (false≢true (rw (n, e) at h))
+
     numeral : (t : Bool) → (leb 0x30 c && leb c 0x39) ≡ t → digitOf (valueOf c) ≡ c
     numeral true e =
         let a : 0x30 ≤ c = leb-true 0x30 c (and-left (leb 0x30 c) (leb c 0x39) e) in

@@ -8,11 +8,10 @@ ghost use Rattle.frame.specs.Hex.{isDigit};
 ghost use Rattle.frame.specs.Frames.{bytesFor};
 ghost use Rattle.frame.specs.Lines.{feedAt};
 ghost use Rattle.frame.specs.Reading.{countIn, readSlots, readDigits, readLine, answered, refused};
-
+use super::hex;
 use crate::Frame;
 use crate::LINE_FEED;
 use crate::LineRead;
-use super::hex;
 
 // The most characters before a feed.
 const LONGEST: usize = 134;

@@ -6,10 +6,9 @@ ghost use Rattle.lists.specs.Laid.{laid};
 ghost use Rattle.bits.specs.Bits.{bitNumber};
 ghost use Rattle.frame.specs.Frames.{bytesFor};
 ghost use Rattle.frame.specs.Writing.{headOf, fedLine};
-
+use super::hex;
 use crate::Frame;
 use crate::LINE_FEED;
-use super::hex;
 
 // The byte that says whether there was presence.
 fn presence_byte(presence: bool) -> u8

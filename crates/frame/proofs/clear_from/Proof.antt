@@ -57,8 +57,7 @@ loop-less c = search needs
 loop-again : tie.Need-loop-again Inv-loop μ-loop
 loop-again c =
     let l = c .before .before .before in
-    let x = getD (now (l .before .args .bytes)) (l .loop .i) 0 in
-    (
+    let x = getD (now (l .before .args .bytes)) (l .loop .i) 0 in (
       lit< tt,
       sym (step (c .before) ∙ rw (eq-eqb (x / 2 ^ l .loop .from) 0 (c .if1 .left))) ∙ l .loop .inv .1,
     )

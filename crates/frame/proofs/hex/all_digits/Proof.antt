@@ -43,8 +43,7 @@ loop-less c = search needs
 loop-again : tie.Need-loop-again Inv-loop μ-loop
 loop-again c =
     let l = c .before .before .before .before in
-    let good : isDigit (getD (l .before .before .args .s .now) (l .loop .i) 0) ≡ true = ap (λ (v : ℕ). ltb v 16) (sym (c .before .value .ensures)) ∙ lt-ltb _ _ (c .if1 .left) in
-    (
+    let good : isDigit (getD (l .before .before .args .s .now) (l .loop .i) 0) ≡ true = ap (λ (v : ℕ). ltb v 16) (sym (c .before .value .ensures)) ∙ lt-ltb _ _ (c .if1 .left) in (
       omega arith,
       sym (rw (all-from isDigit (l .before .before .args .s .now) 0 (l .loop .i) (c .before .before .before .loop-test .taken), good)) ∙ l .loop .inv .1,
     )

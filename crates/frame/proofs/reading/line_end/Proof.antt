@@ -34,8 +34,7 @@ loop-less c = search needs
 
 loop-again : tie.Need-loop-again Inv-loop μ-loop
 loop-again c =
-    let l = c .before .before .before in
-    (
+    let l = c .before .before .before in (
       omega arith,
       sym (feed-on (now (l .before .args .s)) (l .loop .i) (c .before .before .loop-test .taken) (c .if1 .left)) ∙ l .loop .inv .1,
     )

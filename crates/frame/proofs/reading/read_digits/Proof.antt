@@ -116,8 +116,7 @@ read-slots-requires c κs =
     let a = b .before .before .before .before .before in
     let cs = now (a .args .line) in
     let e = b .count-of .ensures in
-    let l = long (c .before) in
-    (
+    let l = long (c .before) in (
       rw e (small (c .before .before .before)),
       rw (rest cs, e) (length-drop 6 cs ∙ omega arith),
       rw (rest cs) (all-drop isDigit 6 cs (a .pre)),
