@@ -1,4 +1,4 @@
-// A master over the bench: reading and writing at a code.
+// A master over the bench: reading and writing at a code, search and alarm search.
 mod at_code;
 mod wire;
 
@@ -11,5 +11,16 @@ pub struct Access {
     pub refusal: u8,
     pub pad: [u8; 9],
     pub reading: Reading,
+    pub bench: Bench,
+}
+
+// The answer of a search: how many codes it listed, passes and slots it made, and bytes it recorded,
+// or a refusal with zeros; and the bench as the last slot left it.
+pub struct Searched {
+    pub refusal: u8,
+    pub codes: u8,
+    pub passes: u8,
+    pub slots: u16,
+    pub bytes: u16,
     pub bench: Bench,
 }
