@@ -27,6 +27,7 @@ use Rattle.device.specs.Record.{rowOf}
 use Rattle.device.specs.declared.Device.{Device}
 use Rattle.device.specs.declared.Joining.{Joining}
 use Rattle.device.specs.declared.Page.{Page}
+use Rattle.device.specs.declared.Settings.{Settings}
 use Rattle.bench.specs.Bench.{emptyBench, placeOf}
 use Rattle.bench.specs.Slot.{slotted, resetDone}
 use Rattle.bench.specs.Calls.{addedTo, conversionFinished, copyFinished, powerCycled, deviceAt}
@@ -49,7 +50,7 @@ pub data Call : Type 0 where
   search : ℕ → ℕ → Call
   searchAlarms : ℕ → ℕ → Call
   read : ℕ → Call
-  write : ℕ → ℕ → ℕ → ℕ → Call
+  write : ℕ → Settings → Call
 
 abbrev pub Code64 : ℕ → Type 0
 Code64 code = code < 2 ^ 64
@@ -67,7 +68,7 @@ Typed (powerCycle code) = Code64 code
 Typed (search places room) = Code64 places × Code64 room
 Typed (searchAlarms places room) = Code64 places × Code64 room
 Typed (read code) = Code64 code
-Typed (write code high low configuration) = Code64 code × Byte high × Byte low × Byte configuration
+Typed (write code s) = Code64 code × Byte (s .high) × Byte (s .low) × Byte (s .configuration)
 
 -- ## The bench
 
@@ -81,7 +82,7 @@ apply b (powerCycle code) = powerCycled b code .bench
 apply b (search places room) = searchOutcome searchRom b places room .bench
 apply b (searchAlarms places room) = searchOutcome alarmSearch b places room .bench
 apply b (read code) = readAt b code .bench
-apply b (write code high low configuration) = writeAt b code high low configuration .bench
+apply b (write code s) = writeAt b code s .bench
 
 -- ## What a call enters in the book
 
@@ -118,7 +119,7 @@ entry b (powerCycle code) = ifAccepted (powerCycled b code) (empties code)
 entry b (search places room) = nothing
 entry b (searchAlarms places room) = nothing
 entry b (read code) = nothing
-entry b (write code high low configuration) = nothing
+entry b (write code s) = nothing
 
 -- ## The history
 

@@ -14,6 +14,18 @@ pub struct Access {
     pub bench: Bench,
 }
 
+// What eight read slots gave: the byte that the line showed, and the bench after them.
+struct ByteRead {
+    byte: u8,
+    bench: Bench,
+}
+
+// What the 72 read slots of a scratchpad gave.
+struct Reply {
+    pad: [u8; 9],
+    bench: Bench,
+}
+
 // The answer of a search: how many codes it listed, passes and slots it made, and bytes it recorded,
 // or a refusal with zeros; and the bench as the last slot left it.
 pub struct Searched {

@@ -68,7 +68,7 @@ module _ (B : Bus) where
 
   -- ## How many slots
 
-  slots-length : (xs : List Bool) (ds : B .Devices) → length (slots B xs ds .lines) ≡ length xs
+  pub slots-length : (xs : List Bool) (ds : B .Devices) → length (slots B xs ds .lines) ≡ length xs
   unfolding slots
   slots-length [] ds = refl
   slots-length (x ∷ xs) ds = ap suc (slots-length xs (B .after x ds))

@@ -1,4 +1,5 @@
 use borrow.Author.Needs.{needs}
+use Rattle.master.specs.Access.{addressed}
 use Rattle.master.proofs.at_code.address.Statement.{statement}
 use Rattle.master.proofs.at_code.address.Tie as tie
 
@@ -15,6 +16,7 @@ send-requires-3 : tie.Need-send-requires-3
 send-requires-3 c κs = search needs
 
 returns : tie.Need-returns
+unfolding addressed
 returns c = simp (c .before .before .send .ensures, c .before .send2 .ensures, c .send3 .ensures)
 
 pub address-spec : {M : Type 1} → statement M
