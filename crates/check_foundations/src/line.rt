@@ -90,8 +90,8 @@ pub fn code(code: u64, right: u8) {
     end(got == right);
 }
 
-// What a family stores for the sensor's count, as the register's digits, and what it reads back from
-// the digits of the source.
+// What a family stores for the sensor's count, as the register's digits, and what it reads back
+// from the digits of the source.
 pub fn stored(
     label: &[u8],
     family: u8,

@@ -19,7 +19,7 @@ use line::sixteenths;
 use line::stored;
 use line::widened;
 
-// The configuration at each resolution.
+// The configuration of B at each resolution.
 const BITS_9: u8 = 0x1F;
 
 const BITS_10: u8 = 0x3F;
@@ -169,46 +169,19 @@ fn single_precision() {
 // A limit byte from 80h on is negative, both limits alarm at equality, and they may cross.
 fn alarms() {
     say(b"\nAlarms\n");
-    alarm(b"P9", read(DS18B20, 0xFFF8), 50, 0xFF, true);
-    alarm(b"P10", read(DS18B20, 0xFFF8), 1, 0xFE, false);
-    alarm(b"P11", read(DS18B20, 0x0191), 25, 0, true);
-    alarm(b"P12", read(DS18B20, 0x0191), 26, 24, false);
-    alarm(b"at the low limit", read(DS18B20, 0x0191), 26, 25, true);
-    alarm(
-        b"low above high, between",
-        read(DS18B20, 0x0191),
-        10,
-        30,
-        true,
-    );
-    alarm(
-        b"low above high, above",
-        read(DS18B20, 0x0191),
-        10,
-        20,
-        true,
-    );
-    alarm(
-        b"low above high, below",
-        read(DS18B20, 0x0191),
-        30,
-        40,
-        true,
-    );
-    alarm(
-        b"80h as the low limit",
-        read(DS18B20, 0xFC90),
-        0x7F,
-        0x80,
-        false,
-    );
-    alarm(
-        b"80h as the high limit",
-        read(DS18B20, 0xFC90),
-        0x80,
-        0x80,
-        true,
-    );
+    let half_below = read(DS18B20, 0xFFF8);
+    alarm(b"P9", half_below, 50, 0xFF, true);
+    alarm(b"P10", half_below, 1, 0xFE, false);
+    let warm = read(DS18B20, 0x0191);
+    alarm(b"P11", warm, 25, 0, true);
+    alarm(b"P12", warm, 26, 24, false);
+    alarm(b"at the low limit", warm, 26, 25, true);
+    alarm(b"low above high, between", warm, 10, 30, true);
+    alarm(b"low above high, above", warm, 10, 20, true);
+    alarm(b"low above high, below", warm, 30, 40, true);
+    let coldest = read(DS18B20, 0xFC90);
+    alarm(b"80h as the low limit", coldest, 0x7F, 0x80, false);
+    alarm(b"80h as the high limit", coldest, 0x80, 0x80, true);
     alarm(b"S", read(DS18S20, 0xFFFF), 50, 0xFF, true);
     alarm(b"S", read(DS18S20, 0xFFFF), 1, 0xFE, false);
     alarm(b"S", read(DS18S20, 0x0033), 26, 24, false);
@@ -221,66 +194,27 @@ fn pad(bits: u16, configuration: u8, crc: u8) -> [u8; 9] {
     [low, high, 0x4B, 0x46, configuration, 0xFF, 0x0C, 0x10, crc]
 }
 
+fn accepted_b(label: &[u8], bytes: [u8; 9], count: i16) {
+    judged(label, DS18B20, bytes, 0, sixteenths(count));
+}
+
+fn accepted_s(label: &[u8], bytes: [u8; 9], count: i16) {
+    judged(label, DS18S20, bytes, 0, halves(count));
+}
+
+// Every bit of a B reading counts, also those below the step; byte 4 of S is not judged.
 fn scratchpads_accepted() {
     say(b"\nScratchpads\n");
-    judged(
-        b"B at power-up",
-        DS18B20,
-        pad(0x0550, 0x7F, 0x1C),
-        0,
-        sixteenths(1360),
-    );
-    judged(
-        b"S at power-up",
-        DS18S20,
-        pad(0x00AA, 0xFF, 0x87),
-        0,
-        halves(170),
-    );
-    judged(
-        b"B 0191",
-        DS18B20,
-        pad(0x0191, 0x7F, 0x70),
-        0,
-        sixteenths(401),
-    );
-    judged(
-        b"B 0191 at 9 bits",
-        DS18B20,
-        pad(0x0191, 0x1F, 0xE0),
-        0,
-        sixteenths(401),
-    );
-    judged(
-        b"S, 00 in byte 4",
-        DS18S20,
-        pad(0x0032, 0x00, 0x80),
-        0,
-        halves(50),
-    );
-    judged(
-        b"S, 7F in byte 4",
-        DS18S20,
-        pad(0x0032, 0x7F, 0xB2),
-        0,
-        halves(50),
-    );
-    judged(
-        b"B 07D0",
-        DS18B20,
-        pad(0x07D0, 0x7F, 0xF4),
-        0,
-        sixteenths(2000),
-    );
-    judged(
-        b"B FC90",
-        DS18B20,
-        pad(0xFC90, 0x7F, 0x4F),
-        0,
-        sixteenths(-880),
-    );
-    judged(b"S 00FA", DS18S20, pad(0x00FA, 0xFF, 0x9A), 0, halves(250));
-    judged(b"S FF92", DS18S20, pad(0xFF92, 0xFF, 0x57), 0, halves(-110));
+    accepted_b(b"B at power-up", pad(0x0550, 0x7F, 0x1C), 1360);
+    accepted_s(b"S at power-up", pad(0x00AA, 0xFF, 0x87), 170);
+    accepted_b(b"B 0191", pad(0x0191, 0x7F, 0x70), 401);
+    accepted_b(b"B 0191 at 9 bits", pad(0x0191, 0x1F, 0xE0), 401);
+    accepted_s(b"S, 00 in byte 4", pad(0x0032, 0x00, 0x80), 50);
+    accepted_s(b"S, 7F in byte 4", pad(0x0032, 0x7F, 0xB2), 50);
+    accepted_b(b"B 07D0", pad(0x07D0, 0x7F, 0xF4), 2000);
+    accepted_b(b"B FC90", pad(0xFC90, 0x7F, 0x4F), -880);
+    accepted_s(b"S 00FA", pad(0x00FA, 0xFF, 0x9A), 250);
+    accepted_s(b"S FF92", pad(0xFF92, 0xFF, 0x57), -110);
 }
 
 // A refusal has a reading of zero sixteenths.
