@@ -64,76 +64,64 @@ fn codes() {
     code(0xFA00_0000_0000_0010, 5);
 }
 
+fn stored_b(label: &[u8], configuration: u8, count: i16, kept: i16, digits: u16) {
+    stored(
+        label,
+        DS18B20,
+        configuration,
+        count,
+        sixteenths(kept),
+        digits,
+    );
+}
+
+// S has no configuration.
+fn stored_s(label: &[u8], count: i16, kept: i16, digits: u16) {
+    stored(label, DS18S20, 0, count, halves(kept), digits);
+}
+
 // The sheets' tables of temperatures and digital output.
 fn table_of_the_ds1820() {
     say(b"\nDS1820, Table 1\n");
-    stored(b"+125", DS18S20, 0, 2000, halves(250), 0x00FA);
-    stored(b"+25", DS18S20, 0, 400, halves(50), 0x0032);
-    stored(b"+1/2", DS18S20, 0, 8, halves(1), 0x0001);
-    stored(b"+0", DS18S20, 0, 0, halves(0), 0x0000);
-    stored(b"-1/2", DS18S20, 0, -8, halves(-1), 0xFFFF);
-    stored(b"-25", DS18S20, 0, -400, halves(-50), 0xFFCE);
-    stored(b"-55", DS18S20, 0, -880, halves(-110), 0xFF92);
+    stored_s(b"+125", 2000, 250, 0x00FA);
+    stored_s(b"+25", 400, 50, 0x0032);
+    stored_s(b"+1/2", 8, 1, 0x0001);
+    stored_s(b"+0", 0, 0, 0x0000);
+    stored_s(b"-1/2", -8, -1, 0xFFFF);
+    stored_s(b"-25", -400, -50, 0xFFCE);
+    stored_s(b"-55", -880, -110, 0xFF92);
 }
 
 fn table_of_the_ds18b20() {
     say(b"\nDS18B20, Table 1\n");
-    stored(b"+125", DS18B20, BITS_12, 2000, sixteenths(2000), 0x07D0);
-    stored(b"+85", DS18B20, BITS_12, 1360, sixteenths(1360), 0x0550);
-    stored(b"+25.0625", DS18B20, BITS_12, 401, sixteenths(401), 0x0191);
-    stored(b"+10.125", DS18B20, BITS_12, 162, sixteenths(162), 0x00A2);
-    stored(b"+0.5", DS18B20, BITS_12, 8, sixteenths(8), 0x0008);
-    stored(b"0", DS18B20, BITS_12, 0, sixteenths(0), 0x0000);
-    stored(b"-0.5", DS18B20, BITS_12, -8, sixteenths(-8), 0xFFF8);
-    stored(b"-10.125", DS18B20, BITS_12, -162, sixteenths(-162), 0xFF5E);
-    stored(
-        b"-25.0625",
-        DS18B20,
-        BITS_12,
-        -401,
-        sixteenths(-401),
-        0xFE6F,
-    );
-    stored(b"-55", DS18B20, BITS_12, -880, sixteenths(-880), 0xFC90);
+    stored_b(b"+125", BITS_12, 2000, 2000, 0x07D0);
+    stored_b(b"+85", BITS_12, 1360, 1360, 0x0550);
+    stored_b(b"+25.0625", BITS_12, 401, 401, 0x0191);
+    stored_b(b"+10.125", BITS_12, 162, 162, 0x00A2);
+    stored_b(b"+0.5", BITS_12, 8, 8, 0x0008);
+    stored_b(b"0", BITS_12, 0, 0, 0x0000);
+    stored_b(b"-0.5", BITS_12, -8, -8, 0xFFF8);
+    stored_b(b"-10.125", BITS_12, -162, -162, 0xFF5E);
+    stored_b(b"-25.0625", BITS_12, -401, -401, 0xFE6F);
+    stored_b(b"-55", BITS_12, -880, -880, 0xFC90);
 }
 
 // Counts between two steps are stored as the lower one, below zero too.
 fn steps() {
     say(b"\nRounded down to a step\n");
-    stored(b"B, 9 bits", DS18B20, BITS_9, -1, sixteenths(-8), 0xFFF8);
-    stored(b"B, 9 bits", DS18B20, BITS_9, 401, sixteenths(400), 0x0190);
-    stored(b"B, 9 bits", DS18B20, BITS_9, 407, sixteenths(400), 0x0190);
-    stored(b"B, 10 bits", DS18B20, BITS_10, -1, sixteenths(-4), 0xFFFC);
-    stored(
-        b"B, 10 bits",
-        DS18B20,
-        BITS_10,
-        407,
-        sixteenths(404),
-        0x0194,
-    );
-    stored(b"B, 11 bits", DS18B20, BITS_11, -1, sixteenths(-2), 0xFFFE);
-    stored(
-        b"B, 11 bits",
-        DS18B20,
-        BITS_11,
-        407,
-        sixteenths(406),
-        0x0196,
-    );
-    stored(b"B, 12 bits", DS18B20, BITS_12, -1, sixteenths(-1), 0xFFFF);
-    stored(
-        b"B, 12 bits",
-        DS18B20,
-        BITS_12,
-        407,
-        sixteenths(407),
-        0x0197,
-    );
-    stored(b"S", DS18S20, 0, -1, halves(-1), 0xFFFF);
-    stored(b"S", DS18S20, 0, -9, halves(-2), 0xFFFE);
-    stored(b"S", DS18S20, 0, 7, halves(0), 0x0000);
-    stored(b"S", DS18S20, 0, 401, halves(50), 0x0032);
+    stored_b(b"B, 9 bits", BITS_9, -1, -8, 0xFFF8);
+    stored_b(b"B, 9 bits", BITS_9, 401, 400, 0x0190);
+    stored_b(b"B, 9 bits", BITS_9, 407, 400, 0x0190);
+    stored_b(b"B, 10 bits", BITS_10, -1, -4, 0xFFFC);
+    stored_b(b"B, 10 bits", BITS_10, 407, 404, 0x0194);
+    stored_b(b"B, 11 bits", BITS_11, -1, -2, 0xFFFE);
+    stored_b(b"B, 11 bits", BITS_11, 407, 406, 0x0196);
+    stored_b(b"B, 12 bits", BITS_12, -1, -1, 0xFFFF);
+    stored_b(b"B, 12 bits", BITS_12, 407, 407, 0x0197);
+    stored_s(b"S", -1, -1, 0xFFFF);
+    stored_s(b"S", -9, -2, 0xFFFE);
+    stored_s(b"S", 7, 0, 0x0000);
+    stored_s(b"S", 401, 50, 0x0032);
 }
 
 fn ranges() {
