@@ -2,6 +2,8 @@
 mod at_code;
 mod wire;
 
+pub use at_code::read_at;
+pub use at_code::write_at;
 use bench::Bench;
 use temperature::Reading;
 

@@ -6,7 +6,7 @@
 --     judged family pad         5, 6, 7 or 11, in that order, with a zero reading; or 0 and the reading
 -- Other bytes are not judged: a family without a configuration may have anything in byte 4, and a limit may be any byte.
 use Prim.Native.Nat.{ℕ}
-use mathlib.Core.Bool.{Bool, true, false, not, _&&_, _||_}
+use mathlib.Core.Bool.{Bool, not, _&&_, _||_}
 use mathlib.Core.List.{List}
 use lib.Dec.{eqb}
 use lib.IntN.{pos}

@@ -1,9 +1,6 @@
 // The one judgement of nine scratchpad bytes, which frame naming and the master's calls share.
-ghost use Prim.Native.Nat.{ℕ};
 ghost use mathlib.Core.Path.{_≡_};
-ghost use lib.Dec.{eqb};
-ghost use Rattle.lists.specs.Fold.{all};
-ghost use Rattle.scratchpad.specs.Judgement.{crcRight, allZeros, rowRight, readingIn, refused, judged};
+ghost use Rattle.scratchpad.specs.Judgement.{crcRight, allZeros, rowRight, refused, judged};
 use family::Properties;
 use temperature::Reading;
 use temperature::Sixteenths;

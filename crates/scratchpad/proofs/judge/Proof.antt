@@ -1,5 +1,7 @@
+-- Each return is one line of the definition: the tests before it came out the other way, its own came out its way. `simp` rewrites the
+-- definition's tests by what the calls promise and by the branches taken. A place is named for the call or the branch that it follows.
+-- Assumes nothing.
 use borrow.Author.Needs.{needs}
-use mathlib.Core.Path.{_≡_, _∙_, sym}
 use Rattle.scratchpad.specs.Judgement.{judged}
 use Rattle.scratchpad.proofs.judge.Statement.{statement}
 use Rattle.scratchpad.proofs.judge.Tie as tie
@@ -12,7 +14,9 @@ refuse-requires c κs = search needs
 
 returns : tie.Need-returns
 unfolding judged
-returns c = simp (c .refuse .ensures, ← c .before .before .crc-right .ensures, c .before .if1 .taken)
+returns c =
+    let if1 = c .before in let crc = if1 .before in
+    simp (c .refuse .ensures, ← crc .crc-right .ensures, if1 .if1 .taken)
 
 all-zeros-requires : tie.Need-all-zeros-requires
 all-zeros-requires c κs = search needs
@@ -22,7 +26,10 @@ refuse-requires-2 c κs = search needs
 
 returns-2 : tie.Need-returns-2
 unfolding judged
-returns-2 c = simp (c .refuse2 .ensures, ← c .before .before .before .before .crc-right .ensures, c .before .before .before .if1 .left, ← c .before .before .all-zeros .ensures, c .before .if2 .taken)
+returns-2 c =
+    let if2 = c .before in let zeros = if2 .before in
+    let if1 = zeros .before in let crc = if1 .before in
+    simp (c .refuse2 .ensures, ← crc .crc-right .ensures, if1 .if1 .left, ← zeros .all-zeros .ensures, if2 .if2 .taken)
 
 properties-of-requires : tie.Need-properties-of-requires
 properties-of-requires c κs = search needs
@@ -39,8 +46,11 @@ refuse-requires-3 c κs = search needs
 returns-3 : tie.Need-returns-3
 unfolding judged
 returns-3 c =
+    let if3 = c .before in let kind = if3 .before in let row = kind .before in
+    let if2 = row .before in let zeros = if2 .before in
+    let if1 = zeros .before in let crc = if1 .before in
     simp
-    (c .refuse3 .ensures, ← c .before .before .before .before .before .before .before .crc-right .ensures, c .before .before .before .before .before .before .if1 .left, ← c .before .before .before .before .before .all-zeros .ensures, c .before .before .before .before .if2 .left, ← c .before .before .before .properties-of .ensures, ← c .before .before .row-right .ensures, c .before .if3 .taken)
+    (c .refuse3 .ensures, ← crc .crc-right .ensures, if1 .if1 .left, ← zeros .all-zeros .ensures, if2 .if2 .left, ← row .properties-of .ensures, ← kind .row-right .ensures, if3 .if3 .taken)
 
 array-read-reading-of : tie.Need-array-read-reading-of
 array-read-reading-of c = search needs
@@ -60,14 +70,22 @@ refuse-requires-4 c κs = search needs
 returns-4 : tie.Need-returns-4
 unfolding judged
 returns-4 c =
+    let if4 = c .before in let range = if4 .before in let reading = range .before in
+    let if3 = reading .before in let kind = if3 .before in let row = kind .before in
+    let if2 = row .before in let zeros = if2 .before in
+    let if1 = zeros .before in let crc = if1 .before in
     simp
-    (c .refuse4 .ensures, ← c .before .before .before .before .before .before .before .before .before .before .crc-right .ensures, c .before .before .before .before .before .before .before .before .before .if1 .left, ← c .before .before .before .before .before .before .before .before .all-zeros .ensures, c .before .before .before .before .before .before .before .if2 .left, ← c .before .before .before .before .before .before .properties-of .ensures, ← c .before .before .before .before .before .row-right .ensures, c .before .before .before .before .if3 .left, ← c .before .before .before .reading-of .ensures, ← c .before .before .in-range .ensures, c .before .if4 .taken)
+    (c .refuse4 .ensures, ← crc .crc-right .ensures, if1 .if1 .left, ← zeros .all-zeros .ensures, if2 .if2 .left, ← row .properties-of .ensures, ← kind .row-right .ensures, if3 .if3 .left, ← reading .reading-of .ensures, ← range .in-range .ensures, if4 .if4 .taken)
 
 returns-5 : tie.Need-returns-5
 unfolding judged
 returns-5 c =
+    let range = c .before in let reading = range .before in
+    let if3 = reading .before in let kind = if3 .before in let row = kind .before in
+    let if2 = row .before in let zeros = if2 .before in
+    let if1 = zeros .before in let crc = if1 .before in
     simp
-    (← c .before .before .before .before .before .before .before .before .before .crc-right .ensures, c .before .before .before .before .before .before .before .before .if1 .left, ← c .before .before .before .before .before .before .before .all-zeros .ensures, c .before .before .before .before .before .before .if2 .left, ← c .before .before .before .before .before .properties-of .ensures, ← c .before .before .before .before .row-right .ensures, c .before .before .before .if3 .left, ← c .before .before .reading-of .ensures, ← c .before .in-range .ensures, c .if4 .left)
+    (← crc .crc-right .ensures, if1 .if1 .left, ← zeros .all-zeros .ensures, if2 .if2 .left, ← row .properties-of .ensures, ← kind .row-right .ensures, if3 .if3 .left, ← reading .reading-of .ensures, ← range .in-range .ensures, c .if4 .left)
 
 pub judge-spec : {M : Type 1} → statement M
 judge-spec =

@@ -1,4 +1,4 @@
--- The tests are the definition's. Assumes nothing.
+-- The branches are the definition's tests: known, with a configuration, and that in stored form. Assumes nothing.
 use borrow.Author.Needs.{needs}
 use Rattle.scratchpad.proofs.row_right.Statement.{statement}
 use Rattle.scratchpad.proofs.row_right.Tie as tie

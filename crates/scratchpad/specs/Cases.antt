@@ -1,0 +1,75 @@
+-- The scope's twelve cases, P1 to P12, as one list under one statement, `cases-hold`. It speaks of the definitions alone: that the
+-- code answers what they say is the promise of each function.
+--     crc bytes is byte                      the CRC of the bytes, in the order sent
+--     family f register r reads t            the reading that a family keeps as these sixteen bits, in its own unit
+--     register r high h low l flags b        whether a B reading sets the alarm flag, with limits as their bytes: FFh is -1
+--     right c                                whether a case is as the definitions have it
+--     cases                                  the twelve
+-- Assumes nothing.
+use Prim.Native.Nat.{ℕ, _/_, _%_}
+use mathlib.Core.Path.{_≡_, refl}
+use mathlib.Core.Bool.{Bool, true, false, Bool·beq, _&&_}
+use mathlib.Core.List.{List, [], _∷_}
+use lib.Dec.{eqb}
+use lib.IntN.{ℤ, pos, negℤ}
+use lib.Signed.{leZ}
+use Rattle.lists.specs.Fold.{all, fold}
+use Rattle.bits.specs.Bits.{bitsOf, bytesBits}
+use Rattle.family.specs.Families.{ds18b20, ds18s20, propertiesOf}
+use Rattle.crc.specs.Crc.{crcBits, crcOf}
+use Rattle.temperature.specs.Alarm.{alarmsAt, limitOf}
+use Rattle.temperature.specs.Register.{readingOf}
+use Rattle.temperature.specs.Units.{wholeOf}
+use Rattle.temperature.specs.declared.Reading.{Reading}
+use Rattle.temperature.specs.declared.Reading.the-variants.{InSixteenths, InHalves}
+
+-- one claim of the scope
+infix 70 crc_is_ family_register_reads_ register_high_low_flags_
+pub data Case : Type 0 where
+  crc_is_ : List ℕ → ℕ → Case
+  family_register_reads_ : ℕ → ℕ → Reading → Case
+  register_high_low_flags_ : ℕ → ℕ → ℕ → Bool → Case
+
+-- so many sixteenths, or half degrees
+abbrev pub sixteenths : ℤ → Reading
+sixteenths z = InSixteenths (record { 0 = z })
+
+abbrev pub halfDegrees : ℤ → Reading
+halfDegrees z = InHalves (record { 0 = z })
+
+-- the reading of sixteen bits, from their low and high byte
+abbrev pub stored : ℕ → ℕ → Reading
+stored f bits = readingOf (propertiesOf f .unit) (bits % 256) (bits / 256)
+
+-- whether two readings are one number in one unit
+abbrev pub same : Reading → Reading → Bool
+same (InSixteenths a) (InSixteenths b) = leZ (a .0) (b .0) && leZ (b .0) (a .0)
+same (InHalves a) (InHalves b) = leZ (a .0) (b .0) && leZ (b .0) (a .0)
+same (InSixteenths a) (InHalves b) = false
+same (InHalves a) (InSixteenths b) = false
+
+-- whether a case is as the definitions have it
+abbrev pub right : Case → Bool
+right (crc bytes is byte) = eqb (crcOf bytes) byte
+right (family f register bits reads t) = same (stored f bits) t
+right (register bits high h low l flags b) = Bool·beq (alarmsAt (wholeOf (stored ds18b20 bits)) (limitOf h) (limitOf l)) b
+
+abbrev pub cases : List Case
+cases =
+    crc [] is 0x00  -- P1
+    ∷ crc (0x00 ∷ 0x00 ∷ 0x00 ∷ 0x00 ∷ 0x00 ∷ 0x00 ∷ 0x00 ∷ 0x00 ∷ []) is 0x00  -- P2
+    ∷ crc (0xFF ∷ 0xFF ∷ 0xFF ∷ 0xFF ∷ 0xFF ∷ 0xFF ∷ 0xFF ∷ 0xFF ∷ []) is 0xC9  -- P3
+    ∷ crc (0x28 ∷ 0x00 ∷ 0x00 ∷ 0x00 ∷ 0x00 ∷ 0x00 ∷ 0x00 ∷ []) is 0x1E  -- P4
+    ∷ crc (0x02 ∷ 0x1C ∷ 0xB8 ∷ 0x01 ∷ 0x00 ∷ 0x00 ∷ 0x00 ∷ []) is 0xA2  -- P5
+    ∷ family ds18b20 register 0x0191 reads sixteenths (pos 401)  -- P6
+    ∷ family ds18b20 register 0xFC90 reads sixteenths (negℤ (pos 880))  -- P7
+    ∷ family ds18s20 register 0xFF92 reads halfDegrees (negℤ (pos 110))  -- P8
+    ∷ register 0xFFF8 high 50 low 0xFF flags true  -- P9
+    ∷ register 0xFFF8 high 1 low 0xFE flags false  -- P10
+    ∷ register 0x0191 high 25 low 0 flags true  -- P11
+    ∷ register 0x0191 high 26 low 24 flags false  -- P12
+    ∷ []
+
+pub cases-hold : all right cases ≡ true
+unfolding all crcOf crcBits fold bytesBits bitsOf
+cases-hold = refl
