@@ -7,7 +7,7 @@ use crate::Access;
 use crate::ByteRead;
 use crate::Reply;
 use crate::wire::send;
-use crate::wire::with_bit;
+use crate::with_bit;
 use bench::Bench;
 use device::Settings;
 use family::Properties;

@@ -1,4 +1,8 @@
 // A master over the bench: reading and writing at a code, search and alarm search.
+ghost use Prim.Native.Nat.{_+_, _*_, _^_, _<_};
+ghost use mathlib.Core.Path.{_≡_};
+ghost use Rattle.bits.specs.Bits.{bitNumber};
+
 mod at_code;
 mod wire;
 
@@ -37,4 +41,17 @@ pub struct Searched {
     pub slots: u16,
     pub bytes: u16,
     pub bench: Bench,
+}
+
+// One more bit of a number that comes first bit lowest.
+fn with_bit(number: u64, place: u8, bit: bool) -> u64
+    requires { ⌜ (place < 64) × (number < 2 ^ place) ⌝ }
+    ensures answer { λ r. ⌜ r ≡ number + bitNumber bit * 2 ^ place ⌝ }
+{
+    if bit {
+        let weight: u64 = 1 << place;
+        number + weight
+    } else {
+        number
+    }
 }

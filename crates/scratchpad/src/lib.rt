@@ -5,6 +5,9 @@ use family::Properties;
 use temperature::Reading;
 use temperature::Sixteenths;
 
+// A whole scratchpad: eight bytes and their CRC.
+pub type NineBytes = [u8; 9];
+
 // A refusal, or 0 and the reading in the family's unit. A refusal's reading is zero.
 pub struct Judged {
     pub refusal: u8,
@@ -20,7 +23,7 @@ fn refuse(number: u8) -> Judged
     }
 }
 
-fn crc_right(pad: [u8; 9]) -> bool
+fn crc_right(pad: NineBytes) -> bool
     ensures answer { λ r. ⌜ r ≡ crcRight pad ⌝ }
 {
     let bytes: &[u8] = &pad;
@@ -28,7 +31,7 @@ fn crc_right(pad: [u8; 9]) -> bool
     pad[family::CRC] == right
 }
 
-fn all_zeros(pad: [u8; 9]) -> bool
+fn all_zeros(pad: NineBytes) -> bool
     ensures answer { λ r. ⌜ r ≡ allZeros pad ⌝ }
 {
     let mut i: usize = 0;
@@ -54,7 +57,7 @@ fn row_right(row: Properties, configuration: u8) -> bool
 }
 
 // Judges a scratchpad of a device of this family.
-pub fn judge(family: u8, pad: [u8; 9]) -> Judged
+pub fn judge(family: u8, pad: NineBytes) -> Judged
     ensures answer { λ r. ⌜ r ≡ judged family pad ⌝ }
 {
     if !crc_right(pad) {

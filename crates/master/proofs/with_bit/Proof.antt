@@ -3,8 +3,8 @@ use Prim.Native.Nat.{_^_, _≤_}
 use native.Mathlib.Omega.{arith}
 use borrow.Author.Needs.{needs}
 use lib.Pow.{pow-mono}
-use Rattle.master.proofs.wire.with_bit.Statement.{statement}
-use Rattle.master.proofs.wire.with_bit.Tie as tie
+use Rattle.master.proofs.with_bit.Statement.{statement}
+use Rattle.master.proofs.with_bit.Tie as tie
 
 weight : (c : tie.Start) → 2 ^ c .args .place ≤ 9223372036854775808
 weight c = let h : c .args .place ≤ 63 = omega arith in pow-mono h
