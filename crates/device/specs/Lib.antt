@@ -4,3 +4,4 @@ pub mod Offer
 pub mod Hear
 pub mod Power
 pub mod Finish
+pub mod Outcomes
