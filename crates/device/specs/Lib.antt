@@ -5,3 +5,4 @@ pub mod Hear
 pub mod Power
 pub mod Finish
 pub mod Outcomes
+pub mod Laws

@@ -23,18 +23,18 @@ use Rattle.device.specs.Hear.{shiftIn, romCommand, idleCommand, function
 pub record Outcomes (d : Device) (l : Bool) (P : Device → Type 0) : Type 0 where
   -- only the stage
   pub moved : (s : Stage) → P (withStage d s)
-  -- 44h, 48h and B8h, of a device that is not busy
-  pub converting : busy d ≡ false → P (withStage (withActivity d Converting) SendStatus)
-  pub copying : busy d ≡ false → P (withStage (withActivity d (Copying (settingsIn (rowOf (d .code)) (d .scratchpad)))) SendStatus)
-  pub recalled : busy d ≡ false → P (withStage (withScratchpad d (withSettings (rowOf (d .code)) (d .scratchpad) (d .eeprom))) Quiet)
+  -- the last bit of 44h, 48h or B8h, of a device that is not busy
+  pub converting : (s : ℕ) → d .stage ≡ AwaitFunction s 7 → busy d ≡ false → P (withStage (withActivity d Converting) SendStatus)
+  pub copying : (s : ℕ) → d .stage ≡ AwaitFunction s 7 → busy d ≡ false → P (withStage (withActivity d (Copying (settingsIn (rowOf (d .code)) (d .scratchpad)))) SendStatus)
+  pub recalled : (s : ℕ) → d .stage ≡ AwaitFunction s 7 → busy d ≡ false → P (withStage (withScratchpad d (withSettings (rowOf (d .code)) (d .scratchpad) (d .eeprom))) Quiet)
   -- the last bit of a byte of 4Eh
   pub written : (k s : ℕ) → d .stage ≡ TakeSettings k s 7 → k < settingsCount (rowOf (d .code)) → (next : Stage)
       → P (withStage (withScratchpad d (set (d .scratchpad) (highLimitPlace + k) (settingByte (rowOf (d .code)) k (shiftIn s l)))) next)
 
 module _ (d : Device) (l : Bool) (P : Device → Type 0) (o : Outcomes d l P) where
-  idle-outcome : (c : ℕ) → busy d ≡ false → P (idleCommand d c)
+  idle-outcome : (c s : ℕ) → d .stage ≡ AwaitFunction s 7 → busy d ≡ false → P (idleCommand d c)
   unfolding idleCommand
-  idle-outcome c h = by-tests (eqb c convert) (eqb c writeScratchpad) (eqb c copyScratchpad) (eqb c recallEeprom)
+  idle-outcome c s e h = by-tests (eqb c convert) (eqb c writeScratchpad) (eqb c copyScratchpad) (eqb c recallEeprom)
     where
       by-tests : (t u v w : Bool) → P
           (if t then withStage (withActivity d Converting) SendStatus
@@ -42,22 +42,22 @@ module _ (d : Device) (l : Bool) (P : Device → Type 0) (o : Outcomes d l P) wh
           else if v then withStage (withActivity d (Copying (settingsIn (rowOf (d .code)) (d .scratchpad)))) SendStatus
           else if w then withStage (withScratchpad d (withSettings (rowOf (d .code)) (d .scratchpad) (d .eeprom))) Quiet
           else withStage d Quiet)
-      by-tests true u v w = o .converting h
+      by-tests true u v w = o .converting s e h
       by-tests false true v w = o .moved _
-      by-tests false false true w = o .copying h
-      by-tests false false false true = o .recalled h
+      by-tests false false true w = o .copying s e h
+      by-tests false false false true = o .recalled s e h
       by-tests false false false false = o .moved _
 
-  function-outcome : (c : ℕ) → P (functionCommand d c)
+  function-outcome : (c s : ℕ) → d .stage ≡ AwaitFunction s 7 → P (functionCommand d c)
   unfolding functionCommand
-  function-outcome c = by-tests (eqb c readScratchpad) (eqb c readPower) (busy d) refl
+  function-outcome c s e = by-tests (eqb c readScratchpad) (eqb c readPower) (busy d) refl
     where
       by-tests : (t u v : Bool) → busy d ≡ v → P
           (if t then withStage d (SendScratchpad 0 0) else if u then withStage d SendPower else if v then withStage d Quiet else idleCommand d c)
-      by-tests true u v e = o .moved _
-      by-tests false true v e = o .moved _
-      by-tests false false true e = o .moved _
-      by-tests false false false e = idle-outcome c e
+      by-tests true u v f = o .moved _
+      by-tests false true v f = o .moved _
+      by-tests false false true f = o .moved _
+      by-tests false false false f = idle-outcome c s e f
 
   store-outcome : (k s : ℕ) → d .stage ≡ TakeSettings k s 7 → P (storeSetting d k (shiftIn s l))
   unfolding storeSetting
@@ -81,12 +81,12 @@ module _ (d : Device) (l : Bool) (P : Device → Type 0) (o : Outcomes d l P) wh
   at-outcome (SendRom i) e = o .moved _
   at-outcome (Match i) e = o .moved _
   at-outcome (Search i p) e = o .moved _
-  at-outcome (AwaitFunction s n) e = by-tests (ltb n 7) (eqb n 7)
+  at-outcome (AwaitFunction s n) e = by-tests (ltb n 7) (eqb n 7) refl
     where
-      by-tests : (t u : Bool) → P (if t then withStage d (AwaitFunction (shiftIn s l) (n + 1)) else if u then functionCommand d (shiftIn s l) else withStage d Quiet)
-      by-tests true u = o .moved _
-      by-tests false true = function-outcome _
-      by-tests false false = o .moved _
+      by-tests : (t u : Bool) → eqb n 7 ≡ u → P (if t then withStage d (AwaitFunction (shiftIn s l) (n + 1)) else if u then functionCommand d (shiftIn s l) else withStage d Quiet)
+      by-tests true u f = o .moved _
+      by-tests false true f = let g = eqb-true n 7 f in function-outcome (shiftIn s l) s (rw g at e)
+      by-tests false false f = o .moved _
   at-outcome (TakeSettings k s n) e = by-tests (ltb n 7) (eqb n 7) refl
     where
       by-tests : (t u : Bool) → eqb n 7 ≡ u → P (if t then withStage d (TakeSettings k (shiftIn s l) (n + 1)) else if u then storeSetting d k (shiftIn s l) else withStage d Quiet)
