@@ -6,3 +6,4 @@ pub mod Power
 pub mod Finish
 pub mod Outcomes
 pub mod Laws
+pub mod Sound
