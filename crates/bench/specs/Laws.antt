@@ -42,7 +42,7 @@ use Rattle.bench.specs.declared.Place.{Place}
 use Rattle.bench.specs.declared.Place.the-variants.{At, Nowhere}
 use Rattle.bench.specs.declared.ResetDone.{ResetDone}
 use Rattle.bench.specs.declared.Slotted.{Slotted}
-use Rattle.bench.specs.Bench.{live, vacant, placeOf, free}
+use Rattle.bench.specs.Bench.{live, vacant, placeOf, holdsWire, free}
 use Rattle.bench.specs.Slot.{lineOf, heard, slotted, presenceOf, restarted, resetDone}
 use Rattle.bench.specs.Calls.{changed, refused, withNew, putLast, isThere, addedTo, deviceAt, withDevice, endConversion, conversionFinishedAt, conversionFinished, endCopy, copyFinishedAt, copyFinished, powerCycledAt, powerCycled}
 
@@ -75,6 +75,10 @@ restarted-count b = refl
 pub restarted-places : (b : Bench) → length (restarted b .devices) ≡ length (b .devices)
 unfolding restarted
 restarted-places b = front-length resetOf (b .count) (b .devices)
+
+pub free-live : (b : Bench) → free b ≡ all (λ d. not (holdsWire d)) (live b)
+unfolding free
+free-live b = refl
 
 -- both are refused with 10 exactly where the wire is held, and then nothing changes
 pub slot-cases : (b : Bench) (m : Bool) (P : Slotted → Type 0)
