@@ -1,3 +1,5 @@
 pub mod Bench
 pub mod Slot
 pub mod Calls
+pub mod Laws
+pub mod Sound

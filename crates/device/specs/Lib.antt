@@ -4,3 +4,6 @@ pub mod Offer
 pub mod Hear
 pub mod Power
 pub mod Finish
+pub mod Outcomes
+pub mod Laws
+pub mod Sound

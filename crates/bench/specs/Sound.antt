@@ -1,0 +1,159 @@
+-- What holds of every bench that the calls reach (the scope, "One slot"): at most 32 devices, each with a sound code that no other has, each as
+-- every device is that the calls reach: a configuration in its stored form, a reading in range, a flag that is the verdict on the page.
+--     codesOf b          the codes of the devices on the wire, in their order
+--     BenchSound b       the claim
+-- Laws: `empty-sound`, and one for each call, refused or not. Assumes nothing.
+use Prim.Native.Nat.{ℕ, zero, suc, _+_, _<_, _≤_}
+use mathlib.Core.Path.{_≡_, refl, ap, _∙_}
+use mathlib.Core.Logic.{_≢_}
+use mathlib.Core.Bool.{Bool, true}
+use mathlib.Core.List.{List, [], _∷_, _++_, map}
+use native.Mathlib.Omega.{arith}
+use lib.Dec.{lit≤}
+use lib.ListN.{length, getD, set}
+use lib.Seq.{map-set-same}
+use Rattle.search_law.specs.Codes.{Each, Distinct}
+use Rattle.rom.specs.Code.{sound}
+use Rattle.temperature.specs.declared.Sixteenths.{Sixteenths}
+use Rattle.device.specs.Finish.{conversionDone, copyDone}
+use Rattle.device.specs.Hear.{hearOf}
+use Rattle.device.specs.Laws.{hear-code, power-up-fresh, joined-fresh, conversion-code, copy-only}
+use Rattle.device.specs.Power.{resetOf, powerUp, joined}
+use Rattle.device.specs.Sound.{Sound, joined-sound, power-up-sound, reset-sound, hear-sound, conversion-sound, copy-sound}
+use Rattle.device.specs.declared.Device.{Device}
+use Rattle.device.specs.declared.Joining.{Joining}
+use Rattle.bench.specs.declared.Bench.{Bench}
+use Rattle.bench.specs.Bench.{live, vacant, emptyBench}
+use Rattle.bench.specs.Slot.{lineOf, heard, slotted, restarted, resetDone}
+use Rattle.bench.specs.Calls.{addedTo, conversionFinished, copyFinished, powerCycled}
+use Rattle.bench.specs.Laws.{slot-cases, reset-cases, heard-live, heard-count, heard-places, restarted-live, restarted-count, restarted-places, Added, added-cases, OneChanged, conversion-cases, copy-cases, cycle-cases}
+
+abbrev pub codesOf : Bench → List ℕ
+codesOf b = map (λ d. d .code) (live b)
+
+pub record BenchSound (b : Bench) : Type 0 where
+  pub places : length (b .devices) ≡ 32
+  pub few : b .count ≤ 32
+  pub codes-sound : Each (λ c. sound c ≡ true) (codesOf b)
+  pub codes-distinct : Distinct (codesOf b)
+  pub devices-sound : Each Sound (live b)
+
+-- ## Lists
+
+each-mapped : (P : Device → Type 0) (f : Device → Device) → ((d : Device) → P d → P (f d)) → (l : List Device) → Each P l → Each P (map f l)
+each-mapped P f h [] e = tt
+each-mapped P f h (d ∷ l) e = (h d (e .0), each-mapped P f h l (e .1))
+
+codes-mapped : (f : Device → Device) → ((d : Device) → f d .code ≡ d .code) → (l : List Device) → map (λ d. d .code) (map f l) ≡ map (λ d. d .code) l
+codes-mapped f h [] = refl
+codes-mapped f h (d ∷ l) = let i = codes-mapped f h l in rw (h d, i)
+
+each-at : {A : Type 0} (P : A → Type 0) (l : List A) (i : ℕ) (z : A) → i < length l → Each P l → P (getD l i z)
+each-at P [] i z h e = absurd (omega arith)
+each-at P (x ∷ l) zero z h e = e .0
+each-at P (x ∷ l) (suc i) z h e = each-at P l i z (omega arith) (e .1)
+
+each-set : {A : Type 0} (P : A → Type 0) (l : List A) (i : ℕ) (v : A) → P v → Each P l → Each P (set l i v)
+each-set P [] i v p e = tt
+each-set P (x ∷ l) zero v p e = (p, e .1)
+each-set P (x ∷ l) (suc i) v p e = (e .0, each-set P l i v p (e .1))
+
+each-snoc : {A : Type 0} (P : A → Type 0) (l : List A) (v : A) → Each P l → P v → Each P (l ++ (v ∷ []))
+each-snoc P [] v e p = (p, tt)
+each-snoc P (x ∷ l) v e p = (e .0, each-snoc P l v (e .1) p)
+
+distinct-snoc : (l : List ℕ) (v : ℕ) → Distinct l → Each (λ x. x ≢ v) l → Distinct (l ++ (v ∷ []))
+distinct-snoc [] v d e = (tt, tt)
+distinct-snoc (x ∷ l) v d e = (each-snoc (λ y. x ≢ y) l v (d .0) (e .0), distinct-snoc l v (d .1) (e .1))
+
+codes-snoc : (l : List Device) (d : Device) → map (λ e. e .code) (l ++ (d ∷ [])) ≡ map (λ e. e .code) l ++ (d .code ∷ [])
+codes-snoc [] d = refl
+codes-snoc (x ∷ l) d = let i = codes-snoc l d in rw i
+
+codes-new : (l : List Device) (code : ℕ) → Each (λ d. d .code ≢ code) l → Each (λ c. c ≢ code) (map (λ d. d .code) l)
+codes-new [] code e = tt
+codes-new (d ∷ l) code e = (e .0, codes-new l code (e .1))
+
+-- ## The codes after each call
+
+pub heard-codes : (b : Bench) (l : Bool) → codesOf (heard b l) ≡ codesOf b
+heard-codes b l = rw (heard-live b l) (codes-mapped (λ d. hearOf d l) (λ d. hear-code d l) (live b))
+
+pub restarted-codes : (b : Bench) → codesOf (restarted b) ≡ codesOf b
+restarted-codes b = rw (restarted-live b) (codes-mapped resetOf (λ d. refl) (live b))
+
+pub added-codes : (b : Bench) (new : Joining) (after : Bench) → Added b new after → codesOf after ≡ codesOf b ++ (new .code ∷ [])
+added-codes b new after a = rw (a .live-is) (codes-snoc (live b) (joined new) ∙ rw (joined-fresh new .code-is))
+
+pub one-changed-codes : (b : Bench) (code : ℕ) (f : Device → Device) → ((d : Device) → f d .code ≡ d .code) → (after : Bench) → OneChanged b code f after
+    → codesOf after ≡ codesOf b
+one-changed-codes b code f h after o =
+    rw (o .live-is) (map-set-same (λ d. d .code) (live b) (o .place) (f (getD (live b) (o .place) vacant)) vacant (h _))
+
+-- ## Every call keeps a bench sound
+
+pub empty-sound : BenchSound emptyBench
+empty-sound = record { places = refl; few = lit≤ tt; codes-sound = tt; codes-distinct = tt; devices-sound = tt }
+
+pub heard-sound : (b : Bench) (l : Bool) → BenchSound b → BenchSound (heard b l)
+heard-sound b l s = record {
+  places = heard-places b l ∙ s .places;
+  few = rw (heard-count b l) (s .few);
+  codes-sound = rw (heard-codes b l) (s .codes-sound);
+  codes-distinct = rw (heard-codes b l) (s .codes-distinct);
+  devices-sound = rw (heard-live b l) (each-mapped Sound (λ d. hearOf d l) (λ d. hear-sound d l) (live b) (s .devices-sound));
+}
+
+pub restarted-sound : (b : Bench) → BenchSound b → BenchSound (restarted b)
+restarted-sound b s = record {
+  places = restarted-places b ∙ s .places;
+  few = rw (restarted-count b) (s .few);
+  codes-sound = rw (restarted-codes b) (s .codes-sound);
+  codes-distinct = rw (restarted-codes b) (s .codes-distinct);
+  devices-sound = rw (restarted-live b) (each-mapped Sound resetOf reset-sound (live b) (s .devices-sound));
+}
+
+pub slotted-sound : (b : Bench) (m : Bool) → BenchSound b → BenchSound (slotted b m .bench)
+slotted-sound b m s = slot-cases b m (λ r. BenchSound (r .bench)) (λ e. heard-sound b (lineOf b m) s) (λ e. s)
+
+pub reset-done-sound : (b : Bench) → BenchSound b → BenchSound (resetDone b .bench)
+reset-done-sound b s = reset-cases b (λ r. BenchSound (r .bench)) (λ e. restarted-sound b s) (λ e. s)
+
+pub added-sound : (b : Bench) (new : Joining) → BenchSound b → BenchSound (addedTo b new .bench)
+added-sound b new s =
+    added-cases b new (λ c. BenchSound (c .bench)) (s .places) (λ n r. s) (λ after a.
+    record {
+      places = a .places-are ∙ s .places;
+      few = omega (arith, a .room, a .count-is);
+      codes-sound = rw (added-codes b new after a) (each-snoc (λ c. sound c ≡ true) (codesOf b) (new .code) (s .codes-sound) (a .code-sound));
+      codes-distinct = rw (added-codes b new after a) (distinct-snoc (codesOf b) (new .code) (s .codes-distinct) (codes-new (live b) (new .code) (a .code-new)));
+      devices-sound = rw (a .live-is) (each-snoc Sound (live b) (joined new) (s .devices-sound) (joined-sound new));
+    })
+
+one-changed-sound : (b : Bench) (code : ℕ) (f : Device → Device) → ((d : Device) → f d .code ≡ d .code) → (after : Bench) (o : OneChanged b code f after)
+    → (Sound (getD (live b) (o .place) vacant) → Sound (f (getD (live b) (o .place) vacant))) → BenchSound b → BenchSound after
+one-changed-sound b code f same after o keeps s = record {
+  places = o .places-are ∙ s .places;
+  few = rw (o .count-is) (s .few);
+  codes-sound = rw (one-changed-codes b code f same after o) (s .codes-sound);
+  codes-distinct = rw (one-changed-codes b code f same after o) (s .codes-distinct);
+  devices-sound =
+      let d = getD (live b) (o .place) vacant in
+      rw (o .live-is)
+      (each-set Sound (live b) (o .place) (f d) (keeps (each-at Sound (live b) (o .place) vacant (o .within) (s .devices-sound))) (s .devices-sound));
+}
+
+pub conversion-finished-sound : (b : Bench) (code : ℕ) (n : Sixteenths) → BenchSound b → BenchSound (conversionFinished b code n .bench)
+conversion-finished-sound b code n s =
+    conversion-cases b code (λ c. BenchSound (c .bench)) (λ r z. s) n (λ range after o.
+    one-changed-sound b code (λ d. conversionDone d n) (λ d. conversion-code d n) after o (conversion-sound _ n range) s)
+
+pub copy-finished-sound : (b : Bench) (code : ℕ) → BenchSound b → BenchSound (copyFinished b code .bench)
+copy-finished-sound b code s =
+    copy-cases b code (λ c. BenchSound (c .bench)) (λ r z. s) (λ latched after o held.
+    one-changed-sound b code (λ d. copyDone d latched) (λ d. ap (λ e. e .code) (copy-only d latched)) after o (copy-sound _ latched held) s)
+
+pub power-cycled-sound : (b : Bench) (code : ℕ) → BenchSound b → BenchSound (powerCycled b code .bench)
+power-cycled-sound b code s =
+    cycle-cases b code (λ c. BenchSound (c .bench)) (λ r z. s) (λ after o.
+    one-changed-sound b code powerUp (λ d. power-up-fresh d .code-is) after o (power-up-sound _) s)
