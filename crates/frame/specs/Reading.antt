@@ -84,6 +84,25 @@ pub answered-next : (n : ℕ) (r : Reading) → answered n r .next ≡ n
 answered-next n (carries f) = refl
 answered-next n (refused k) = refl
 
+-- ## Each way a line is refused before its digits are looked into
+
+module _ (l : Line) where
+  pub read-long : longest < length (l .chars) → readLine l ≡ refused malformed
+  unfolding readLine
+  read-long h = rw (lt-ltb longest (length (l .chars)) h)
+
+  pub read-open : length (l .chars) ≤ longest → l .fed ≡ false → readLine l ≡ refused notHex
+  unfolding readLine
+  read-open h e = rw (le-ltb longest (length (l .chars)) h, e, and-false (all isDigit (l .chars)))
+
+  pub read-other : length (l .chars) ≤ longest → all isDigit (l .chars) ≡ false → readLine l ≡ refused notHex
+  unfolding readLine
+  read-other h e = rw (le-ltb longest (length (l .chars)) h, e)
+
+  pub read-fed : length (l .chars) ≤ longest → l .fed ≡ true → all isDigit (l .chars) ≡ true → readLine l ≡ readDigits (l .chars)
+  unfolding readLine
+  read-fed h e d = rw (le-ltb longest (length (l .chars)) h, e, d)
+
 -- ## What an accepted line tells
 
 pub record Accepted (l : Line) (f : Frame) : Type 0 where
@@ -115,25 +134,6 @@ pub accepted-read : (l : Line) (f : Frame) → Accepted l f → readLine l ≡ c
 unfolding readLine readDigits
 accepted-read l f a =
     rw (le-ltb longest (length (l .chars)) (a .short), a .digital, a .ended, a .formed, a .spelt)
-
--- ## Each way a line is refused before its digits are looked into
-
-module _ (l : Line) where
-  pub read-long : longest < length (l .chars) → readLine l ≡ refused malformed
-  unfolding readLine
-  read-long h = rw (lt-ltb longest (length (l .chars)) h)
-
-  pub read-open : length (l .chars) ≤ longest → l .fed ≡ false → readLine l ≡ refused notHex
-  unfolding readLine
-  read-open h e = rw (le-ltb longest (length (l .chars)) h, e, and-false (all isDigit (l .chars)))
-
-  pub read-other : length (l .chars) ≤ longest → all isDigit (l .chars) ≡ false → readLine l ≡ refused notHex
-  unfolding readLine
-  read-other h e = rw (le-ltb longest (length (l .chars)) h, e)
-
-  pub read-fed : length (l .chars) ≤ longest → l .fed ≡ true → all isDigit (l .chars) ≡ true → readLine l ≡ readDigits (l .chars)
-  unfolding readLine
-  read-fed h e d = rw (le-ltb longest (length (l .chars)) h, e, d)
 
 -- ## The head's numbers, digit by digit
 

@@ -270,7 +270,10 @@ module _ (s : List ℕ) (at : ℕ) (f : Frame) where
 
   pub write-short : lineable f ≡ true → length s < at + length (fedLine f)
       → (record { refusal = noRoom; next = 0 } ≡ writeAnswer s at f) × (s ≡ writeLeaves s at f)
-  write-short e h = let g = lt-leb (at + length (fedLine f)) (length s) h in (rw (e, g), rw (e, g))
+  write-short e h =
+      let g = lt-leb (at + length (fedLine f)) (length s) h in
+      let none : (lineable f && fits s at f) ≡ false = rw (e, g) in
+      (rw (e, g), ap (λ (t : Bool). if t then laid s at (fedLine f) else s) (sym none))
 
   pub write-done : (n : ℕ) → lineable f ≡ true → length (fedLine f) ≡ n → at + n ≤ length s
       → (record { refusal = accepted; next = at + n } ≡ writeAnswer s at f) × (laid s at (fedLine f) ≡ writeLeaves s at f)
