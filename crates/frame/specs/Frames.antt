@@ -1,13 +1,5 @@
--- A frame: one reset, whether anybody showed presence, and the line's bit in each slot after it. The first slot is in bit 0 of the first byte.
---     blankFrame p       a frame with no slot
---     slotsOf f          the bits of its slots, in order
---     slotBit f i        the bit of slot i, false at or past the count
---     bytesFor n         how many bytes n slots take
---     clearFrom n l      whether no bit of the bytes l is set at or past place n
---     lineable f         whether a line can carry f: at most 512 slots, none without presence, and no bit set past them
---     pushed f b         f with one slot more; f itself when it has 512 already
---     pushedAll f bs     f with the slots bs more, one after the other
---     Held f             f is a value that the program can hold: 64 bytes
+-- A frame: one reset, whether any device showed presence, and the line's bit in each slot after it, at most 512.
+-- The first slot is bit 0 of the first byte. A line can carry a frame that has no slot without presence and no bit set past its slots.
 -- Assumes nothing.
 use Prim.Native.Nat.{ℕ, zero, suc, _+_, _*_, _/_, _%_, _^_, _<_, _≤_, _-_}
 use mathlib.Core.Path.{_≡_, refl, sym, ap, _∙_}
@@ -17,10 +9,10 @@ use native.Mathlib.Omega.{arith}
 use native.Mathlib.Nat.{pow-suc}
 use lib.Pow.{shr-lt}
 use native.Mathlib.Numerals.{add-one}
-use borrow.Author.Tests.{eq-eqb, ne-eqb, eqb-true, eqb-false, lt-ltb, le-leb, leb-true}
+use borrow.Author.Tests.{eq-eqb, ne-eqb, eqb-true, eqb-false, lt-ltb, le-leb}
 use lib.Dec.{eqb, leb, ltb, lit<}
-use lib.ListN.{length, set, take, drop, getD, replicate, length-set, length-replicate, getD-replicate, length-take, length-drop, length-append, take-append-drop, List·getD-eq-default, drop-of-length-le}
-use lib.Seq.{drop-nil, drop-cons, drop-append-add, drop-append-le, drop-at, set-append-left, take-suc-set, drop-set-lt, getD-set-same, getD-set-other, length-take-le, drop-drop, getD-take}
+use lib.ListN.{length, set, take, drop, getD, replicate, length-set, length-replicate, length-take, length-drop, length-append, take-append-drop, List·getD-eq-default, drop-of-length-le}
+use lib.Seq.{drop-nil, drop-cons, drop-append-add, drop-append-le, drop-at, set-append-left, take-suc-set, drop-set-lt, length-take-le, drop-drop, getD-take}
 use Rattle.lists.specs.Choice.{if_then_else_}
 use Rattle.lists.specs.Fold.{fold, all}
 use Rattle.lists.specs.Laid.{laid}
@@ -32,22 +24,27 @@ use Rattle.frame.specs.Laws.{Bytes, all-append, all-drop, and-left, and-
 abbrev pub mostSlots : ℕ
 mostSlots = 512
 
--- the bytes of a frame that shows nothing
+-- the 64 bytes of a frame in which no bit is set
 unfoldable pub noBits : List ℕ
 noBits = replicate 64 0
 
+-- a frame with no slot
 abbrev pub blankFrame : Bool → Frame
 blankFrame p = record { presence = p; count = 0; bits = noBits }
 
+-- the bits of its slots, in order
 abbrev pub slotsOf : Frame → List Bool
 slotsOf f = take (f .count) (bytesBits (f .bits))
 
+-- the bit of slot i, false at or past the count
 abbrev pub slotBit : Frame → ℕ → Bool
 slotBit f i = getD (slotsOf f) i false
 
+-- how many bytes n slots take, the last of them perhaps in part
 abbrev pub bytesFor : ℕ → ℕ
 bytesFor n = (n + 7) / 8
 
+-- whether no bit of the bytes l is set at or past place n
 abbrev pub clearFrom : ℕ → List ℕ → Bool
 clearFrom n l = all not (drop n (bytesBits l))
 
@@ -55,6 +52,7 @@ clearFrom n l = all not (drop n (bytesBits l))
 abbrev pub countAllowed : Bool → ℕ → Bool
 countAllowed p n = leb n mostSlots && (p || eqb n 0)
 
+-- whether a line can carry the frame: its count is allowed, and no bit is set at or past the count
 abbrev pub lineable : Frame → Bool
 lineable f = countAllowed (f .presence) (f .count) && clearFrom (f .count) (f .bits)
 
@@ -66,6 +64,7 @@ withBit x i b = numberOf (set (bitsOf 8 x) i b)
 abbrev pub withSlot : List ℕ → ℕ → Bool → List ℕ
 withSlot l i b = set l (i / 8) (withBit (getD l (i / 8) 0) (i % 8) b)
 
+-- the frame with one slot more; the frame as it is when it has 512
 abbrev pub pushed : Frame → Bool → Frame
 pushed f b =
     if ltb (f .count) mostSlots then record {
@@ -74,9 +73,11 @@ pushed f b =
       bits = withSlot (f .bits) (f .count) b;
     } else f
 
+-- the frame with several slots more, one after the other
 abbrev pub pushedAll : Frame → List Bool → Frame
 pushedAll f bs = fold pushed f bs
 
+-- the frame is one that the program can hold: 64 bytes
 pub record Held (f : Frame) : Type 0 where
   pub size : length (f .bits) ≡ 64
   pub bytes : Bytes (f .bits)
@@ -302,7 +303,7 @@ pub blank-lineable : (p : Bool) → lineable (blankFrame p) ≡ true
 unfolding noBits
 blank-lineable p = rw (or-true p) (zeros-clear 64)
 
--- the slots bs recorded after a reset with presence: at most 512 of them
+-- the frame shows presence and just the slots bs, and a line can carry it
 pub record Recorded (bs : List Bool) (f : Frame) : Type 0 where
   pub shown : f .presence ≡ true
   pub slots : slotsOf f ≡ bs
@@ -339,5 +340,6 @@ recorded-after before (b ∷ bs) f h r =
     let l : length (before ++ (b ∷ [])) + length bs ≤ mostSlots = simp length-append (omega arith) in
     rw (← append-assoc before (b ∷ []) bs) (recorded-after (before ++ (b ∷ [])) bs (pushed f b) l (recorded-more before f b k r))
 
+-- slots recorded one after the other on a blank frame are the frame's slots
 pub recorded-all : (bs : List Bool) → length bs ≤ mostSlots → Recorded bs (pushedAll (blankFrame true) bs)
 recorded-all bs h = recorded-after [] bs (blankFrame true) (omega arith) recorded-none

@@ -1,11 +1,5 @@
--- Upper-case hexadecimal digits, as the scope's frames, codes and readings are written.
---     digitOf v        the character of a value below 16
---     valueOf c        the value of a character, 16 for one that is no upper-case digit
---     digits n x       the n lowest digits of x, most significant first
---     numberIn cs      the number that digits stand for, most significant first; 0 for none
---     hexOf bs         the two digits of each byte, in turn
---     bytesOf cs       the bytes that pairs of digits stand for; a last one without a partner is passed over
---     codeDigits x     the sixteen digits of a 64-bit code
+-- Upper-case hexadecimal digits, in which the scope writes frames, codes and readings: most significant digit first, two for a byte.
+-- Lower case is no digit.
 -- Assumes nothing.
 use Prim.Native.Nat.{ℕ, zero, suc, _+_, _-_, _*_, _/_, _%_, _^_, _<_, _≤_}
 use mathlib.Core.Path.{_≡_, refl, sym, ap, _∙_}
@@ -14,7 +8,7 @@ use mathlib.Core.List.{List, [], _∷_, _++_, append-assoc, append-nil}
 use native.Mathlib.Omega.{arith}
 use native.Mathlib.Nat.{pow-suc, le-of-lt}
 use native.Mathlib.Numerals.{add-one}
-use borrow.Author.Tests.{lt-ltb, le-ltb, le-leb, lt-leb, leb-true, leb-false, ltb-true, ltb-false}
+use borrow.Author.Tests.{lt-ltb, le-ltb, le-leb, lt-leb, leb-true, ltb-true, ltb-false}
 use lib.Dec.{ltb, leb, lit<}
 use lib.ListN.{length, take, getD, length-append}
 use lib.Seq.{take-suc, length-take-le}
@@ -23,15 +17,19 @@ use Rattle.lists.specs.Fold.{fold, fold-append, all}
 use Rattle.lists.specs.Laid.{laid, laid-more}
 use Rattle.frame.specs.Laws.{Bytes, all-append, and-left, and-right}
 
+-- the character of a value below 16
 abbrev pub digitOf : ℕ → ℕ
 digitOf v = if ltb v 10 then 0x30 + v else 0x37 + v
 
+-- the value of a character, 16 for one that is no digit
 abbrev pub valueOf : ℕ → ℕ
 valueOf c = if leb 0x30 c && leb c 0x39 then c - 0x30 else if leb 0x41 c && leb c 0x46 then c - 0x37 else 16
 
+-- whether a character is a digit
 abbrev pub isDigit : ℕ → Bool
 isDigit c = ltb (valueOf c) 16
 
+-- the n lowest digits of x, most significant first
 unfoldable pub digits : ℕ → ℕ → List ℕ
 digits zero x = []
 digits (suc n) x = digits n (x / 16) ++ (digitOf (x % 16) ∷ [])
@@ -40,18 +38,22 @@ digits (suc n) x = digits n (x / 16) ++ (digitOf (x % 16) ∷ [])
 abbrev pub thenDigit : ℕ → ℕ → ℕ
 thenDigit x c = 16 * x + valueOf c
 
+-- the number that digits stand for, most significant first; 0 for none
 unfoldable pub numberIn : List ℕ → ℕ
 numberIn cs = fold thenDigit 0 cs
 
+-- the two digits of each byte, in turn
 unfoldable pub hexOf : List ℕ → List ℕ
 hexOf [] = []
 hexOf (b ∷ bs) = digits 2 b ++ hexOf bs
 
+-- the bytes that pairs of digits stand for; a last digit without a partner is passed over
 unfoldable pub bytesOf : List ℕ → List ℕ
 bytesOf [] = []
 bytesOf (h ∷ []) = []
 bytesOf (h ∷ l ∷ cs) = (16 * valueOf h + valueOf l) ∷ bytesOf cs
 
+-- the sixteen digits of a 64-bit code
 abbrev pub codeDigits : ℕ → List ℕ
 codeDigits x = digits 16 x
 

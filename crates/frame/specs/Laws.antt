@@ -1,7 +1,7 @@
 -- Laws on lists that the definitions of this crate rest on and that speak of no frame.
 --     Bytes l      every element of l is below 256
 -- Assumes nothing.
-use Prim.Native.Nat.{ℕ, zero, suc, _+_, _-_, _*_, _/_, _^_, _<_, _≤_}
+use Prim.Native.Nat.{ℕ, zero, suc, _+_, _-_, _*_, _^_, _<_, _≤_}
 use mathlib.Core.Path.{_≡_, refl, sym, ap, _∙_}
 use mathlib.Core.Bool.{Bool, true, false, _&&_, and-assoc, false≢true}
 use mathlib.Core.List.{List, [], _∷_, _++_}
@@ -10,7 +10,7 @@ use native.Mathlib.Numerals.{add-one}
 use native.Mathlib.Nat.{le-of-lt, pow-succ', mul-left-comm}
 use lib.Dec.{eqb, lit<}
 use lib.ListN.{length, set, take, drop, getD, replicate, take-append-drop, drop-of-length-le, List·getD-append}
-use lib.Seq.{take-suc, length-take-le, drop-cons, getD-take, getD-drop, getD-append-add}
+use lib.Seq.{take-suc, length-take-le, drop-cons, getD-drop, getD-append-add}
 use Rattle.lists.specs.Fold.{all}
 use Rattle.lists.specs.Laid.{laid, laid-store, laid-more}
 use Rattle.bits.specs.Bits.{bitNumber, bitAt, bitsOf, numberOf, bytesBits, bits-length, bits-at}

@@ -1,16 +1,13 @@
 -- How the bytes of a recording are cut into lines: a line feed ends a line, and what stands after the last feed is a line without one.
---     Line            the characters before the feed or the end, and whether there was a feed
---     linesOf s       the lines of s, in order; none of no bytes
---     joined l        a line as it stands in a recording, with its feed if it has one
---     feedAt s        how many bytes stand before the first feed of s; all where it has none
+-- Any byte but the feed is a character of its line.
 -- Assumes nothing.
-use Prim.Native.Nat.{ℕ, zero, suc, _+_, _<_, _≤_}
-use mathlib.Core.Path.{_≡_, refl, sym, ap, _∙_}
+use Prim.Native.Nat.{ℕ, suc, _+_, _<_, _≤_}
+use mathlib.Core.Path.{_≡_, refl, ap, _∙_}
 use mathlib.Core.Bool.{Bool, true, false, not}
-use mathlib.Core.List.{List, [], _∷_, _++_, append-nil, append-assoc}
+use mathlib.Core.List.{List, [], _∷_, _++_}
 use native.Mathlib.Omega.{arith}
 use native.Mathlib.Numerals.{add-one}
-use borrow.Author.Tests.{eqb-true, eqb-false, eq-eqb, ne-eqb, lt-ltb, not-true}
+use borrow.Author.Tests.{eqb-true, eq-eqb, ne-eqb, lt-ltb, not-true}
 use lib.Dec.{eqb, ltb, leb·suc-suc}
 use lib.ListN.{length, take, drop, getD, drop-of-length-le}
 use lib.Seq.{drop-cons}
@@ -18,9 +15,11 @@ use Rattle.lists.specs.Choice.{if_then_else_}
 use Rattle.lists.specs.Fold.{all}
 use Rattle.frame.specs.Laws.{and-left, and-right}
 
+-- the character that ends a line
 abbrev pub lineFeed : ℕ
 lineFeed = 0x0A
 
+-- the characters before the feed or the end, and whether there was a feed
 pub record Line : Type 0 where
   pub chars : List ℕ
   pub fed : Bool
@@ -30,13 +29,16 @@ abbrev pub longer : ℕ → List Line → List Line
 longer c [] = record { chars = c ∷ []; fed = false } ∷ []
 longer c (l ∷ ls) = record { chars = c ∷ l .chars; fed = l .fed } ∷ ls
 
+-- the lines of some bytes, in order; none of no bytes
 unfoldable pub linesOf : List ℕ → List Line
 linesOf [] = []
 linesOf (c ∷ s) = if eqb c lineFeed then record { chars = []; fed = true } ∷ linesOf s else longer c (linesOf s)
 
+-- a line as it stands in a recording, with its feed if it has one
 abbrev pub joined : Line → List ℕ
 joined l = if l .fed then l .chars ++ (lineFeed ∷ []) else l .chars
 
+-- how many bytes stand before the first feed; all where there is none
 unfoldable pub feedAt : List ℕ → ℕ
 feedAt [] = 0
 feedAt (c ∷ s) = if eqb c lineFeed then 0 else suc (feedAt s)

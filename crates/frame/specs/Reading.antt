@@ -1,13 +1,10 @@
--- What one line says, with the refusals 2 and 3 in the scope's order, and what the reader answers at a place of a recording.
---     frameIn cs        the frame that the digits cs spell: presence, count, then the bytes of the slots
---     wellFormed cs     whether presence is 00 or 01, the length is that of the count, and a line can carry the frame
---     readLine l        the line's frame, or its refusal: over-long first, then 2, then the rest of 3
---     readAt s at       the line that starts at `at`, and the next place; done at or past the end
+-- What one line of a recording says, with the refusals 2 and 3 in the scope's order, and what the reader answers at a place.
+-- A line has two digits presence, four digits count, and the slots' bytes.
 -- Assumes nothing.
-use Prim.Native.Nat.{ℕ, zero, suc, _+_, _*_, _/_, _%_, _<_, _≤_}
-use mathlib.Core.Path.{_≡_, refl, sym, ap, _∙_}
+use Prim.Native.Nat.{ℕ, _+_, _*_, _<_, _≤_}
+use mathlib.Core.Path.{_≡_, refl, _∙_}
 use mathlib.Core.Bool.{Bool, true, false, _&&_, _||_, and-false}
-use mathlib.Core.List.{List, [], _∷_, _++_}
+use mathlib.Core.List.{List, [], _∷_}
 use native.Mathlib.Omega.{arith}
 use borrow.Author.Tests.{leb-true, lt-ltb, le-ltb, ltb-false, le-leb, lt-leb, eq-eqb, ne-eqb}
 use lib.Dec.{eqb, leb, ltb}
@@ -21,38 +18,38 @@ use Rattle.frame.specs.declared.LineRead.{LineRead}
 use Rattle.frame.specs.Laws.{and-left, and-right}
 use Rattle.frame.specs.Hex.{valueOf, isDigit, numberIn, bytesOf, bytes-length}
 use Rattle.frame.specs.Frames.{noBits, blankFrame, bytesFor, countAllowed, clearFrom, lineable, mostSlots, pad-clear}
-use Rattle.frame.specs.Lines.{Line, linesOf, firstLine, feedAt, lines-first}
+use Rattle.frame.specs.Lines.{Line, linesOf}
 
 -- the most characters that stand before a feed: presence, count and the 64 bytes of 512 slots
 abbrev pub longest : ℕ
 longest = 134
 
+-- what the first two digits say
 abbrev pub presenceIn : List ℕ → ℕ
 presenceIn cs = numberIn (take 2 cs)
 
+-- what the four digits after them say
 abbrev pub countIn : List ℕ → ℕ
 countIn cs = numberIn (take 4 (drop 2 cs))
 
+-- the frame that digits spell, its bytes filled up with zeros
 abbrev pub frameIn : List ℕ → Frame
 frameIn cs = record { presence = eqb (presenceIn cs) 1; count = countIn cs; bits = laid noBits 0 (bytesOf (drop 6 cs)) }
 
+-- whether presence is 00 or 01, the length is that of the count, and a line can carry the frame
 abbrev pub wellFormed : List ℕ → Bool
 wellFormed cs = leb (presenceIn cs) 1 && eqb (length cs) (6 + 2 * bytesFor (countIn cs)) && lineable (frameIn cs)
 
--- what a line says
+-- what a line says: a frame, or the number with which it is refused
 pub data Reading : Type 0 where
   carries : Frame → Reading
   refused : ℕ → Reading
 
--- of digits only, with a feed behind them
--- the digits of the slots' bytes, behind a head that is in order
-unfoldable pub readSlots : Bool → ℕ → List ℕ → Reading
-readSlots p n cs =
-    if clearFrom n (bytesOf cs) then carries record { presence = p; count = n; bits = laid noBits 0 (bytesOf cs) } else refused malformed
-
+-- what digits say that have a feed behind them
 unfoldable pub readDigits : List ℕ → Reading
 readDigits cs = if wellFormed cs then carries (frameIn cs) else refused malformed
 
+-- what a line says: an over-long one is refused first, then one with another character or no feed
 unfoldable pub readLine : Line → Reading
 readLine l =
     if ltb longest (length (l .chars)) then refused malformed
@@ -63,10 +60,6 @@ readLine l =
 abbrev pub answered : ℕ → Reading → LineRead
 answered next (carries f) = record { refusal = accepted; done = false; next = next; frame = f }
 answered next (refused n) = record { refusal = n; done = false; next = next; frame = blankFrame false }
-
-pub answered-next : (n : ℕ) (r : Reading) → answered n r .next ≡ n
-answered-next n (carries f) = refl
-answered-next n (refused k) = refl
 
 -- how many bytes of a recording a line takes: its characters, and its feed if it has one
 abbrev pub width : Line → ℕ
@@ -81,8 +74,34 @@ abbrev pub firstRead : ℕ → List Line → LineRead
 firstRead at [] = doneAt at
 firstRead at (l ∷ ls) = answered (at + width l) (readLine l)
 
+-- the reader's answer at a place: the line that starts there and the place of the next; done at or past the end
 abbrev pub readAt : List ℕ → ℕ → LineRead
 readAt s at = firstRead at (linesOf (drop at s))
+
+-- ## The answer's next place
+
+pub answered-next : (n : ℕ) (r : Reading) → answered n r .next ≡ n
+answered-next n (carries f) = refl
+answered-next n (refused k) = refl
+
+-- ## Each way a line is refused before its digits are looked into
+
+module _ (l : Line) where
+  pub read-long : longest < length (l .chars) → readLine l ≡ refused malformed
+  unfolding readLine
+  read-long h = rw (lt-ltb longest (length (l .chars)) h)
+
+  pub read-open : length (l .chars) ≤ longest → l .fed ≡ false → readLine l ≡ refused notHex
+  unfolding readLine
+  read-open h e = rw (le-ltb longest (length (l .chars)) h, e, and-false (all isDigit (l .chars)))
+
+  pub read-other : length (l .chars) ≤ longest → all isDigit (l .chars) ≡ false → readLine l ≡ refused notHex
+  unfolding readLine
+  read-other h e = rw (le-ltb longest (length (l .chars)) h, e)
+
+  pub read-fed : length (l .chars) ≤ longest → l .fed ≡ true → all isDigit (l .chars) ≡ true → readLine l ≡ readDigits (l .chars)
+  unfolding readLine
+  read-fed h e d = rw (le-ltb longest (length (l .chars)) h, e, d)
 
 -- ## What an accepted line tells
 
@@ -116,25 +135,6 @@ unfolding readLine readDigits
 accepted-read l f a =
     rw (le-ltb longest (length (l .chars)) (a .short), a .digital, a .ended, a .formed, a .spelt)
 
--- ## Each way a line is refused before its digits are looked into
-
-module _ (l : Line) where
-  pub read-long : longest < length (l .chars) → readLine l ≡ refused malformed
-  unfolding readLine
-  read-long h = rw (lt-ltb longest (length (l .chars)) h)
-
-  pub read-open : length (l .chars) ≤ longest → l .fed ≡ false → readLine l ≡ refused notHex
-  unfolding readLine
-  read-open h e = rw (le-ltb longest (length (l .chars)) h, e, and-false (all isDigit (l .chars)))
-
-  pub read-other : length (l .chars) ≤ longest → all isDigit (l .chars) ≡ false → readLine l ≡ refused notHex
-  unfolding readLine
-  read-other h e = rw (le-ltb longest (length (l .chars)) h, e)
-
-  pub read-fed : length (l .chars) ≤ longest → l .fed ≡ true → all isDigit (l .chars) ≡ true → readLine l ≡ readDigits (l .chars)
-  unfolding readLine
-  read-fed h e d = rw (le-ltb longest (length (l .chars)) h, e, d)
-
 -- ## The head's numbers, digit by digit
 
 pub presence-in : (cs : List ℕ) → 6 ≤ length cs → presenceIn cs ≡ 16 * valueOf (getD cs 0 0) + valueOf (getD cs 1 0)
@@ -156,6 +156,11 @@ count-in (a ∷ b ∷ c ∷ d ∷ e ∷ f ∷ cs) h = omega arith
 
 -- ## The digits of the slots
 
+-- what they say behind a head that is in order
+unfoldable pub readSlots : Bool → ℕ → List ℕ → Reading
+readSlots p n cs =
+    if clearFrom n (bytesOf cs) then carries record { presence = p; count = n; bits = laid noBits 0 (bytesOf cs) } else refused malformed
+
 pub body-length : (cs : List ℕ) (n : ℕ) → length cs ≡ 2 * bytesFor n → length (bytesOf cs) ≡ bytesFor n
 body-length cs n e = bytes-length (bytesFor n) cs e
 
@@ -168,7 +173,7 @@ pub slots-spare : (p : Bool) (n : ℕ) (cs : List ℕ) → clearFrom n (bytesOf 
 unfolding readSlots
 slots-spare p n cs h = rw h
 
--- ## Each way a line of digits is refused, and the one in which it is accepted
+-- ## Each way a line of digits is refused by its head
 
 module _ (cs : List ℕ) where
   unformed : wellFormed cs ≡ false → readDigits cs ≡ refused malformed

@@ -1,34 +1,35 @@
--- A recording as a list of lines, and the two round trips of a whole recording.
---     readAll s         what each line of s says, in order
---     writeAll fs       the lines of the frames, one after the other, each with its feed
---     Writable fs       each of the frames is one that a line can carry
+-- A recording as a list of lines, and the two round trips of a whole recording: written, then read; and read, then written.
+-- The reader's answers at one place after another are its lines in order.
 -- Assumes nothing.
-use Prim.Native.Nat.{ℕ, zero, suc, _+_, _-_, _<_, _≤_}
+use Prim.Native.Nat.{ℕ, _+_, _-_, _<_, _≤_}
 use mathlib.Core.Path.{_≡_, refl, sym, ap, _∙_}
 use mathlib.Core.Bool.{Bool, true, false, not, false≢true}
-use mathlib.Core.List.{List, [], _∷_, _++_, map, append-assoc}
+use mathlib.Core.List.{List, [], _∷_, _++_, map}
 use native.Mathlib.Omega.{arith}
 use borrow.Author.Tests.{eqb-true, lt-ltb, le-ltb, ltb-true, ltb-false}
 use lib.Dec.{eqb, ltb}
-use lib.ListN.{length, take, drop, getD, length-drop, drop-of-length-le}
-use lib.Seq.{drop-drop, drop-cons, length-take-le}
+use lib.ListN.{length, take, drop, length-drop, drop-of-length-le}
+use lib.Seq.{drop-drop, length-take-le}
 use Rattle.lists.specs.Choice.{if_then_else_}
 use Rattle.lists.specs.Fold.{all}
 use Rattle.frame.specs.declared.Frame.{Frame}
 use Rattle.frame.specs.Laws.{and-left, and-right}
 use Rattle.frame.specs.Hex.{isDigit}
 use Rattle.frame.specs.Frames.{lineable, Held}
-use Rattle.frame.specs.Lines.{Line, lineFeed, notFeed, linesOf, joined, joinedAll, feedAt, firstLine, feed-within, lines-first, lines-joined, lines-cut}
+use Rattle.frame.specs.Lines.{Line, lineFeed, notFeed, linesOf, joinedAll, feedAt, firstLine, feed-within, lines-first, lines-joined, lines-cut}
 use Rattle.frame.specs.Reading.{Reading, carries, readLine, readAt, firstRead, answered, answered-next, doneAt, width}
 use Rattle.frame.specs.Writing.{lineOf, fedLine, line-digits, read-written, written-read}
 
+-- what each line says, in order
 abbrev pub readAll : List ℕ → List Reading
 readAll s = map readLine (linesOf s)
 
+-- the lines of frames, one after the other, each with its feed
 unfoldable pub writeAll : List Frame → List ℕ
 writeAll [] = []
 writeAll (f ∷ fs) = fedLine f ++ writeAll fs
 
+-- each of the frames is one that the program can hold and a line can carry
 pub data Writable : List Frame → Type 0 where
   none : Writable []
   one : {f : Frame} {fs : List Frame} → Held f → lineable f ≡ true → Writable fs → Writable (f ∷ fs)
@@ -74,15 +75,18 @@ lines-back (l ∷ ls) (f ∷ fs) h =
 pub write-back : (s : List ℕ) (fs : List Frame) → readAll s ≡ map carries fs → writeAll fs ≡ s
 write-back s fs h = lines-back (linesOf s) fs h ∙ lines-joined s
 
--- and its frames are those that lines can carry
-pub read-writable : (ls : List Line) (fs : List Frame) → map readLine ls ≡ map carries fs → Writable fs
-read-writable ls [] h = none
-read-writable [] (f ∷ fs) h = let z : _≡_ {A = ℕ} 0 1 = cc in absurd (omega arith)
-read-writable (l ∷ ls) (f ∷ fs) h =
+lines-writable : (ls : List Line) (fs : List Frame) → map readLine ls ≡ map carries fs → Writable fs
+lines-writable ls [] h = none
+lines-writable [] (f ∷ fs) h = let z : _≡_ {A = ℕ} 0 1 = cc in absurd (omega arith)
+lines-writable (l ∷ ls) (f ∷ fs) h =
     let a : readLine l ≡ carries f = cc in
     let b : map readLine ls ≡ map carries fs = cc in
     let c = written-read l f a in
-    one (c .held) (c .sound) (read-writable ls fs b)
+    one (c .held) (c .sound) (lines-writable ls fs b)
+
+-- and its frames are those that lines can carry
+pub read-writable : (s : List ℕ) (fs : List Frame) → readAll s ≡ map carries fs → Writable fs
+read-writable s fs h = lines-writable (linesOf s) fs h
 
 -- ## One line after the other, by places
 
@@ -91,10 +95,7 @@ lines-split : (t : List ℕ) → 0 < length t → linesOf t ≡ firstLine t ∷ 
 lines-split [] h = absurd (omega arith)
 lines-split (c ∷ r) h =
     let t = c ∷ r in
-    let n = feedAt t in
-    let l : length (take n t) ≡ n = length-take-le n t (feed-within t) in
-    let past : (u : Bool) → ltb n (length t) ≡ u → drop (n + 1) t ≡ drop (if u then length (take n t) + 1 else length (take n t)) t = past-first t in
-    lines-first c r ∙ ap (λ (m : List ℕ). firstLine t ∷ linesOf m) (past (ltb n (length t)) refl)
+    lines-first c r ∙ ap (λ (m : List ℕ). firstLine t ∷ linesOf m) (past-first t (ltb (feedAt t) (length t)) refl)
   where
     past-first : (t : List ℕ) (u : Bool) → ltb (feedAt t) (length t) ≡ u
         → drop (feedAt t + 1) t ≡ drop (if u then length (take (feedAt t) t) + 1 else length (take (feedAt t) t)) t

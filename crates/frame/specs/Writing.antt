@@ -1,55 +1,56 @@
--- The line of a frame, what a writer at a place answers and leaves, and the two round trips of one line.
---     lineOf f            two digits presence, four digits count, then the bytes of the slots
---     fedLine f           the same with its line feed
---     fits s at f         whether that ends within s when it starts at `at`
---     writeAnswer s at f  3 for a frame that no line can carry, then 1 for no room, else the place behind the line
---     writeLeaves s at f  the line laid over s, or s as it was on a refusal
+-- The line of a frame, and what a writer at a place answers and leaves: refusal 3 for a frame that no line can carry, then 1 for no room.
+-- The two round trips of one line stand here: a written line is read as its frame, and an accepted line is written as it was.
 -- Assumes nothing.
-use Prim.Native.Nat.{ℕ, zero, suc, _+_, _*_, _/_, _%_, _^_, _<_, _≤_}
+use Prim.Native.Nat.{ℕ, _+_, _*_, _/_, _%_, _^_, _<_, _≤_}
 use mathlib.Core.Path.{_≡_, refl, sym, ap, _∙_}
-use mathlib.Core.Bool.{Bool, true, false, not, _&&_, _||_, and-true}
+use mathlib.Core.Bool.{Bool, true, false, not, _&&_, _||_}
 use mathlib.Core.List.{List, [], _∷_, _++_, append-assoc}
 use native.Mathlib.Omega.{arith}
-use borrow.Author.Tests.{leb-true, le-leb, lt-leb, eqb-true, eq-eqb, ltb-false}
-use lib.Dec.{eqb, leb, ltb, lit<, lit≤}
-use lib.ListN.{length, set, take, drop, getD, replicate, length-append, length-take, length-drop, take-append-drop}
-use lib.Seq.{length-take-le, take-at, drop-at, drop-drop, drop-append-le, take-add}
+use borrow.Author.Tests.{leb-true, le-leb, lt-leb, eqb-true, eq-eqb}
+use lib.Dec.{eqb, leb, lit<, lit≤}
+use lib.ListN.{length, set, take, drop, length-append, length-take, length-drop, take-append-drop}
+use lib.Seq.{length-take-le, take-at, drop-at, take-add}
 use Rattle.lists.specs.Choice.{if_then_else_}
 use Rattle.lists.specs.Fold.{all}
 use Rattle.lists.specs.Laid.{laid, laid-read, laid-store}
-use Rattle.bits.specs.Bits.{bitNumber, bytesBits, bytes-append}
+use Rattle.bits.specs.Bits.{bitNumber}
 use Rattle.refusals.specs.Refusals.{accepted, noRoom, malformed}
 use Rattle.frame.specs.declared.Frame.{Frame}
 use Rattle.frame.specs.declared.Written.{Written}
-use Rattle.frame.specs.Laws.{Bytes, and-left, and-right, all-append, all-take, all-drop, bytes-take, one-bit, laid-then}
-use Rattle.frame.specs.Hex.{isDigit, digits, numberIn, hexOf, bytesOf, digits-length, digits-are, number-digits, digits-number, hex-length, hex-are, bytes-hex, hex-bytes, bytes-length, bytes-bytes}
+use Rattle.frame.specs.Laws.{and-left, and-right, all-append, all-take, all-drop, bytes-take, one-bit, laid-then}
+use Rattle.frame.specs.Hex.{isDigit, digits, hexOf, bytesOf, digits-length, digits-are, number-digits, digits-number, hex-length, hex-are, bytes-hex, hex-bytes, bytes-length, bytes-bytes}
 use Rattle.frame.specs.Frames.{noBits, bytesFor, countAllowed, clearFrom, lineable, mostSlots, Held, pad-back, pad-length, pad-bytes}
 use Rattle.frame.specs.Lines.{Line, lineFeed}
-use Rattle.frame.specs.Reading.{longest, presenceIn, countIn, frameIn, wellFormed, readLine, carries, Accepted, read-accepted, accepted-read}
+use Rattle.frame.specs.Reading.{presenceIn, countIn, frameIn, wellFormed, readLine, carries, read-accepted, accepted-read}
 
 -- 01 or 00, then the four digits of the count
 abbrev pub headOf : Bool → ℕ → List ℕ
 headOf p n = digits 2 (bitNumber p) ++ digits 4 n
 
--- the bytes that hold a slot
+-- the bytes in which its slots lie
 abbrev pub slotBytes : Frame → List ℕ
 slotBytes f = take (bytesFor (f .count)) (f .bits)
 
+-- the characters of a frame's line
 unfoldable pub lineOf : Frame → List ℕ
 lineOf f = headOf (f .presence) (f .count) ++ hexOf (slotBytes f)
 
+-- the line with its feed
 abbrev pub fedLine : Frame → List ℕ
 fedLine f = lineOf f ++ (lineFeed ∷ [])
 
+-- whether it ends within the slice when it starts at a place
 abbrev pub fits : List ℕ → ℕ → Frame → Bool
 fits s at f = leb (at + length (fedLine f)) (length s)
 
+-- the writer's answer: a refusal, or the place behind the line
 abbrev pub writeAnswer : List ℕ → ℕ → Frame → Written
 writeAnswer s at f =
     if not (lineable f) then record { refusal = malformed; next = 0 }
     else if fits s at f then record { refusal = accepted; next = at + length (fedLine f) }
     else record { refusal = noRoom; next = 0 }
 
+-- what the writer leaves of the slice: the line laid at the place, or all as it was on a refusal
 abbrev pub writeLeaves : List ℕ → ℕ → Frame → List ℕ
 writeLeaves s at f = if lineable f && fits s at f then laid s at (fedLine f) else s
 
@@ -146,6 +147,7 @@ module _ (f : Frame) (held : Held f) (h : lineable f ≡ true) where
       (spelt-presence, spelt-count, spelt-bits, bit-one (f .presence), le-leb (bitNumber (f .presence)) 1 (bit-le (f .presence)), eq-eqb (length (lineOf f)) (6 + 2 * bytesFor (f .count)) (line-length f (held .size) h))
       h
 
+  -- a written line is read as its frame
   pub read-written : readLine record { chars = lineOf f; fed = true } ≡ carries f
   read-written = accepted-read record { chars = lineOf f; fed = true } f record {
     short = let c = lineable-count f h in let l = line-length f (held .size) h in omega arith;
@@ -212,6 +214,7 @@ pub record Carried (l : Line) (f : Frame) : Type 0 where
   pub sound : lineable f ≡ true
   pub held : Held f
 
+-- an accepted line is written as it was
 pub written-read : (l : Line) (f : Frame) → readLine l ≡ carries f → Carried l f
 written-read l f h =
     let a = read-accepted l f h in
@@ -267,7 +270,10 @@ module _ (s : List ℕ) (at : ℕ) (f : Frame) where
 
   pub write-short : lineable f ≡ true → length s < at + length (fedLine f)
       → (record { refusal = noRoom; next = 0 } ≡ writeAnswer s at f) × (s ≡ writeLeaves s at f)
-  write-short e h = let g = lt-leb (at + length (fedLine f)) (length s) h in (rw (e, g), rw (e, g))
+  write-short e h =
+      let g = lt-leb (at + length (fedLine f)) (length s) h in
+      let none : (lineable f && fits s at f) ≡ false = rw (e, g) in
+      (rw (e, g), ap (λ (t : Bool). if t then laid s at (fedLine f) else s) (sym none))
 
   pub write-done : (n : ℕ) → lineable f ≡ true → length (fedLine f) ≡ n → at + n ≤ length s
       → (record { refusal = accepted; next = at + n } ≡ writeAnswer s at f) × (laid s at (fedLine f) ≡ writeLeaves s at f)

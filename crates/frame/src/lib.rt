@@ -1,7 +1,7 @@
 // Frames: what the wire showed after one reset, and the line of a recording that carries it.
 ghost use mathlib.Core.Path.{_≡_};
 ghost use Prim.Native.Nat.{_<_, _≤_};
-ghost use Rattle.frame.specs.Frames.{blankFrame, slotBit, pushed, withBit, clearFrom, countAllowed, lineable, bytesFor};
+ghost use Rattle.frame.specs.Frames.{blankFrame, slotBit, pushed, withBit, clearFrom, countAllowed, lineable, bytesFor, mostSlots};
 ghost use Rattle.frame.specs.Reading.{readAt};
 ghost use Rattle.frame.specs.Writing.{writeAnswer, writeLeaves};
 
@@ -144,7 +144,7 @@ fn can_carry(f: Frame) -> bool
 
 // How many bytes the slots take.
 fn bytes_for(count: u16) -> usize
-    requires { ⌜ count ≤ 512 ⌝ }
+    requires { ⌜ count ≤ mostSlots ⌝ }
     ensures { λ r. ⌜ r ≡ bytesFor count ⌝ }
 {
     ((count + 7) / 8) as usize

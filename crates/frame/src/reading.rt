@@ -5,7 +5,7 @@ ghost use Prim.Native.Nat.{_+_, _*_, _≤_};
 ghost use lib.ListN.{length, drop};
 ghost use Rattle.lists.specs.Fold.{all};
 ghost use Rattle.frame.specs.Hex.{isDigit};
-ghost use Rattle.frame.specs.Frames.{bytesFor};
+ghost use Rattle.frame.specs.Frames.{bytesFor, mostSlots};
 ghost use Rattle.frame.specs.Lines.{feedAt};
 ghost use Rattle.frame.specs.Reading.{countIn, readSlots, readDigits, readLine, answered, refused};
 use super::hex;
@@ -58,7 +58,7 @@ fn count_of(line: &[u8]) -> u16
 
 // The slots' bytes, behind a head that is in order.
 fn read_slots(body: &[u8], presence: bool, count: u16, next: usize) -> LineRead
-    requires { ⌜ (count ≤ 512) × (length (now body) ≡ 2 * bytesFor count) × (all isDigit (now body) ≡ true) ⌝ }
+    requires { ⌜ (count ≤ mostSlots) × (length (now body) ≡ 2 * bytesFor count) × (all isDigit (now body) ≡ true) ⌝ }
     ensures { λ r. ⌜ r ≡ answered next (readSlots presence count (now (body .entry))) ⌝ }
 {
     let n = super::bytes_for(count);

@@ -4,7 +4,7 @@ ghost use Prim.Native.Nat.{_+_, _*_, _≤_};
 ghost use lib.ListN.{length};
 ghost use Rattle.lists.specs.Laid.{laid};
 ghost use Rattle.bits.specs.Bits.{bitNumber};
-ghost use Rattle.frame.specs.Frames.{bytesFor};
+ghost use Rattle.frame.specs.Frames.{bytesFor, mostSlots};
 ghost use Rattle.frame.specs.Writing.{headOf, fedLine};
 use super::hex;
 use crate::Frame;
@@ -30,7 +30,7 @@ fn put_head(s: &mut [u8], at: usize, presence: bool, count: u16)
 
 // The whole line with its feed, where there is room for it.
 pub(crate) fn put_line(s: &mut [u8], at: usize, f: Frame)
-    requires { ⌜ (f .count ≤ 512) × (at + (7 + 2 * bytesFor (f .count)) ≤ length (now s)) ⌝ }
+    requires { ⌜ (f .count ≤ mostSlots) × (at + (7 + 2 * bytesFor (f .count)) ≤ length (now s)) ⌝ }
     ensures { λ r. ⌜ now (s .exit) ≡ laid (now (s .entry)) at (fedLine f) ⌝ }
 {
     let count = f.count;

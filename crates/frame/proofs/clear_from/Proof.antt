@@ -3,8 +3,8 @@ use mathlib.Core.Bool.{_&&_}
 use borrow.Author.Tests.{eq-eqb, ne-eqb}
 use denote.Ref.{now}
 use lib.Dec.{eqb, lit<}
-use Prim.Native.Nat.{ℕ, _+_, _/_, _%_, _^_, _<_, _-_}
-use mathlib.Core.Path.{_≡_, refl, sym, ap, _∙_}
+use Prim.Native.Nat.{_+_, _/_, _%_, _^_, _<_, _-_}
+use mathlib.Core.Path.{_≡_, refl, sym, _∙_}
 use native.Mathlib.Omega.{arith}
 use lib.ListN.{length, drop, getD}
 use Rattle.frame.specs.Frames.{clearFrom, clear-start, clear-step, clear-end}

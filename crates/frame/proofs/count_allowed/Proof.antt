@@ -1,6 +1,5 @@
 -- The definition's tests, in its order. Assumes nothing.
 use borrow.Author.Tests.{lt-leb, le-leb}
-use borrow.Author.Needs.{needs}
 use Rattle.frame.proofs.count_allowed.Statement.{statement}
 use Rattle.frame.proofs.count_allowed.Tie as tie
 

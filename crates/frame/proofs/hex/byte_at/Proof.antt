@@ -33,6 +33,7 @@ mul-result : tie.Need-mul-result
 mul-result c =
     let a = c .before .before .before .before .before in
     let h = small a (a .args .at) (omega arith) in
+    let l = small a (a .args .at + 1) (omega arith) in
     omega arith
 
 add-result : tie.Need-add-result

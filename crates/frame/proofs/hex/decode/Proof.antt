@@ -2,8 +2,8 @@
 use denote.Ref.{now}
 use lib.Seq.{take-all}
 use Rattle.frame.specs.Laws.{laid-next}
-use Prim.Native.Nat.{ℕ, _+_, _*_, _≤_, _<_, _-_}
-use mathlib.Core.Path.{_≡_, refl, sym, _∙_}
+use Prim.Native.Nat.{_+_, _*_, _≤_, _<_, _-_}
+use mathlib.Core.Path.{_≡_, _∙_}
 use native.Mathlib.Omega.{arith}
 use lib.ListN.{length, take}
 use Rattle.lists.specs.Laid.{laid, laid-none}
