@@ -3,3 +3,5 @@ pub mod Access
 pub mod Search
 pub mod History
 pub mod Demand
+pub mod Kept
+pub mod Reached
