@@ -7,12 +7,13 @@
 --     flaggedCodes b     the codes of the devices whose flag is set, in the order of the devices
 -- Laws `search-..` are of F0h, laws `alarm-..` of ECh:
 --     ..-calls       on a bench that is free the calls make the search of the wire
+--     ..-loop        and so does a loop over the passes
 --     ..-listed      each code is listed once, in order
 --     ..-complete    as many passes as codes, each of 200 slots, and what each shows
 --     ..-passes      the search is the passes of these codes, slot by slot
 --     ..-none        where nobody takes part: one pass, of the command and two reads
 --     ..-keeps       no device changes but for its stage
---     ..-count, ..-free, ..-codes     how many there are, whether the wire is free and who takes part are as before
+--     ..-count, ..-free, ..-codes, ..-sound     how many there are, whether the wire is free, who takes part and what holds of every bench: as before
 -- Assumes nothing.
 use Prim.Native.Nat.{ℕ, suc, _^_, _<_, _≤_}
 use mathlib.Core.Path.{_≡_, refl, sym, ap, _∙_}
@@ -33,6 +34,7 @@ use Rattle.search_law.specs.Complete.{Complete, swept, search-is, search-nobody
 use Rattle.search_law.specs.Numbers.{Below, Numbered, numbers-complete, numbers-listed, bits-sized, bits-distinct}
 use Rattle.search_law.specs.Keeps.{Keeps, search-keeps as keeps-search}
 use Rattle.search_law.specs.Holds.{search-holds}
+use Rattle.search_law.specs.SearchLoop.{SameSearch, loopSearch, loop-search}
 use Rattle.device.specs.Hear.{hearOf}
 use Rattle.device.specs.Laws.{hear-only-stage}
 use Rattle.device.specs.Power.{resetOf}
@@ -40,7 +42,7 @@ use Rattle.device.specs.declared.Device.{Device}
 use Rattle.bench.specs.Bench.{live, holdsWire, free}
 use Rattle.bench.specs.Laws.{line-live, heard-live, heard-count, restarted-live, restarted-count, free-live, slot-accepted, reset-accepted}
 use Rattle.bench.specs.Slot.{lineOf, heard, slotted, restarted, resetDone}
-use Rattle.bench.specs.Sound.{codesOf}
+use Rattle.bench.specs.Sound.{codesOf, BenchSound, heard-sound, restarted-sound}
 use Rattle.bench.specs.declared.Bench.{Bench}
 use Rattle.searching.specs.Course.{Course, search-same}
 use Rattle.searching.specs.Thermometers.{thermometers, searchBits, alarmBits, unstaged, Moving, numbersOf, everybody, everybody-keeps, everybody-course, everybody-codes, flagged, flagged-keeps, flagged-course, flagged-codes}
@@ -197,6 +199,10 @@ module _ (fuel : ℕ) (b : Bench) where
   pub search-calls : free b ≡ true → wireSearch byCalls searchBits fuel 64 b ≡ searchOn fuel b
   search-calls = calls-search everybody everybody-keeps everybody-course fuel b
 
+  -- as a loop over the passes makes it
+  pub search-loop : free b ≡ true → SameSearch (searchOn fuel b) (loopSearch byCalls searchBits fuel 64 b)
+  search-loop h = rw (search-calls h) at (loop-search byCalls searchBits 64 fuel b)
+
   pub search-keeps : map unstaged (live (searchOn fuel b .devices)) ≡ map unstaged (live b)
   search-keeps = kept everybody everybody-keeps everybody-course fuel b
 
@@ -205,6 +211,9 @@ module _ (fuel : ℕ) (b : Bench) where
 
   pub search-free : free (searchOn fuel b .devices) ≡ free b
   search-free = same-free (searchOn fuel b .devices) b search-keeps
+
+  pub search-sound : BenchSound b → BenchSound (searchOn fuel b .devices)
+  search-sound = search-holds onWire BenchSound (λ m c. heard-sound c (lineOf c m)) restarted-sound searchBits 64 fuel b
 
   pub search-codes : codesOf (searchOn fuel b .devices) ≡ codesOf b
   search-codes = same-but-stage (λ d. d .code) (λ d. refl) (live (searchOn fuel b .devices)) (live b) search-keeps
@@ -230,6 +239,9 @@ module _ (fuel : ℕ) (b : Bench) where
   pub alarm-calls : free b ≡ true → wireSearch byCalls alarmBits fuel 64 b ≡ alarmSearchOn fuel b
   alarm-calls = calls-search flagged flagged-keeps flagged-course fuel b
 
+  pub alarm-loop : free b ≡ true → SameSearch (alarmSearchOn fuel b) (loopSearch byCalls alarmBits fuel 64 b)
+  alarm-loop h = rw (alarm-calls h) at (loop-search byCalls alarmBits 64 fuel b)
+
   pub alarm-keeps : map unstaged (live (alarmSearchOn fuel b .devices)) ≡ map unstaged (live b)
   alarm-keeps = kept flagged flagged-keeps flagged-course fuel b
 
@@ -238,6 +250,9 @@ module _ (fuel : ℕ) (b : Bench) where
 
   pub alarm-free : free (alarmSearchOn fuel b .devices) ≡ free b
   alarm-free = same-free (alarmSearchOn fuel b .devices) b alarm-keeps
+
+  pub alarm-sound : BenchSound b → BenchSound (alarmSearchOn fuel b .devices)
+  alarm-sound = search-holds onWire BenchSound (λ m c. heard-sound c (lineOf c m)) restarted-sound alarmBits 64 fuel b
 
   pub alarm-codes : flaggedCodes (alarmSearchOn fuel b .devices) ≡ flaggedCodes b
   alarm-codes = same-flagged (alarmSearchOn fuel b .devices) b alarm-keeps
