@@ -5,3 +5,5 @@ pub mod History
 pub mod Demand
 pub mod Kept
 pub mod Reached
+pub mod Counted
+pub mod Theorem

@@ -35,7 +35,7 @@ module _ (B : Bus) where
   slots-append (x ∷ xs) ys ds = let i = slots-append xs ys (B .after x ds) in rw i
 
   -- The run of a pass.
-  abbrev runOf : Pass (B .Devices) → Run (B .Devices)
+  abbrev pub runOf : Pass (B .Devices) → Run (B .Devices)
   runOf p = run (p .lines) (p .devices)
 
   triplets-issued : (n : ℕ) (plan : Plan) (ds : B .Devices) (ts : List Triple) → triplets B n plan ds .triples ≡ some ts

@@ -17,3 +17,4 @@ pub mod SearchLoop
 pub mod Numbers
 pub mod Small
 pub mod Examples
+pub mod Whole
