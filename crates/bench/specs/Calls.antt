@@ -23,6 +23,7 @@ use Rattle.device.specs.declared.Device.{Device}
 use Rattle.device.specs.declared.Joining.{Joining}
 use Rattle.bench.specs.declared.Bench.{Bench}
 use Rattle.bench.specs.declared.Changed.{Changed}
+use Rattle.bench.specs.declared.Looked.{Looked}
 use Rattle.bench.specs.declared.Place.{Place}
 use Rattle.bench.specs.declared.Place.the-variants.{At, Nowhere}
 use Rattle.bench.specs.Bench.{vacant, placeOf}
@@ -91,3 +92,13 @@ powerCycledAt b Nowhere = refused notFound b
 
 unfoldable pub powerCycled : Bench → ℕ → Changed
 powerCycled b code = powerCycledAt b (placeOf b code)
+
+-- ## Looking
+
+-- the device with this code, or 12 and a vacant place; nothing changes
+abbrev pub lookedAt : Bench → Place → Looked
+lookedAt b (At i) = record { refusal = accepted; device = deviceAt b i }
+lookedAt b Nowhere = record { refusal = notFound; device = vacant }
+
+unfoldable pub looked : Bench → ℕ → Looked
+looked b code = lookedAt b (placeOf b code)

@@ -7,7 +7,7 @@ ghost use Rattle.bench.specs.Bench.{vacant, emptyBench, placeOf, holdsWi
 ghost use Rattle.bench.specs.Slot.{lineOf, heard, slotted, restarted, resetDone};
 ghost use Rattle.refusals.specs.Refusals.{mismatch};
 ghost use Rattle.device.specs.Power.{powerUp};
-ghost use Rattle.bench.specs.Calls.{refused, changed, putLast, addedTo, deviceAt, withDevice, endConversion, conversionFinished, endCopy, copyFinished, powerCycled};
+ghost use Rattle.bench.specs.Calls.{refused, changed, putLast, addedTo, deviceAt, withDevice, endConversion, conversionFinished, endCopy, copyFinished, powerCycled, looked};
 use device::Activity;
 use device::Device;
 use device::Joining;
@@ -33,6 +33,12 @@ pub enum Place {
 pub struct Changed {
     pub refusal: u8,
     pub bench: Bench,
+}
+
+// The record of one device, or 12 and a vacant place.
+pub struct Looked {
+    pub refusal: u8,
+    pub device: Device,
 }
 
 pub struct ResetDone {
@@ -383,5 +389,22 @@ fn cycle_at(bench: Bench, place: usize) -> Changed
     Changed {
         refusal: refusals::ACCEPTED,
         bench: with_device(bench, place, device::power_cycle(d)),
+    }
+}
+
+// The record of the device with this code. Looking changes nothing.
+pub fn look(bench: Bench, code: u64) -> Looked
+    ensures answer { λ r. ⌜ r ≡ looked bench code ⌝ }
+{
+    let place = find(bench, code);
+    match place {
+        Place::At(i) => Looked {
+            refusal: refusals::ACCEPTED,
+            device: device_at(bench, i),
+        },
+        Place::Nowhere => Looked {
+            refusal: refusals::NOT_FOUND,
+            device: vacant_place(),
+        },
     }
 }
