@@ -7,3 +7,4 @@ pub mod Kept
 pub mod Reached
 pub mod Counted
 pub mod Theorem
+pub mod Corollaries
