@@ -5,7 +5,7 @@
 --     power-up-.., joined-.., conversion-.., copy-..     what these give and keep
 --     Quiet              a device that is quiet stays so, and leaves the line alone
 -- Assumes nothing.
-use Prim.Native.Nat.{ℕ, _+_}
+use Prim.Native.Nat.{ℕ}
 use mathlib.Core.Path.{_≡_, refl, sym, _∙_}
 use mathlib.Core.Bool.{Bool, true, false, false≢true}
 use mathlib.Core.List.{List}
@@ -16,7 +16,6 @@ use Rattle.device.specs.declared.Activity.{Activity}
 use Rattle.device.specs.declared.Activity.the-variants.{Idle}
 use Rattle.device.specs.declared.Device.{Device}
 use Rattle.device.specs.declared.Joining.{Joining}
-use Rattle.device.specs.declared.Page.{Page}
 use Rattle.device.specs.declared.Power.{Power}
 use Rattle.device.specs.declared.Settings.{Settings}
 use Rattle.device.specs.declared.Stage.{Stage}
