@@ -1,6 +1,6 @@
 -- What no slot, reset, power cycle or finish takes from a device holds of each device of a bench after every call, if it held before: laws `..-each`.
 --     Invariant P      nothing that can happen to a device takes P from it
--- The two that this repository uses: what holds of every device that the calls reach, and that every number is one that its type holds.
+-- Two such: what holds of every device that the calls reach, and that every number is one that its type holds.
 -- Assumes nothing.
 use Prim.Native.Nat.{ℕ, zero, suc, _<_}
 use mathlib.Core.Path.{_≡_}
