@@ -4,18 +4,19 @@
 --                                  what holds of a refusal and of what else a call does holds of the call
 --     Added b new after            the new device stands after the others
 --     OneChanged b code f after    the device with the code, and it alone, has become f of what it was
+--     ..-refused                   a refused call changes nothing
 --     place-found, place-nowhere   the place of a code is where a device has it; nowhere if none has
 -- Assumes nothing.
-use Prim.Native.Nat.{ℕ, zero, suc, _+_, _<_, _≤_, min}
-use mathlib.Core.Path.{_≡_, refl, sym, ap, _∙_}
+use Prim.Native.Nat.{ℕ, zero, suc, _+_, _<_, _≤_}
+use mathlib.Core.Path.{_≡_, refl, ap, _∙_}
 use mathlib.Core.Logic.{_≢_}
-use mathlib.Core.Bool.{Bool, true, false, false≢true, not, _&&_}
+use mathlib.Core.Bool.{Bool, true, false, not, _&&_}
 use mathlib.Core.List.{List, [], _∷_, _++_, map}
 use native.Mathlib.Omega.{arith}
 use native.Mathlib.Numerals.{add-one}
 use borrow.Author.Tests.{eqb-true, eqb-false, ltb-true}
 use lib.Dec.{eqb, ltb}
-use lib.ListN.{length, take, getD, set, length-set, length-take}
+use lib.ListN.{length, getD, set, length-set, length-take}
 use lib.Seq.{take-suc-set, take-set-lt, getD-take}
 use Rattle.lists.specs.Choice.{if_then_else_}
 use Rattle.lists.specs.First.{firstWith}
@@ -102,6 +103,12 @@ reset-cases b P taken held = by-test (free b) refl
         → P (if t then record { refusal = accepted; presence = presenceOf b; bench = restarted b } else record { refusal = wireBusy; presence = false; bench = b })
     by-test true e = taken e
     by-test false e = held e
+
+pub slot-refused : (b : Bench) (m : Bool) → slotted b m .refusal ≢ accepted → slotted b m .bench ≡ b
+slot-refused b m = slot-cases b m (λ r. r .refusal ≢ accepted → r .bench ≡ b) (λ f n. absurd (n refl)) (λ f n. refl)
+
+pub reset-refused : (b : Bench) → resetDone b .refusal ≢ accepted → resetDone b .bench ≡ b
+reset-refused b = reset-cases b (λ r. r .refusal ≢ accepted → r .bench ≡ b) (λ f n. absurd (n refl)) (λ f n. refl)
 
 pub slot-accepted : (b : Bench) (m : Bool) → free b ≡ true → slotted b m ≡ record { refusal = accepted; line = lineOf b m; bench = heard b (lineOf b m) }
 unfolding slotted
@@ -204,6 +211,14 @@ added-cases b new P long refusal adding = by-code (eqb (codeRefusal (new .code))
     by-code true s = by-place (placeOf b (new .code)) refl s
     by-code false s = refusal (codeRefusal (new .code)) (eqb-false (codeRefusal (new .code)) accepted s)
 
+pub added-live : (b : Bench) (new : Joining) → length (b .devices) ≡ 32 → addedTo b new .refusal ≡ accepted
+    → live (addedTo b new .bench) ≡ live b ++ (joined new ∷ [])
+added-live b new long =
+    added-cases b new (λ c. c .refusal ≡ accepted → live (c .bench) ≡ live b ++ (joined new ∷ [])) long (λ n r e. absurd (r e)) (λ after a e. a .live-is)
+
+pub added-refused : (b : Bench) (new : Joining) → length (b .devices) ≡ 32 → addedTo b new .refusal ≢ accepted → addedTo b new .bench ≡ b
+added-refused b new long = added-cases b new (λ c. c .refusal ≢ accepted → c .bench ≡ b) long (λ n r e. refl) (λ after a e. absurd (e refl))
+
 -- ## One device
 
 -- The device with the code, and it alone, has become f of what it was.
@@ -280,3 +295,13 @@ module _ (b : Bench) (code : ℕ) (P : Changed → Type 0) (refusal : (n : ℕ) 
       by-place : (p : Place) → placeOf b code ≡ p → P (powerCycledAt b p)
       by-place (At i) e = done (withDevice b i (powerUp (deviceAt b i))) (one-changed b code i e powerUp)
       by-place Nowhere e = refusal notFound (λ z. omega arith)
+
+module _ (b : Bench) (code : ℕ) where
+  pub conversion-refused : (n : Sixteenths) → conversionFinished b code n .refusal ≢ accepted → conversionFinished b code n .bench ≡ b
+  conversion-refused n = conversion-cases b code (λ c. c .refusal ≢ accepted → c .bench ≡ b) (λ r z e. refl) n (λ range after o e. absurd (e refl))
+
+  pub copy-refused : copyFinished b code .refusal ≢ accepted → copyFinished b code .bench ≡ b
+  copy-refused = copy-cases b code (λ c. c .refusal ≢ accepted → c .bench ≡ b) (λ r z e. refl) (λ s after o held e. absurd (e refl))
+
+  pub cycle-refused : powerCycled b code .refusal ≢ accepted → powerCycled b code .bench ≡ b
+  cycle-refused = cycle-cases b code (λ c. c .refusal ≢ accepted → c .bench ≡ b) (λ r z e. refl) (λ after o e. absurd (e refl))

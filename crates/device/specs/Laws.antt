@@ -1,11 +1,13 @@
 -- What can change what in a device (the scope, "One slot"). A slot never touches code, power, EEPROM, alarm flag or page; a reset touches nothing
 -- but the stage; power, the end of a conversion and the end of a copy each change what they are for.
---     hear-..           what a slot keeps; `hear-only-stage` for the stages in which it moves nothing but the stage
---     reset-..          what a reset keeps
---     power-up-.., joined-.., conversion-.., copy-..     what these give and keep
---     Quiet              a device that is quiet stays so, and leaves the line alone
+--     hear-..                   what a slot keeps at every stage
+--     onlyMoves s               whether a slot in stage s moves nothing but the stage: law `hear-only-stage`
+--     AtLastBit d               the next slot of d ends a function command: the only one that can make it busy, law `hear-starts`
+--     quiet-..                  a quiet device stays as it is and leaves the line alone
+--     Fresh code power d        d as power finds it: laws `power-up-fresh` and `joined-fresh`
+--     reset-.., conversion-.., copy-..     what these keep
 -- Assumes nothing.
-use Prim.Native.Nat.{ℕ, _+_}
+use Prim.Native.Nat.{ℕ}
 use mathlib.Core.Path.{_≡_, refl, sym, _∙_}
 use mathlib.Core.Bool.{Bool, true, false, false≢true}
 use mathlib.Core.List.{List}
@@ -16,7 +18,6 @@ use Rattle.device.specs.declared.Activity.{Activity}
 use Rattle.device.specs.declared.Activity.the-variants.{Idle}
 use Rattle.device.specs.declared.Device.{Device}
 use Rattle.device.specs.declared.Joining.{Joining}
-use Rattle.device.specs.declared.Page.{Page}
 use Rattle.device.specs.declared.Power.{Power}
 use Rattle.device.specs.declared.Settings.{Settings}
 use Rattle.device.specs.declared.Stage.{Stage}
@@ -135,6 +136,9 @@ reset-only-stage d = refl
 
 pub reset-stage : (d : Device) → resetOf d .stage ≡ awaitRom
 reset-stage d = refl
+
+pub reset-busy : (d : Device) → busy (resetOf d) ≡ busy d
+reset-busy d = refl
 
 -- ## Power
 

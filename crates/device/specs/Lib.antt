@@ -7,3 +7,4 @@ pub mod Finish
 pub mod Outcomes
 pub mod Laws
 pub mod Sound
+pub mod Fits

@@ -18,7 +18,7 @@ use Rattle.device.specs.declared.Stage.{Stage}
 use Rattle.device.specs.declared.Stage.the-variants.{AwaitRom, SendRom, Match, Search, AwaitFunction, TakeSettings, SendScratchpad, SendStatus, SendPower, Quiet}
 use Rattle.device.specs.Record.{withStage, withActivity, withScratchpad, rowOf, busy}
 use Rattle.device.specs.Settings.{settingsIn, withSettings}
-use Rattle.device.specs.Hear.{shiftIn, romCommand, idleCommand, functionCommand, hearFunction, settingsCount, settingByte, storeSetting, hearSettings, hearAt, hearOf}
+use Rattle.device.specs.Hear.{shiftIn, romCommand, idleCommand, functionCommand, settingsCount, settingByte, storeSetting, hearAt, hearOf}
 
 pub record Outcomes (d : Device) (l : Bool) (P : Device → Type 0) : Type 0 where
   -- only the stage

@@ -7,8 +7,8 @@
 --     Sound d                 what holds of a device
 -- Laws: `joined-sound` for a new device, and one for each thing that can happen to a device. Assumes nothing.
 use Prim.Native.Nat.{ℕ, _+_, _*_, _/_, _%_, _^_, _<_, _≤_}
-use mathlib.Core.Path.{_≡_, refl, sym, ap, _∙_}
-use mathlib.Core.Bool.{Bool, true, false, false≢true, _&&_}
+use mathlib.Core.Path.{_≡_, refl, sym, _∙_}
+use mathlib.Core.Bool.{Bool, true, false, _&&_}
 use mathlib.Core.List.{List}
 use native.Mathlib.Omega.{arith}
 use borrow.Author.Tests.{eq-eqb, eqb-true, eqb-false}
@@ -19,7 +19,7 @@ use lib.Seq.{getD-set-same, getD-set-other}
 use Rattle.lists.specs.Choice.{if_then_else_}
 use Rattle.family.specs.Configuration.{storedForm, inStoredForm}
 use Rattle.family.specs.Families.{ds18s20, ds18b20, rowS, rowB, rowUnknown}
-use Rattle.family.specs.Layout.{readingLowPlace, readingHighPlace, highLimitPlace, lowLimitPlace, configurationPlace}
+use Rattle.family.specs.Layout.{readingLowPlace, readingHighPlace, highLimitPlace, configurationPlace}
 use Rattle.family.specs.declared.Properties.{Properties}
 use Rattle.rom.specs.Code.{familyOf}
 use Rattle.signed.specs.Complement.{Fits16}
@@ -145,7 +145,7 @@ settings-sound row pad s l r = by-test (row .configurable) refl
     by-test false e = record { eight = limits-length; in-form = form-none row _ e; in-range = rw limits-kept r }
 
 -- the reading of a conversion
-range-fits : (count : Sixteenths) → inRange (InSixteenths count) ≡ true → Fits16 (count .0)
+pub range-fits : (count : Sixteenths) → inRange (InSixteenths count) ≡ true → Fits16 (count .0)
 range-fits count h = let k = between-size 879 2000 2000 (count .0) (lit≤ tt) (lit≤ tt) h in record { sfits = omega arith }
 
 -- two bytes stored in places 0 and 1 are read back

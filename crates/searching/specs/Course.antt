@@ -15,7 +15,7 @@ use Rattle.lists.specs.Fold.{all}
 use Rattle.search_law.specs.Codes.{first, rest, Each}
 use Rattle.search_law.specs.Pass.{Triple, triple, Plan, choice, onSome, found, next}
 use Rattle.search_law.specs.Paths.{agrees}
-use Rattle.search_law.specs.Wire.{Bus, Pass, passed, withTriple, Search, searched, unanswered, withCode, slots, triplets, wirePass, searchFrom, wireSearch}
+use Rattle.search_law.specs.Wire.{Bus, Pass, passed, withTriple, unanswered, withCode, slots, triplets, wirePass, searchFrom, wireSearch}
 use Rattle.search_law.specs.Searchers.{Model, Carries, Searchers}
 use Rattle.search_law.specs.Sits.{Sits, each-restart, sits-co, sits-way-next, sits-on}
 use Rattle.search_law.specs.OnTheWire.{length-snoc, sits-started}

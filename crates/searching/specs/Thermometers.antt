@@ -5,14 +5,14 @@
 --     everybody, flagged        the laws for either command
 --     unstaged d       the device without its stage: code, power, activity, stored bytes, flag and page
 -- Assumes nothing.
-use Prim.Native.Nat.{ℕ, suc, _+_, _<_}
+use Prim.Native.Nat.{ℕ, suc, _<_}
 use mathlib.Core.Path.{_≡_, refl, ap, _∙_}
 use mathlib.Core.Bool.{Bool, true, false, not, cond, Bool·beq}
 use mathlib.Core.List.{List, [], _∷_, map}
 use native.Mathlib.Omega.{arith}
 use native.Mathlib.Numerals.{add-one}
-use borrow.Author.Tests.{lt-ltb, ltb-false, ltb-true, eq-eqb, le-ltb}
-use lib.Dec.{ltb, eqb}
+use borrow.Author.Tests.{lt-ltb, ltb-false, ltb-true}
+use lib.Dec.{ltb}
 use lib.ListN.{getD}
 use Rattle.lists.specs.Choice.{if_then_else_}
 use Rattle.bits.specs.Bits.{bitAt, bitsOf, bits-at}

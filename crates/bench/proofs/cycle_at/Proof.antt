@@ -1,3 +1,4 @@
+-- The device at the place is powered up, and put back there. Assumes nothing.
 use borrow.Author.Needs.{needs}
 use Rattle.bench.proofs.cycle_at.Statement.{statement}
 use Rattle.bench.proofs.cycle_at.Tie as tie

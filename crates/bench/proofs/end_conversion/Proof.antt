@@ -1,3 +1,4 @@
+-- A device that converts, with a count in range and out of it; any other is refused. Assumes nothing.
 use borrow.Author.Needs.{needs}
 use Rattle.bench.proofs.end_conversion.Statement.{statement}
 use Rattle.bench.proofs.end_conversion.Tie as tie

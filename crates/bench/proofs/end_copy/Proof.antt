@@ -1,3 +1,4 @@
+-- A device that copies; any other is refused. Assumes nothing.
 use borrow.Author.Needs.{needs}
 use Rattle.bench.proofs.end_copy.Statement.{statement}
 use Rattle.bench.proofs.end_copy.Tie as tie

@@ -1,3 +1,4 @@
+-- The code is there, or it is refused. Assumes nothing.
 use mathlib.Core.Path.{_≡_, _∙_, sym}
 use lib.ListN.{length, length-map}
 use Rattle.bench.specs.Bench.{place-within}

@@ -1,4 +1,5 @@
-use borrow.Author.Tests.{le-leb, le-ltb, lt-leb, lt-ltb}
+-- With a place left and without one. Assumes nothing.
+use borrow.Author.Tests.{le-ltb, lt-ltb}
 use borrow.Author.Needs.{needs}
 use Rattle.bench.proofs.put_last.Statement.{statement}
 use Rattle.bench.proofs.put_last.Tie as tie
@@ -16,10 +17,10 @@ add-t11 : tie.Need-add-t11
 add-t11 c = search needs
 
 returns : tie.Need-returns
-returns c = simp (lt-ltb _ _ (c .before .if1 .taken), lt-leb _ _ (c .before .if1 .taken))
+returns c = simp (lt-ltb _ _ (c .before .if1 .taken))
 
 returns-2 : tie.Need-returns-2
-returns-2 c = simp (le-leb _ _ (c .if1 .left), le-ltb _ _ (c .if1 .left))
+returns-2 c = simp (le-ltb _ _ (c .if1 .left))
 
 pub put-last-spec : {M : Type 1} → statement M
 put-last-spec =

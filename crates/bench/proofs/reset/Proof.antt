@@ -1,3 +1,4 @@
+-- On a free wire and on one that is held. Assumes nothing.
 use Rattle.bench.specs.Slot.{resetDone}
 use borrow.Author.Needs.{needs}
 use Rattle.bench.proofs.reset.Statement.{statement}

@@ -1,3 +1,4 @@
+-- The record is the definition's. Assumes nothing.
 use Rattle.bench.specs.Bench.{vacant}
 use borrow.Author.Needs.{needs}
 use Rattle.bench.proofs.vacant_place.Statement.{statement}

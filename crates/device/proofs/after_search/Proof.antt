@@ -1,3 +1,4 @@
+-- One return for each of the three slots of a bit. Assumes nothing.
 use borrow.Author.Needs.{needs}
 use Rattle.device.proofs.after_search.Statement.{statement}
 use Rattle.device.proofs.after_search.Tie as tie

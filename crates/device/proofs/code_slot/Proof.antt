@@ -1,3 +1,4 @@
+-- Within the 64 bits the line gets the bit of the code, past them a 1. Assumes nothing.
 use borrow.Author.Tests.{le-ltb, lt-ltb}
 use borrow.Author.Needs.{needs}
 use Rattle.device.proofs.code_slot.Statement.{statement}

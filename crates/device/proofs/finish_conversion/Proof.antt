@@ -1,3 +1,4 @@
+-- The reading, the two limits and the flag are those of the definition, each from the call that makes it. Assumes nothing.
 use Rattle.device.specs.Finish.{conversionDone, stored}
 use mathlib.Core.Path.{refl}
 use borrow.Author.Needs.{needs}

@@ -1,3 +1,4 @@
+-- The record is the definition's, part by part. Assumes nothing.
 use Rattle.device.specs.Finish.{copyDone}
 use mathlib.Core.Path.{refl}
 use Rattle.device.proofs.finish_copy.Statement.{statement}

@@ -1,3 +1,4 @@
+-- BEh and B4h come first; then a busy device goes quiet, and any other obeys. Assumes nothing.
 use Rattle.device.specs.Hear.{functionCommand}
 use borrow.Author.Tests.{eq-eqb, ne-eqb}
 use borrow.Author.Needs.{needs}

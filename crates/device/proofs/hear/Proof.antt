@@ -1,3 +1,4 @@
+-- One return for each stage, with what its own function says. Assumes nothing.
 use Rattle.device.specs.Hear.{hearOf}
 use borrow.Author.Needs.{needs}
 use Rattle.device.proofs.hear.Statement.{statement}

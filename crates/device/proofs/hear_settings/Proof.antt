@@ -1,3 +1,4 @@
+-- Before the last bit of the byte, at it, and past it. Assumes nothing.
 use borrow.Author.Tests.{eq-eqb, le-ltb, lt-ltb, ne-eqb}
 use borrow.Author.Needs.{needs}
 use Rattle.device.proofs.hear_settings.Statement.{statement}
@@ -25,7 +26,7 @@ with-stage-requires-2 : tie.Need-with-stage-requires-2
 with-stage-requires-2 c κs = search needs
 
 returns-3 : tie.Need-returns-3
-returns-3 c = simp (← c .before .before .before .shift-in .ensures, le-ltb _ _ (c .before .before .if1 .left), ne-eqb _ _ (c .before .if2 .left), c .with-stage2 .ensures)
+returns-3 c = simp (le-ltb _ _ (c .before .before .if1 .left), ne-eqb _ _ (c .before .if2 .left), c .with-stage2 .ensures)
 
 pub hear-settings-spec : {M : Type 1} → statement M
 hear-settings-spec =

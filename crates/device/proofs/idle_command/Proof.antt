@@ -1,3 +1,4 @@
+-- One return for each command that a device obeys, and one for all other bytes. Assumes nothing.
 use Rattle.device.specs.Hear.{idleCommand}
 use borrow.Author.Tests.{ne-eqb}
 use borrow.Author.Needs.{needs}

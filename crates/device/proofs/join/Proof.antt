@@ -1,3 +1,4 @@
+-- The configuration is kept in its stored form, and the rest is power-up. Assumes nothing.
 use Rattle.device.specs.Power.{joined}
 use mathlib.Core.Path.{refl}
 use borrow.Author.Needs.{needs}

@@ -1,3 +1,4 @@
+-- With a configuration and without one. Assumes nothing.
 use borrow.Author.Needs.{needs}
 use Rattle.device.proofs.kept_configuration.Statement.{statement}
 use Rattle.device.proofs.kept_configuration.Tie as tie

@@ -1,3 +1,4 @@
+-- One return for each stage, with what its own function says. Assumes nothing.
 use borrow.Author.Needs.{needs}
 use Rattle.device.proofs.offer.Statement.{statement}
 use Rattle.device.proofs.offer.Tie as tie

@@ -1,3 +1,4 @@
+-- The record is that of power-up, with code, power and EEPROM of the device. Assumes nothing.
 use Rattle.device.specs.Power.{powerUp}
 use mathlib.Core.Path.{refl}
 use borrow.Author.Needs.{needs}

@@ -1,3 +1,4 @@
+-- The scratchpad is that of the family with the settings laid over it; the rest is as the definition gives it. Assumes nothing.
 use borrow.Author.Needs.{needs}
 use Rattle.device.proofs.powered_up.Statement.{statement}
 use Rattle.device.proofs.powered_up.Tie as tie

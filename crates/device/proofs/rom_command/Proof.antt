@@ -1,3 +1,4 @@
+-- One return for each command, two for the alarm search, and one for all other bytes. Assumes nothing.
 use borrow.Author.Tests.{ne-eqb}
 use Rattle.device.proofs.rom_command.Statement.{statement}
 use Rattle.device.proofs.rom_command.Tie as tie

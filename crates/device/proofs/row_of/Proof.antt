@@ -1,3 +1,4 @@
+-- The family of the code, then its properties. Assumes nothing.
 use Rattle.device.specs.Record.{rowOf}
 use mathlib.Core.Path.{refl}
 use borrow.Author.Needs.{needs}

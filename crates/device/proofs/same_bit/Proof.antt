@@ -1,3 +1,4 @@
+-- A comparison with a known bit is that bit or its complement. Assumes nothing.
 use borrow.Author.Needs.{needs}
 use Rattle.lists.specs.Choice.{beq-true, beq-false}
 use Rattle.device.proofs.same_bit.Statement.{statement}

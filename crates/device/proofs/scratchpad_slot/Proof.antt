@@ -1,3 +1,4 @@
+-- Past the nine bytes or past a byte the line gets a 1; else a bit of one of the eight bytes, or of their CRC, which is the ninth. Assumes nothing.
 use Rattle.device.specs.Offer.{scratchpadSlot, nine-byte, nine-crc}
 use Prim.Native.Nat.{ℕ}
 use mathlib.Core.Path.{_≡_}

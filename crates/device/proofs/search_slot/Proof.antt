@@ -1,3 +1,4 @@
+-- The bit, its complement, and nothing in the third slot; past the code a 1. Assumes nothing.
 use borrow.Author.Tests.{le-ltb, lt-ltb}
 use borrow.Author.Needs.{needs}
 use Rattle.device.proofs.search_slot.Statement.{statement}

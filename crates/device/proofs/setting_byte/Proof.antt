@@ -1,3 +1,4 @@
+-- The third setting is the configuration. Assumes nothing.
 use borrow.Author.Tests.{eq-eqb, ne-eqb}
 use borrow.Author.Needs.{needs}
 use Rattle.device.proofs.setting_byte.Statement.{statement}

@@ -1,3 +1,4 @@
+-- The line's bit comes in at the top; the others move down by one. Assumes nothing.
 use borrow.Author.Needs.{needs}
 use native.Mathlib.Omega.{arith}
 use Rattle.device.proofs.shift_in.Statement.{statement}

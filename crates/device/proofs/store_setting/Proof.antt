@@ -1,3 +1,4 @@
+-- No more bytes than the family has settings; a byte within them is stored, and the next is awaited or all are there. Assumes nothing.
 use Rattle.device.specs.Hear.{storeSetting, settings-few}
 use borrow.Author.Tests.{lt-ltb, le-ltb}
 use native.Mathlib.Omega.{arith}

@@ -1,3 +1,4 @@
+-- The count is measured with the configuration that stands in the scratchpad. Assumes nothing.
 use Rattle.device.specs.Finish.{storedReading}
 use mathlib.Core.Path.{refl}
 use borrow.Author.Needs.{needs}

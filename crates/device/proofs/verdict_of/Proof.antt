@@ -1,3 +1,4 @@
+-- The whole degree is held against both limits. Assumes nothing.
 use borrow.Author.Needs.{needs}
 use Rattle.device.proofs.verdict_of.Statement.{statement}
 use Rattle.device.proofs.verdict_of.Tie as tie

@@ -1,3 +1,4 @@
+-- The two bytes go to places 0 and 1. Assumes nothing.
 use borrow.Author.Needs.{needs}
 use Rattle.device.proofs.with_register.Statement.{statement}
 use Rattle.device.proofs.with_register.Tie as tie
