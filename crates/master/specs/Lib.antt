@@ -1,5 +1,6 @@
 pub mod Wire
 pub mod Access
 pub mod Search
+pub mod Pass
 pub mod History
 pub mod Demand

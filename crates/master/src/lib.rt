@@ -1,10 +1,12 @@
 // A master over the bench: reading and writing at a code, search and alarm search.
 mod at_code;
+mod search;
 mod wire;
 
 pub use at_code::read_at;
 pub use at_code::write_at;
 use bench::Bench;
+use frame::Frame;
 use temperature::Reading;
 
 // The answer of a read or a write at a code: the nine bytes of the scratchpad and the reading, or a
@@ -37,4 +39,34 @@ pub struct Searched {
     pub slots: u16,
     pub bytes: u16,
     pub bench: Bench,
+}
+
+// What one slot of a pass gave: the frame with the line's bit in it, that bit, and the bench after it.
+struct Shown {
+    frame: Frame,
+    line: bool,
+    bench: Bench,
+}
+
+// A pass so far: whether somebody answered at every place, the bits taken, the last place at which 0
+// was taken at a conflict (64 for none), and what the line showed.
+struct Walk {
+    answered: bool,
+    code: u64,
+    last: u8,
+    shown: Frame,
+    bench: Bench,
+}
+
+// The passes so far: whether one more is to be made, the code before it and the place at which to
+// depart from that, and the counts of what has been listed and recorded.
+struct Sweep {
+    going: bool,
+    previous: u64,
+    departure: u8,
+    codes: u8,
+    passes: u8,
+    slots: u16,
+    bytes: u16,
+    bench: Bench,
 }
