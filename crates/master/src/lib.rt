@@ -1,10 +1,12 @@
 // A master over the bench: reading and writing at a code, search and alarm search.
 mod at_code;
-mod search;
+mod searches;
 mod wire;
 
 pub use at_code::read_at;
 pub use at_code::write_at;
+pub use searches::alarm_search;
+pub use searches::search;
 use bench::Bench;
 use frame::Frame;
 use temperature::Reading;

@@ -4,8 +4,8 @@ use mathlib.Core.Path.{_≡_, _∙_, sym}
 use native.Mathlib.Omega.{arith}
 use borrow.Author.Needs.{needs}
 use Rattle.master.specs.Pass.{commandSent, passBegun, command-turn, command-end}
-use Rattle.master.proofs.search.begin_pass.Statement.{statement}
-use Rattle.master.proofs.search.begin_pass.Tie as tie
+use Rattle.master.proofs.searches.begin_pass.Statement.{statement}
+use Rattle.master.proofs.searches.begin_pass.Tie as tie
 
 abbrev Inv-loop : tie.InvT-loop
 Inv-loop command b₀ frame₀ left₀ i₀ b frame left i = (i ≤ 8) × (commandSent (8 - i) left frame b ≡ commandSent 8 command frame₀ b₀)

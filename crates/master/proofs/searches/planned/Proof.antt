@@ -1,7 +1,7 @@
 use borrow.Author.Tests.{le-ltb, lt-ltb}
 use borrow.Author.Needs.{needs}
-use Rattle.master.proofs.search.planned.Statement.{statement}
-use Rattle.master.proofs.search.planned.Tie as tie
+use Rattle.master.proofs.searches.planned.Statement.{statement}
+use Rattle.master.proofs.searches.planned.Tie as tie
 
 shr-result : tie.Need-shr-result
 shr-result c = search needs

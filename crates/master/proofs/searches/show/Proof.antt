@@ -1,7 +1,7 @@
 use Rattle.master.specs.Pass.{oneSlot}
 use borrow.Author.Needs.{needs}
-use Rattle.master.proofs.search.show.Statement.{statement}
-use Rattle.master.proofs.search.show.Tie as tie
+use Rattle.master.proofs.searches.show.Statement.{statement}
+use Rattle.master.proofs.searches.show.Tie as tie
 
 slot-requires : tie.Need-slot-requires
 slot-requires c κs = search needs

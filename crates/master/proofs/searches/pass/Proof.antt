@@ -7,8 +7,8 @@ use borrow.Author.Needs.{needs}
 use Rattle.search_law.specs.PassLoop.{Walk as PassWalk}
 use Rattle.bench.specs.declared.Bench.{Bench}
 use Rattle.master.specs.Pass.{walkOf, Walking, begun-walk, walking-start, walking-turn, walking-over, walking-end}
-use Rattle.master.proofs.search.pass.Statement.{statement}
-use Rattle.master.proofs.search.pass.Tie as tie
+use Rattle.master.proofs.searches.pass.Statement.{statement}
+use Rattle.master.proofs.searches.pass.Tie as tie
 
 abbrev Inv-loop : tie.InvT-loop
 Inv-loop command previous departure w₀ place₀ w place =

@@ -2,8 +2,8 @@
 use mathlib.Core.Path.{_∙_, sym}
 use Rattle.master.specs.Pass.{onePlace, choice-none, choice-some}
 use borrow.Author.Needs.{needs}
-use Rattle.master.proofs.search.take_bit.Statement.{statement}
-use Rattle.master.proofs.search.take_bit.Tie as tie
+use Rattle.master.proofs.searches.take_bit.Statement.{statement}
+use Rattle.master.proofs.searches.take_bit.Tie as tie
 
 show-requires : tie.Need-show-requires
 show-requires c κs = search needs
