@@ -7,16 +7,17 @@
 --     sweptAll command b        the sweep after its last pass
 use Prim.Native.Nat.{ℕ, zero, suc, _+_, _*_, _-_, _<_, _≤_}
 use mathlib.Core.Path.{_≡_, refl, sym, ap, _∙_}
-use mathlib.Core.Bool.{Bool, true, false, _&&_}
+use mathlib.Core.Bool.{Bool, true, false, _&&_, or-true}
 use mathlib.Core.List.{List, [], _∷_, _++_, map, append-assoc, append-nil}
 use native.Mathlib.Omega.{arith}
+use borrow.Author.Tests.{lt-ltb, le-ltb}
 use lib.Dec.{ltb}
 use lib.ListN.{length, set, length-append}
 use Rattle.lists.specs.Choice.{if_then_else_}
 use Rattle.lists.specs.Fold.{fold, fold-append}
 use Rattle.lists.specs.Laid.{laid, laid-none, laid-length, laid-more, laid-store}
 use Rattle.bits.specs.Bits.{bitsOf, numberOf, bits-length}
-use Rattle.refusals.specs.Refusals.{accepted}
+use Rattle.refusals.specs.Refusals.{accepted, noRoom, wireBusy}
 use Rattle.frame.specs.Frames.{blankFrame, lineable, recorded-all, blank-held, blank-lineable}
 use Rattle.frame.specs.Recording.{writeAll}
 use Rattle.frame.specs.Writing.{fedLine, fed-length, writeAnswer, writeLeaves, write-done}
@@ -28,12 +29,14 @@ use Rattle.search_law.specs.Departure.{takes}
 use Rattle.search_law.specs.PassLoop.{Walk as PassWalk, walk, walkOn, walkEnds, if-true, if-false, onward, bitStep, steps, loopPass}
 use Rattle.search_law.specs.SearchLoop.{Sweep as SearchSweep, sweep, withPass, turns, turns-turn, turns-end, turns-over, turn-pass, loopSearch, SameSearch, loop-search}
 use Rattle.search_law.specs.Wire.{Bus, slots}
+use Rattle.bench.specs.Bench.{free}
+use Rattle.bench.specs.Slot.{resetDone}
 use Rattle.bench.specs.declared.Bench.{Bench}
 use Rattle.master.specs.declared.Searched.{Searched}
 use Rattle.master.specs.declared.Sweep.{Sweep}
 use Rattle.master.specs.declared.Walk.{Walk}
 use Rattle.master.specs.Pass.{walkOf}
-use Rattle.master.specs.Search.{codeLength, mostPasses, fewestPlaces, fewestBytes, frameOf, refusedOutcome, lonelyOutcome, foundOutcome, searchRun, countPass, passesIn, slotsIn, answerOf, listAfter, recordingAfter}
+use Rattle.master.specs.Search.{codeLength, mostPasses, fewestPlaces, fewestBytes, frameOf, refusedOutcome, lonelyOutcome, foundOutcome, searchRun, searchOutcome, countPass, passesIn, slotsIn, answerOf, listAfter, recordingAfter}
 use Rattle.master.specs.Wire.{calls}
 
 -- the most slots of a pass, and the bytes of its line
@@ -344,14 +347,17 @@ pub lonely-recording : (recording : List ℕ) (b : Bench) → recordingAfter rec
 unfolding writeAll
 lonely-recording recording b = rw (append-nil (fedLine (blankFrame false)))
 
+-- the answer of a sweep that has made its passes
+abbrev pub answerBy : Sweep → Searched
+answerBy s = record { refusal = accepted; codes = s .codes; passes = s .passes; slots = s .slots; bytes = s .bytes; bench = s .bench }
+
 -- the sweep after its last pass is the search
 module _ (command : ℕ) (b : Bench) where
   same : SameSearch (searchRun command b) (sweptAll command b)
   unfolding sweptAll
   same = loop-search calls (bitsOf 8 command) codeLength mostPasses b
 
-  pub found-answer : answerOf (foundOutcome (searchRun command b)) ≡ (let s = sweepOf (sweptAll command b) in
-      record { refusal = accepted; codes = s .codes; passes = s .passes; slots = s .slots; bytes = s .bytes; bench = s .bench })
+  pub found-answer : answerOf (foundOutcome (searchRun command b)) ≡ answerBy (sweepOf (sweptAll command b))
   found-answer = rw (← same .codes-are, ← same .lines-are, ← same .devices-are)
 
   pub found-list : (list : List ℕ) → listAfter list (foundOutcome (searchRun command b)) ≡ laid list 0 (sweptAll command b .codes)
@@ -360,3 +366,31 @@ module _ (command : ℕ) (b : Bench) where
   pub found-recording : (recording : List ℕ)
       → recordingAfter recording (foundOutcome (searchRun command b)) ≡ laid recording 0 (writeAll (framesOf (sweptAll command b)))
   found-recording recording = rw (← same .lines-are)
+
+pub unrecorded : (recording : List ℕ) → recording ≡ laid recording 0 (writeAll [])
+unfolding writeAll
+unrecorded recording = laid-none recording 0
+
+-- ## The ways a search can end
+
+module _ (command : ℕ) (b : Bench) (places room : ℕ) where
+  pub few-places : places < fewestPlaces → searchOutcome command b places room ≡ refusedOutcome noRoom b
+  unfolding searchOutcome
+  few-places h = rw (lt-ltb places fewestPlaces h)
+
+  pub few-bytes : room < fewestBytes → searchOutcome command b places room ≡ refusedOutcome noRoom b
+  unfolding searchOutcome
+  few-bytes h = rw (lt-ltb room fewestBytes h, or-true (ltb places fewestPlaces))
+
+  module _ (wide : fewestPlaces ≤ places) (long : fewestBytes ≤ room) where
+    pub wire-held : free b ≡ false → searchOutcome command b places room ≡ refusedOutcome wireBusy b
+    unfolding searchOutcome
+    wire-held h = rw (le-ltb places fewestPlaces wide, le-ltb room fewestBytes long, h)
+
+    pub nobody-there : free b ≡ true → resetDone b .presence ≡ false → searchOutcome command b places room ≡ lonelyOutcome (resetDone b .bench)
+    unfolding searchOutcome
+    nobody-there h p = rw (le-ltb places fewestPlaces wide, le-ltb room fewestBytes long, h, p)
+
+    pub passes-made : free b ≡ true → resetDone b .presence ≡ true → searchOutcome command b places room ≡ foundOutcome (searchRun command b)
+    unfolding searchOutcome
+    passes-made h p = rw (le-ltb places fewestPlaces wide, le-ltb room fewestBytes long, h, p)

@@ -5,10 +5,10 @@ mod wire;
 
 pub use at_code::read_at;
 pub use at_code::write_at;
-pub use searches::alarm_search;
-pub use searches::search;
 use bench::Bench;
 use frame::Frame;
+pub use searches::alarm_search;
+pub use searches::search;
 use temperature::Reading;
 
 // The answer of a read or a write at a code: the nine bytes of the scratchpad and the reading, or a

@@ -45,14 +45,16 @@ loop-again : tie.Need-loop-again Inv-loop μ-loop
 loop-again c =
     let p = c .before .before in
     let a = p .before .before .before in
-    let k = p .loop .inv .1 in
-    (omega arith, ⊎-elim
-      (λ t.
-      let e = t .3 .ensures in
-      rw (t .8, t .9, t .10, e .0, e .1 .0, e .1 .1)
-      (sweeping-turn _ _ _ _ (p .loop .i) (p .loop .s) (p .loop .list) (p .loop .recording) k (c .before .loop-test .taken) (t .0 .taken) (a .pre .0) (a .pre .1)))
-      (λ t. rw (t .1, t .2, t .3) (sweeping-over _ _ _ _ (p .loop .i) (p .loop .s) (p .loop .list) (p .loop .recording) k (t .0 .left)))
-      (c .if1 .came))
+    let k = p .loop .inv .1 in (
+      omega arith,
+      ⊎-elim
+          (λ t.
+          let e = t .3 .ensures in
+          rw (t .8, t .9, t .10, e .0, e .1 .0, e .1 .1)
+          (sweeping-turn _ _ _ _ (p .loop .i) (p .loop .s) (p .loop .list) (p .loop .recording) k (c .before .loop-test .taken) (t .0 .taken) (a .pre .0) (a .pre .1)))
+          (λ t. rw (t .1, t .2, t .3) (sweeping-over _ _ _ _ (p .loop .i) (p .loop .s) (p .loop .list) (p .loop .recording) k (t .0 .left)))
+          (c .if1 .came),
+    )
 
 same-length : tie.Need-same-length Inv-loop μ-loop
 same-length c = lengths (c .before) .0
