@@ -7,21 +7,19 @@
 use Prim.Native.Nat.{ℕ, suc, _+_, _*_, _-_, _/_, _^_, _<_, _≤_}
 use mathlib.Core.Path.{_≡_, refl, sym, ap, _∙_}
 use mathlib.Core.Bool.{Bool, true, false, not, _&&_, _||_, true≢false, false≢true}
-use mathlib.Core.List.{List, [], _∷_, _++_}
+use mathlib.Core.List.{[], _∷_}
 use native.Mathlib.Omega.{arith}
 use native.Mathlib.Nat.{pow-suc}
 use native.Mathlib.Numerals.{add-one}
-use lib.ListN.{length, length-append}
 use mathlib.Core.Option.{none, some}
 use Rattle.lists.specs.Choice.{if_then_else_}
 use Rattle.lists.specs.Fold.{fold, fold-append}
-use Rattle.bits.specs.Bits.{odd, bitNumber, bitsOf, bits-length}
+use Rattle.bits.specs.Bits.{odd, bitNumber, bitsOf}
 use Rattle.frame.specs.Frames.{blankFrame, pushed, pushedAll}
 use Rattle.frame.specs.declared.Frame.{Frame}
 use Rattle.search_law.specs.Departure.{takes}
-use Rattle.search_law.specs.Issued.{slots-length}
 use Rattle.search_law.specs.Pass.{triple, choice, onSome, on-some, on-both}
-use Rattle.search_law.specs.PassLoop.{Walk as PassWalk, walk, walkOn, walkEnds, onward, bitStep, bit-step, steps, steps-turn, steps-end, steps-over, loopPass}
+use Rattle.search_law.specs.PassLoop.{Walk as PassWalk, walk, walkOn, walkEnds, onward, bit-step, steps, steps-turn, steps-end, steps-over}
 use Rattle.search_law.specs.Wire.{slots}
 use Rattle.bench.specs.Slot.{slotted, resetDone}
 use Rattle.bench.specs.declared.Bench.{Bench}

@@ -16,7 +16,7 @@ use lib.ListN.{length, set, length-append}
 use Rattle.lists.specs.Choice.{if_then_else_}
 use Rattle.lists.specs.Fold.{fold, fold-append}
 use Rattle.lists.specs.Laid.{laid, laid-none, laid-length, laid-more, laid-store}
-use Rattle.bits.specs.Bits.{bitsOf, numberOf, bits-length}
+use Rattle.bits.specs.Bits.{bitsOf, bits-length}
 use Rattle.refusals.specs.Refusals.{accepted, noRoom, wireBusy}
 use Rattle.frame.specs.Frames.{blankFrame, lineable, recorded-all, blank-held, blank-lineable}
 use Rattle.frame.specs.Recording.{writeAll}
@@ -26,7 +26,7 @@ use Rattle.frame.specs.declared.Written.{Written}
 use Rattle.search_law.specs.Issued.{slots-length}
 use Rattle.search_law.specs.Pass.{triple, choice, on-some}
 use Rattle.search_law.specs.Departure.{takes}
-use Rattle.search_law.specs.PassLoop.{Walk as PassWalk, walk, walkOn, walkEnds, if-true, if-false, onward, bitStep, steps, loopPass}
+use Rattle.search_law.specs.PassLoop.{Walk as PassWalk, walk, walkOn, walkEnds, onward, bitStep, steps, loopPass}
 use Rattle.search_law.specs.SearchLoop.{Sweep as SearchSweep, sweep, withPass, turns, turns-turn, turns-end, turns-over, turn-pass, loopSearch, SameSearch, loop-search}
 use Rattle.search_law.specs.Wire.{Bus, slots}
 use Rattle.bench.specs.Bench.{free}

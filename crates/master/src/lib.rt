@@ -11,6 +11,12 @@ pub use searches::alarm_search;
 pub use searches::search;
 use temperature::Reading;
 
+// The fewest places of a list and bytes of a recording that a search takes: 32 codes, and a line of 57
+// bytes for each.
+pub const FEWEST_PLACES: usize = 32;
+
+pub const FEWEST_BYTES: usize = 1824;
+
 // The answer of a read or a write at a code: the nine bytes of the scratchpad and the reading, or a
 // refusal with zeros; and the bench as the reset and the slots sent left it.
 pub struct Access {

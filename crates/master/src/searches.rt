@@ -11,9 +11,11 @@ ghost use Rattle.frame.specs.Writing.{fedLine};
 ghost use Rattle.search_law.specs.Departure.{takes};
 ghost use Rattle.search_law.specs.PassLoop.{loopPass};
 ghost use Rattle.master.specs.Wire.{calls};
-ghost use Rattle.master.specs.Search.{refusedOutcome, lonelyOutcome, searchOutcome, answerOf, listAfter, recordingAfter};
-ghost use Rattle.master.specs.Pass.{oneSlot, chosen, lastAfter, onePlace, commandSent, passBegun, walkOf};
+ghost use Rattle.master.specs.Search.{codeLength, mostPasses, fewestPlaces, fewestBytes, refusedOutcome, lonelyOutcome, searchOutcome, answerOf, listAfter, recordingAfter};
+ghost use Rattle.master.specs.Pass.{oneSlot, chosen, lastAfter, onePlace, passBegun, walkOf};
 ghost use Rattle.master.specs.Sweep.{framesOf, sweepOf, sweptAll, nextPass, codesAfter, goesOn, swept, listedAfter, Counted};
+use crate::FEWEST_BYTES;
+use crate::FEWEST_PLACES;
 use crate::Searched;
 use crate::Shown;
 use crate::Sweep;
@@ -21,6 +23,12 @@ use crate::Walk;
 use crate::wire::with_bit;
 use bench::Bench;
 use frame::Frame;
+
+// How many bits a code has; as a place, it stands for none.
+const CODE_BITS: u8 = 64;
+
+// How many passes a search makes at most.
+const MOST_PASSES: u8 = 32;
 
 // One slot, its line kept in the frame.
 fn show(frame: Frame, bench: Bench, bit: bool) -> Shown
@@ -38,7 +46,7 @@ fn show(frame: Frame, bench: Bench, bit: bool) -> Shown
 
 // The bit to take at a conflict: that of the code before, up to the place of departure; 1 there, 0 past it.
 fn planned(previous: u64, departure: u8, place: u8) -> bool
-    requires { ⌜ place < 64 ⌝ }
+    requires { ⌜ place < codeLength ⌝ }
     ensures answer { λ r. ⌜ r ≡ takes previous departure place ⌝ }
 {
     if place < departure {
@@ -61,8 +69,8 @@ fn choose(bit: bool, complement: bool, plan: bool) -> bool
 }
 
 // The last place at which 0 was taken at a conflict, after one place more.
-fn last_after(bit: bool, complement: bool, taken: bool, place: u8, last: u8) -> u8
-    ensures answer { λ r. ⌜ r ≡ lastAfter bit complement taken place last ⌝ }
+fn last_after(bit: bool, complement: bool, taken: bool, here: u8, last: u8) -> u8
+    ensures answer { λ r. ⌜ r ≡ lastAfter bit complement taken here last ⌝ }
 {
     if bit {
         return last;
@@ -73,7 +81,7 @@ fn last_after(bit: bool, complement: bool, taken: bool, place: u8, last: u8) -> 
     if taken {
         return last;
     }
-    place
+    here
 }
 
 // Whether both reads showed 1, which no device that answers lets happen.
@@ -85,7 +93,7 @@ fn silent(bit: bool, complement: bool) -> bool
 
 // One place of the code: two reads and the bit taken, or the two reads where nobody answers.
 fn take_bit(w: Walk, place: u8, previous: u64, departure: u8) -> Walk
-    requires { ⌜ (place < 64) × (w .code < 2 ^ place) ⌝ }
+    requires { ⌜ (place < codeLength) × (w .code < 2 ^ place) ⌝ }
     ensures answer { λ r. ⌜ r ≡ onePlace previous departure place w ⌝ }
 {
     let shown = w.shown;
@@ -137,7 +145,7 @@ fn begin_pass(bench: Bench, command: u8) -> Walk
     Walk {
         answered: true,
         code: 0,
-        last: 64,
+        last: CODE_BITS,
         shown: frame,
         bench: b,
     }
@@ -145,11 +153,11 @@ fn begin_pass(bench: Bench, command: u8) -> Walk
 
 // One pass: a reset, the command, and the 64 places, up to one at which nobody answers.
 fn pass(bench: Bench, command: u8, previous: u64, departure: u8) -> Walk
-    ensures answer { λ r. ⌜ r ≡ walkOf (loopPass calls (bitsOf 8 command) 64 previous departure bench) ⌝ }
+    ensures answer { λ r. ⌜ r ≡ walkOf (loopPass calls (bitsOf 8 command) codeLength previous departure bench) ⌝ }
 {
     let mut w = begin_pass(bench, command);
     let mut place: u8 = 0;
-    while place < 64 {
+    while place < CODE_BITS {
         if w.answered {
             w = take_bit(w, place, previous, departure);
         }
@@ -160,7 +168,7 @@ fn pass(bench: Bench, command: u8, previous: u64, departure: u8) -> Walk
 
 // The code in its place of the list, and how many there are then; nothing where nobody has answered.
 fn enter(list: &mut [u64], place: u8, answered: bool, code: u64) -> u8
-    requires { ⌜ (place < 32) × (place < length (now list)) ⌝ }
+    requires { ⌜ (place < mostPasses) × (place < length (now list)) ⌝ }
     ensures answer { λ r. ⌜ r ≡ codesAfter answered place ⌝ }
     ensures list { λ r. ⌜ now (list .exit) ≡ listedAfter (now (list .entry)) place answered code ⌝ }
 {
@@ -176,14 +184,14 @@ fn goes_on(answered: bool, last: u8) -> bool
     ensures answer { λ r. ⌜ r ≡ goesOn answered last ⌝ }
 {
     if answered {
-        return last < 64;
+        return last < CODE_BITS;
     }
     false
 }
 
 // One pass, its frame written behind the others and its code listed behind the others.
 fn turn(s: Sweep, command: u8, list: &mut [u64], recording: &mut [u8]) -> Sweep
-    requires { ⌜ Counted s × (s .passes < 32) × (32 ≤ length (now list)) × (1824 ≤ length (now recording)) ⌝ }
+    requires { ⌜ Counted s × (s .passes < mostPasses) × (fewestPlaces ≤ length (now list)) × (fewestBytes ≤ length (now recording)) ⌝ }
     ensures answer { λ r. ⌜ r ≡ swept s (nextPass command s) ⌝ }
     ensures list { λ r. ⌜ now (list .exit) ≡ listedAfter (now (list .entry)) (s .codes) (nextPass command s .answered) (nextPass command s .code) ⌝ }
     ensures recording { λ r. ⌜ now (recording .exit) ≡ laid (now (recording .entry)) (s .bytes) (fedLine (nextPass command s .shown)) ⌝ }
@@ -209,7 +217,7 @@ fn turn(s: Sweep, command: u8, list: &mut [u64], recording: &mut [u8]) -> Sweep
 
 // Passes from the first plan on, up to one that leaves no place to depart at or that nobody answers.
 fn sweep_wire(bench: Bench, command: u8, list: &mut [u64], recording: &mut [u8]) -> Sweep
-    requires { ⌜ (32 ≤ length (now list)) × (1824 ≤ length (now recording)) ⌝ }
+    requires { ⌜ (fewestPlaces ≤ length (now list)) × (fewestBytes ≤ length (now recording)) ⌝ }
     ensures answer { λ r. ⌜ r ≡ sweepOf (sweptAll command bench) ⌝ }
     ensures list { λ r. ⌜ now (list .exit) ≡ laid (now (list .entry)) 0 (sweptAll command bench .codes) ⌝ }
     ensures recording { λ r. ⌜ now (recording .exit) ≡ laid (now (recording .entry)) 0 (writeAll (framesOf (sweptAll command bench))) ⌝ }
@@ -217,7 +225,7 @@ fn sweep_wire(bench: Bench, command: u8, list: &mut [u64], recording: &mut [u8])
     let mut s = Sweep {
         going: true,
         previous: 0,
-        departure: 64,
+        departure: CODE_BITS,
         codes: 0,
         passes: 0,
         slots: 0,
@@ -225,7 +233,7 @@ fn sweep_wire(bench: Bench, command: u8, list: &mut [u64], recording: &mut [u8])
         bench,
     };
     let mut i: u8 = 0;
-    while i < 32 {
+    while i < MOST_PASSES {
         if s.going {
             s = turn(s, command, list, recording);
         }
@@ -249,7 +257,7 @@ fn refuse_search(number: u8, bench: Bench) -> Searched
 
 // The answer where nobody showed presence: one frame without it.
 fn record_absence(bench: Bench, recording: &mut [u8]) -> Searched
-    requires { ⌜ 1824 ≤ length (now recording) ⌝ }
+    requires { ⌜ fewestBytes ≤ length (now recording) ⌝ }
     ensures answer { λ r. ⌜ r ≡ answerOf (lonelyOutcome bench) ⌝ }
     ensures recording { λ r. ⌜ now (recording .exit) ≡ recordingAfter (now (recording .entry)) (lonelyOutcome bench) ⌝ }
 {
@@ -270,10 +278,10 @@ fn run_search(bench: Bench, command: u8, list: &mut [u64], recording: &mut [u8])
     ensures list { λ r. ⌜ now (list .exit) ≡ listAfter (now (list .entry)) (searchOutcome command bench (length (now (list .entry))) (length (now (recording .entry)))) ⌝ }
     ensures recording { λ r. ⌜ now (recording .exit) ≡ recordingAfter (now (recording .entry)) (searchOutcome command bench (length (now (list .entry))) (length (now (recording .entry)))) ⌝ }
 {
-    if list.len() < 32 {
+    if list.len() < FEWEST_PLACES {
         return refuse_search(refusals::NO_ROOM, bench);
     }
-    if recording.len() < 1824 {
+    if recording.len() < FEWEST_BYTES {
         return refuse_search(refusals::NO_ROOM, bench);
     }
     if !bench::is_free(bench) {

@@ -1,5 +1,5 @@
 -- The frame of a pass has at most 200 slots, so that its line of at most 57 bytes has room, and the counts stay small. Assumes nothing.
-use Prim.Native.Nat.{_+_, _≤_}
+use Prim.Native.Nat.{_+_}
 use mathlib.Core.Path.{_≡_, _∙_, ap}
 use native.Mathlib.Omega.{arith}
 use borrow.Author.Needs.{needs}
