@@ -4,12 +4,22 @@ ghost use mathlib.Core.Path.{_≡_};
 ghost use Rattle.bits.specs.Bits.{bitNumber};
 
 mod at_code;
+mod searches;
 mod wire;
 
 pub use at_code::read_at;
 pub use at_code::write_at;
 use bench::Bench;
+use frame::Frame;
+pub use searches::alarm_search;
+pub use searches::search;
 use temperature::Reading;
+
+// The fewest places of a list and bytes of a recording that a search takes: 32 codes, and a line of 57
+// bytes for each.
+pub const FEWEST_PLACES: usize = 32;
+
+pub const FEWEST_BYTES: usize = 1824;
 
 // The answer of a read or a write at a code: the nine bytes of the scratchpad and the reading, or a
 // refusal with zeros; and the bench as the reset and the slots sent left it.
@@ -41,6 +51,36 @@ pub struct Searched {
     pub slots: u16,
     pub bytes: u16,
     pub bench: Bench,
+}
+
+// What one slot of a pass gave: the frame with the line's bit in it, that bit, and the bench after it.
+struct Shown {
+    frame: Frame,
+    line: bool,
+    bench: Bench,
+}
+
+// A pass so far: whether somebody answered at every place, the bits taken, the last place at which 0
+// was taken at a conflict (64 for none), and what the line showed.
+struct Walk {
+    answered: bool,
+    code: u64,
+    last: u8,
+    shown: Frame,
+    bench: Bench,
+}
+
+// The passes so far: whether one more is to be made, the code before it and the place at which to
+// depart from that, and the counts of what has been listed and recorded.
+struct Sweep {
+    going: bool,
+    previous: u64,
+    departure: u8,
+    codes: u8,
+    passes: u8,
+    slots: u16,
+    bytes: u16,
+    bench: Bench,
 }
 
 // One more bit of a number that comes first bit lowest.
