@@ -93,3 +93,14 @@ pub record Demand3 (h : List Call) (places room : ℕ) : Type 0 where
 abbrev pub Claim : Type 0
 Claim =
     (h : List Call) → Each Typed h → free (after h) ≡ true → (places room : ℕ) → fewestPlaces ≤ places → fewestBytes ≤ room → Demand3 h places room
+
+-- the same as what a call promises: of every history that leads to the bench given
+abbrev pub SearchPromise : Bench → ℕ → ℕ → Type 0
+SearchPromise b places room =
+    (h : List Call) → Each Typed h → after h ≡ b → free b ≡ true → fewestPlaces ≤ places → fewestBytes ≤ room
+    → SearchClaim searchRom (added h) (added h) b (searchOutcome searchRom b places room)
+
+abbrev pub AlarmPromise : Bench → ℕ → ℕ → Type 0
+AlarmPromise b places room =
+    (h : List Call) → Each Typed h → after h ≡ b → free b ≡ true → fewestPlaces ≤ places → fewestBytes ≤ room
+    → SearchClaim alarmSearch (added h) (alarms h) b (searchOutcome alarmSearch b places room)

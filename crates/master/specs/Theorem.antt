@@ -43,7 +43,7 @@ use Rattle.master.specs.Wire.{calls}
 use Rattle.master.specs.Search.{fewestPlaces, fewestBytes, codeLength, mostPasses, frameOf, Outcome, refusedOutcome, lonelyOutcome, foundOutcome, searchRun, searchOutcome, passesIn, slotsIn}
 use Rattle.master.specs.Counted.{frame-of, passes-counted, slots-counted, bytes-counted}
 use Rattle.master.specs.History.{Call, Typed, Ledger, ledger, after, added, page, alarmed}
-use Rattle.master.specs.Demand.{alarms, issued, unheard, Told, Lonely, Unanswered, Listing, Comes, Stored, storedOf, SearchClaim, Demand3, Claim}
+use Rattle.master.specs.Demand.{alarms, issued, unheard, Told, Lonely, Unanswered, Listing, Comes, Stored, storedOf, SearchClaim, Demand3, Claim, SearchPromise, AlarmPromise}
 use Rattle.master.specs.Reached.{PagesAre, Marked, Reached, reached-after}
 
 -- ## What an accepted search comes to
@@ -230,3 +230,10 @@ demand-3 h t f places room p q =
       search = search-claim (after h) (r .sound) f places room p q fit (added h) (m .codes-are);
       alarm-search = alarm-claim (after h) (r .sound) f places room p q fit (added h) (alarms h) (m .codes-are) flags;
     }
+
+-- as the calls promise it
+pub search-promised : (b : Bench) (places room : ℕ) → SearchPromise b places room
+search-promised b places room h t e f p q = rw (← e) (demand-3 h t (rw (← e) at f) places room p q .search)
+
+pub alarm-promised : (b : Bench) (places room : ℕ) → AlarmPromise b places room
+alarm-promised b places room h t e f p q = rw (← e) (demand-3 h t (rw (← e) at f) places room p q .alarm-search)

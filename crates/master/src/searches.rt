@@ -12,6 +12,7 @@ ghost use Rattle.search_law.specs.Departure.{takes};
 ghost use Rattle.search_law.specs.PassLoop.{loopPass};
 ghost use Rattle.master.specs.Wire.{calls};
 ghost use Rattle.master.specs.Search.{codeLength, mostPasses, fewestPlaces, fewestBytes, refusedOutcome, lonelyOutcome, searchOutcome, answerOf, listAfter, recordingAfter};
+ghost use Rattle.master.specs.Demand.{SearchPromise, AlarmPromise};
 ghost use Rattle.master.specs.Pass.{oneSlot, chosen, lastAfter, onePlace, passBegun, walkOf};
 ghost use Rattle.master.specs.Sweep.{framesOf, sweepOf, sweptAll, nextPass, codesAfter, goesOn, swept, listedAfter, Counted};
 use crate::FEWEST_BYTES;
@@ -309,6 +310,7 @@ pub fn search(bench: Bench, list: &mut [u64], recording: &mut [u8]) -> Searched
     ensures answer { λ r. ⌜ r ≡ answerOf (searchOutcome searchRom bench (length (now (list .entry))) (length (now (recording .entry)))) ⌝ }
     ensures list { λ r. ⌜ now (list .exit) ≡ listAfter (now (list .entry)) (searchOutcome searchRom bench (length (now (list .entry))) (length (now (recording .entry)))) ⌝ }
     ensures recording { λ r. ⌜ now (recording .exit) ≡ recordingAfter (now (recording .entry)) (searchOutcome searchRom bench (length (now (list .entry))) (length (now (recording .entry)))) ⌝ }
+    ensures history { λ r. ⌜ SearchPromise bench (length (now (list .entry))) (length (now (recording .entry))) ⌝ }
 {
     run_search(bench, commands::SEARCH_ROM, list, recording)
 }
@@ -318,6 +320,7 @@ pub fn alarm_search(bench: Bench, list: &mut [u64], recording: &mut [u8]) -> Sea
     ensures answer { λ r. ⌜ r ≡ answerOf (searchOutcome alarmSearch bench (length (now (list .entry))) (length (now (recording .entry)))) ⌝ }
     ensures list { λ r. ⌜ now (list .exit) ≡ listAfter (now (list .entry)) (searchOutcome alarmSearch bench (length (now (list .entry))) (length (now (recording .entry)))) ⌝ }
     ensures recording { λ r. ⌜ now (recording .exit) ≡ recordingAfter (now (recording .entry)) (searchOutcome alarmSearch bench (length (now (list .entry))) (length (now (recording .entry)))) ⌝ }
+    ensures history { λ r. ⌜ AlarmPromise bench (length (now (list .entry))) (length (now (recording .entry))) ⌝ }
 {
     run_search(bench, commands::ALARM_SEARCH, list, recording)
 }
