@@ -1,3 +1,4 @@
+-- The two cases of the definition. Assumes nothing.
 use borrow.Author.Needs.{needs}
 use Rattle.master.proofs.searches.enter.Statement.{statement}
 use Rattle.master.proofs.searches.enter.Tie as tie

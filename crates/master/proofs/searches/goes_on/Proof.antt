@@ -1,3 +1,4 @@
+-- The two cases of the definition. Assumes nothing.
 use borrow.Author.Needs.{needs}
 use Rattle.master.proofs.searches.goes_on.Statement.{statement}
 use Rattle.master.proofs.searches.goes_on.Tie as tie

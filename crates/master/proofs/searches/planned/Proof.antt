@@ -1,3 +1,4 @@
+-- Before the place of departure a bit of the code, else a comparison. Assumes nothing.
 use borrow.Author.Tests.{le-ltb, lt-ltb}
 use borrow.Author.Needs.{needs}
 use Rattle.master.proofs.searches.planned.Statement.{statement}

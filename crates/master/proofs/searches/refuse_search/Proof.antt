@@ -1,3 +1,4 @@
+-- A refusal counts nothing. Assumes nothing.
 use mathlib.Core.Path.{sym}
 use Rattle.master.specs.Sweep.{refused-answer}
 use Rattle.master.proofs.searches.refuse_search.Statement.{statement}

@@ -1,3 +1,4 @@
+-- The slot's line is pushed. Assumes nothing.
 use Rattle.master.specs.Pass.{oneSlot}
 use borrow.Author.Needs.{needs}
 use Rattle.master.proofs.searches.show.Statement.{statement}
