@@ -1,4 +1,3 @@
 pub mod Course
 pub mod Thermometers
 pub mod OnTheBench
-pub mod OnASoundBench
