@@ -7,8 +7,8 @@ use lib.Seq.{take-length}
 use Rattle.lists.specs.Laid.{laid, laid-none}
 use Rattle.frame.specs.Hex.{hexOf, laid-hex}
 use borrow.Author.Needs.{needs}
-use Rattle.frame.proofs.hex.put_bytes.Statement.{statement}
-use Rattle.frame.proofs.hex.put_bytes.Tie as tie
+use Rattle.frame.proofs.put_bytes.Statement.{statement}
+use Rattle.frame.proofs.put_bytes.Tie as tie
 
 abbrev Inv-loop : tie.InvT-loop
 Inv-loop s₀ at bytes i₀ s i = (i ≤ length bytes) × (length s ≡ length s₀) × (s ≡ laid s₀ at (hexOf (take i bytes)))

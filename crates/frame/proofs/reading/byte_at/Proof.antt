@@ -7,8 +7,8 @@ use lib.ListN.{length, getD}
 use Rattle.frame.specs.Laws.{all-at}
 use Rattle.frame.specs.Hex.{valueOf, isDigit}
 use borrow.Author.Needs.{needs}
-use Rattle.frame.proofs.hex.byte_at.Statement.{statement}
-use Rattle.frame.proofs.hex.byte_at.Tie as tie
+use Rattle.frame.proofs.reading.byte_at.Statement.{statement}
+use Rattle.frame.proofs.reading.byte_at.Tie as tie
 
 -- the value at a place is below 16
 small : (c : tie.Start) (i : ℕ) → i < length (now (c .args .s)) → valueOf (getD (now (c .args .s)) i 0) < 16

@@ -2,8 +2,8 @@
 use denote.Ref.{now}
 use Rattle.frame.specs.Writing.{head-laid}
 use borrow.Author.Needs.{needs}
-use Rattle.frame.proofs.writing.put_head.Statement.{statement}
-use Rattle.frame.proofs.writing.put_head.Tie as tie
+use Rattle.frame.proofs.put_head.Statement.{statement}
+use Rattle.frame.proofs.put_head.Tie as tie
 
 presence-byte-requires : tie.Need-presence-byte-requires
 presence-byte-requires c κs = search needs

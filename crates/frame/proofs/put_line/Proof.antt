@@ -8,8 +8,8 @@ use lib.Seq.{length-take-le}
 use Rattle.frame.specs.Frames.{bytesFor}
 use Rattle.frame.specs.Writing.{slotBytes, line-laid}
 use borrow.Author.Needs.{needs}
-use Rattle.frame.proofs.writing.put_line.Statement.{statement}
-use Rattle.frame.proofs.writing.put_line.Tie as tie
+use Rattle.frame.proofs.put_line.Statement.{statement}
+use Rattle.frame.proofs.put_line.Tie as tie
 
 -- the frame's array, and how much of it is written
 long : (c : tie.Start) → length (c .args .f .bits) ≡ 64

@@ -8,8 +8,8 @@ use lib.ListN.{length-set}
 use Rattle.lists.specs.Laid.{laid-sets}
 use Rattle.frame.specs.Hex.{digitOf, digits}
 use borrow.Author.Needs.{needs}
-use Rattle.frame.proofs.hex.put_byte.Statement.{statement}
-use Rattle.frame.proofs.hex.put_byte.Tie as tie
+use Rattle.frame.proofs.put_byte.Statement.{statement}
+use Rattle.frame.proofs.put_byte.Tie as tie
 
 digit-requires : tie.Need-digit-requires
 digit-requires c κs = search needs
@@ -33,9 +33,9 @@ returns : tie.Need-returns
 unfolding digits
 returns c =
     let a = c .before .before .before in
-    let q : a .args .byte / 16 % 16 ≡ a .args .byte / 16 = omega arith in
-    rw (q, c .before .digit .ensures, c .digit2 .ensures, add-one (a .args .at))
-    (laid-sets _ (a .args .at) (digitOf (a .args .byte / 16) ∷ digitOf (a .args .byte % 16) ∷ []) (a .pre))
+    let q : a .args .byte % 16 % 16 ≡ a .args .byte % 16 = omega arith in
+    rw (c .before .digit .ensures, c .digit2 .ensures, q, add-one (a .args .at))
+    (laid-sets _ (a .args .at) (digitOf (a .args .byte / 16 % 16) ∷ digitOf (a .args .byte % 16) ∷ []) (a .pre))
 
 pub put-byte-spec : {M : Type 1} → statement M
 put-byte-spec =

@@ -9,8 +9,8 @@ use lib.ListN.{length, take}
 use Rattle.lists.specs.Laid.{laid, laid-none}
 use Rattle.frame.specs.Hex.{bytesOf, bytes-length, bytes-at}
 use borrow.Author.Needs.{needs}
-use Rattle.frame.proofs.hex.decode.Statement.{statement}
-use Rattle.frame.proofs.hex.decode.Tie as tie
+use Rattle.frame.proofs.reading.decode.Statement.{statement}
+use Rattle.frame.proofs.reading.decode.Tie as tie
 
 abbrev Inv-loop : tie.InvT-loop
 Inv-loop s n bytes₀ i₀ bytes i = (i ≤ n) × (bytes ≡ laid bytes₀ 0 (take i (bytesOf s)))
