@@ -8,7 +8,7 @@ use mathlib.Core.List.{List, [], _∷_, _++_, append-assoc}
 use native.Mathlib.Omega.{arith}
 use lib.Dec.{eqb, lit<}
 use lib.ListN.{length, take, drop, getD, length-append, length-take}
-use lib.Seq.{take-at, drop-at, take-append-le, getD-append-add}
+use lib.Seq.{take-at, drop-at, take-take}
 use Rattle.lists.specs.Choice.{if_then_else_}
 use Rattle.bits.specs.Bits.{bitsOf, bytesBits, numberOf, bits-length, number-bits}
 use Rattle.refusals.specs.Refusals.{accepted}
@@ -41,24 +41,26 @@ first-byte command ss f h r = by-bytes (f .bits) refl
     by-bytes : (l : List ℕ) → f .bits ≡ l → getD l 0 0 ≡ command
     by-bytes [] e = absurd (let s = r .held .size in let z : length (f .bits) ≡ 0 = ap length e in omega arith)
     by-bytes (b ∷ l) e =
-        let n : f .count ≡ 8 + length ss = r .total ∙ length-append (bitsOf 8 command) ss ∙ ap (λ (k : ℕ). k + length ss) (bits-length 8 command) in
+        let n = r .total ∙ length-append (bitsOf 8 command) ss in let k = bits-length 8 command in
         let w : 8 ≤ f .count = omega arith in
         let small : b < 256 = rw e at (r .held .bytes 0) in
-        let front : take 8 (slotsOf f) ≡ bitsOf 8 b = ? in
+        let front : take 8 (slotsOf f) ≡ bitsOf 8 b =
+        take-take 8 (f .count) (bytesBits (f .bits)) w ∙ ap (λ (m : List ℕ). take 8 (bytesBits m)) e ∙ take-at (bitsOf 8 b) (bytesBits l) 8 (bits-length 8 b) in
         let same : bitsOf 8 b ≡ bitsOf 8 command = sym front ∙ ap (take 8) (r .slots) ∙ take-at (bitsOf 8 command) ss 8 (bits-length 8 command) in
         sym (number-bits 8 b small) ∙ ap numberOf same ∙ number-bits 8 command h
 
 module _ (code : ℕ) (ss : List Bool) (l : Listing code ss) (f : Frame) where
+  pass-count : (command : ℕ) → Recorded (bitsOf 8 command ++ ss) f → f .count ≡ 200
+  pass-count command r =
+      let n = r .total ∙ length-append (bitsOf 8 command) ss in let b = bits-length 8 command in let s = l .long in
+      omega arith
+
   pass-read : (command : ℕ) → Recorded (bitsOf 8 command ++ ss) f → passSlots (f .bits) ≡ ss
   pass-read command r =
-      let n : f .count ≡ 200 = r .total ∙ length-append (bitsOf 8 command) ss ∙ ap (λ (k : ℕ). k + length ss) (bits-length 8 command) ∙ ap (λ (k : ℕ). 8 + k) (l .long) in
-      ap (λ (k : ℕ). drop 8 (take k (bytesBits (f .bits)))) (sym n) ∙ ap (drop 8) (r .slots) ∙ drop-at (bitsOf 8 command) ss 8 (bits-length 8 command)
+      ap (λ (k : ℕ). drop 8 (take k (bytesBits (f .bits)))) (sym (pass-count command r)) ∙ ap (drop 8) (r .slots) ∙ drop-at (bitsOf 8 command) ss 8 (bits-length 8 command)
 
   code-read : numberOf (thirds ss) ≡ code
   code-read = ap numberOf (l .bits-are) ∙ number-bits 64 code (l .small)
-
-  pass-count : (command : ℕ) → Recorded (bitsOf 8 command ++ ss) f → f .count ≡ 200
-  pass-count command r = r .total ∙ length-append (bitsOf 8 command) ss ∙ ap (λ (k : ℕ). k + length ss) (bits-length 8 command) ∙ ap (λ (k : ℕ). 8 + k) (l .long)
 
   -- a pass of a search is named SEARCH with the code it lists
   pub search-named : Recorded (bitsOf 8 searchRom ++ ss) f → named f ≡ lists Search code
@@ -74,8 +76,8 @@ module _ (code : ℕ) (ss : List Bool) (l : Listing code ss) (f : Frame) where
 
 -- an alarm search that nobody answers
 pub nobody-named : (f : Frame) → Recorded (bitsOf 8 alarmSearch ++ (true ∷ true ∷ [])) f → named f ≡ plain Nobody
-unfolding named searches
-nobody-named f r = rw (r .shown, r .total, first-byte alarmSearch (true ∷ true ∷ []) f (lit< tt) r, r .slots)
+unfolding named searches bitsOf
+nobody-named f r = rw (r .shown, r .slots, r .total, first-byte alarmSearch (true ∷ true ∷ []) f (lit< tt) r)
 
 -- a reset that no device answers
 pub empty-named : named (blankFrame false) ≡ plain Empty
