@@ -142,7 +142,15 @@ fn pad_in(bits: &[u8]) -> NineBytes
     ensures { λ r. ⌜ r ≡ padIn (now (bits .entry)) ⌝ }
 {
     [
-        bits[10], bits[11], bits[12], bits[13], bits[14], bits[15], bits[16], bits[17], bits[18],
+        bits[10],
+        bits[11],
+        bits[12],
+        bits[13],
+        bits[14],
+        bits[15],
+        bits[16],
+        bits[17],
+        bits[18],
     ]
 }
 
