@@ -74,3 +74,8 @@ pub record Told (s : List ℕ) (p : Progress) : Type 0 where
   pub few : p .written ≤ 10 * p .next
   pub within : p .next ≤ length s
   pub left : drop (p .next) s ≡ rest (linesOf s)
+
+-- what a caller needs of the answer: the text is within its buffer, and what is carried within the piece
+pub record FeedWithin (s out : List ℕ) (f : Fed) : Type 0 where
+  pub text : f .written ≤ length out
+  pub kept : f .held ≤ length s

@@ -5,7 +5,7 @@ ghost use Prim.Native.Nat.{_*_, _≤_, min};
 ghost use lib.ListN.{length, take, drop};
 ghost use Rattle.lists.specs.Laid.{laid};
 ghost use Rattle.frame.specs.Lines.{linesOf};
-ghost use Rattle.streaming.specs.Streaming.{printedAll, whole, rest, longestCarried, Told, feedAnswer, feedCarries, feedPrints, finishAnswer, finishPrints};
+ghost use Rattle.streaming.specs.Streaming.{printedAll, whole, rest, longestCarried, Told, FeedWithin, feedAnswer, feedCarries, feedPrints, finishAnswer, finishPrints};
 use frame::Written;
 
 // As much of an unfinished line as tells that it is over-long: one character more than a line may have.
@@ -77,6 +77,7 @@ pub fn feed(s: &mut [u8], out: &mut [u8]) -> Fed
     ensures answer { λ r. ⌜ r ≡ feedAnswer (now (s .entry)) (now (out .entry)) ⌝ }
     ensures carried { λ r. ⌜ now (s .exit) ≡ feedCarries (now (s .entry)) (now (out .entry)) ⌝ }
     ensures printed { λ r. ⌜ now (out .exit) ≡ feedPrints (now (s .entry)) (now (out .entry)) ⌝ }
+    ensures within { λ r. ⌜ FeedWithin (now (s .entry)) (now (out .entry)) r ⌝ }
 {
     if out.len() / MOST_PRINTED < s.len() {
         return Fed {
@@ -98,6 +99,7 @@ pub fn feed(s: &mut [u8], out: &mut [u8]) -> Fed
 pub fn finish(s: &[u8], out: &mut [u8]) -> Written
     ensures answer { λ r. ⌜ r ≡ finishAnswer (now (s .entry)) (now (out .entry)) ⌝ }
     ensures printed { λ r. ⌜ now (out .exit) ≡ finishPrints (now (s .entry)) (now (out .entry)) ⌝ }
+    ensures within { λ r. ⌜ r .next ≤ length (now (out .entry)) ⌝ }
 {
     if out.len() / MOST_PRINTED < s.len() {
         return Written {
