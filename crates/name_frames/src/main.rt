@@ -17,26 +17,37 @@ struct Piece {
     held: usize,
 }
 
-// Reads once behind the bytes that are carried over, and prints the lines that have their feed.
-fn print_piece(buffer: &mut [u8], held: usize, text: &mut [u8]) -> Piece
+// Reads once, behind the bytes that are carried over, and answers how many bytes there are now.
+fn read_behind(buffer: &mut [u8], held: usize) -> usize
     requires { ⌜ held ≤ length (now buffer) ⌝ }
-    ensures { λ r. ⌜ r .held ≤ length (now (buffer .entry)) ⌝ }
+    ensures { λ r. ⌜ (held ≤ r) × (r ≤ length (now (buffer .entry))) ⌝ }
 {
     let got = libc::read(STDIN_FILENO, &mut buffer[held..]);
-    let count = io::count(got, &buffer[held..]);
-    if count == 0 {
-        return Piece {
-            more: false,
-            held,
-        };
-    }
-    let filled = held + count;
-    let fed = streaming::feed(&mut buffer[..filled], text);
+    held + io::count(got, &buffer[held..])
+}
+
+// Prints the lines that have their feed.
+fn print_piece(bytes: &mut [u8], text: &mut [u8]) -> Piece
+    ensures { λ r. ⌜ r .held ≤ length (now (bytes .entry)) ⌝ }
+{
+    let fed = streaming::feed(bytes, text);
     let end = fed.written;
     Piece {
         more: io::write_all(STDOUT_FILENO, &text[..end]),
         held: fed.held,
     }
+}
+
+// One piece. At the end of the input, and where the output takes no more, there is none after it.
+fn next_piece(buffer: &mut [u8], held: usize, text: &mut [u8]) -> Piece
+    requires { ⌜ held ≤ length (now buffer) ⌝ }
+    ensures { λ r. ⌜ r .held ≤ length (now (buffer .entry)) ⌝ }
+{
+    let filled = read_behind(buffer, held);
+    if filled == held {
+        return Piece { more: false, held };
+    }
+    print_piece(&mut buffer[..filled], text)
 }
 
 // A proved loop has to end, and nothing says that a recording does: so the turns are counted down from
@@ -47,7 +58,7 @@ fn print_pieces(buffer: &mut [u8], text: &mut [u8]) -> usize
     let mut held: usize = 0;
     let mut turns = u64::MAX;
     while turns > 0 {
-        let piece = print_piece(buffer, held, text);
+        let piece = next_piece(buffer, held, text);
         held = piece.held;
         if !piece.more {
             return held;
@@ -57,11 +68,20 @@ fn print_pieces(buffer: &mut [u8], text: &mut [u8]) -> usize
     held
 }
 
+// Prints what is left at the end of the input: a last line without a feed.
+fn print_last(bytes: &[u8], text: &mut [u8]) {
+    let last = streaming::finish(bytes, text);
+    let end = last.next;
+    io::write_all(STDOUT_FILENO, &text[..end]);
+}
+
+fn print_recording(buffer: &mut [u8], text: &mut [u8]) {
+    let held = print_pieces(buffer, text);
+    print_last(&buffer[..held], text);
+}
+
 fn main() {
     let mut buffer = [0u8; PIECE];
     let mut text = [0u8; TEXT];
-    let held = print_pieces(&mut buffer, &mut text);
-    let last = streaming::finish(&buffer[..held], &mut text);
-    let end = last.next;
-    io::write_all(STDOUT_FILENO, &text[..end]);
+    print_recording(&mut buffer, &mut text);
 }
