@@ -1,13 +1,20 @@
 // Frames: what the wire showed after one reset, and the line of a recording that carries it.
 ghost use mathlib.Core.Path.{_≡_};
-ghost use Prim.Native.Nat.{_<_, _≤_};
+ghost use Prim.Native.Nat.{_+_, _*_, _<_, _≤_};
+ghost use lib.ListN.{length};
+ghost use Rattle.lists.specs.Laid.{laid};
+ghost use Rattle.bits.specs.Bits.{bitNumber};
 ghost use Rattle.frame.specs.Frames.{blankFrame, slotBit, pushed, withBit, clearFrom, countAllowed, lineable, bytesFor, mostSlots};
+ghost use Rattle.frame.specs.Hex.{digits, hexOf};
 ghost use Rattle.frame.specs.Reading.{readAt};
-ghost use Rattle.frame.specs.Writing.{writeAnswer, writeLeaves};
+ghost use Rattle.frame.specs.Writing.{headOf, fedLine, writeAnswer, writeLeaves};
 
 mod hex;
 mod reading;
-mod writing;
+
+pub use hex::digit;
+pub use reading::line_end;
+pub use reading::read_line;
 
 // The character that ends a line.
 pub const LINE_FEED: u8 = 0x0A;
@@ -162,11 +169,65 @@ pub fn read_at(s: &[u8], at: usize) -> LineRead
             frame: blank(false),
         };
     }
-    let end = reading::line_end(s, at);
+    let end = line_end(s, at);
     if end < s.len() {
-        return reading::read_line(&s[at..end], true, end + 1);
+        return read_line(&s[at..end], true, end + 1);
     }
-    reading::read_line(&s[at..end], false, end)
+    read_line(&s[at..end], false, end)
+}
+
+// The two digits of a byte, laid at a place.
+fn put_byte(s: &mut [u8], at: usize, byte: u8)
+    requires { ⌜ at + 2 ≤ length (now s) ⌝ }
+    ensures { λ r. ⌜ now (s .exit) ≡ laid (now (s .entry)) at (digits 2 byte) ⌝ }
+{
+    s[at] = hex::digit(byte / 16);
+    s[at + 1] = hex::digit(byte % 16);
+}
+
+// The digits of each byte in turn, laid at a place.
+fn put_bytes(s: &mut [u8], at: usize, bytes: &[u8])
+    requires { ⌜ at + 2 * length (now bytes) ≤ length (now s) ⌝ }
+    ensures { λ r. ⌜ now (s .exit) ≡ laid (now (s .entry)) at (hexOf (now (bytes .entry))) ⌝ }
+{
+    let mut i: usize = 0;
+    while i < bytes.len() {
+        let byte = bytes[i];
+        put_byte(s, at + 2 * i, byte);
+        i += 1;
+    }
+}
+
+// The byte that says whether there was presence.
+fn presence_byte(presence: bool) -> u8
+    ensures { λ r. ⌜ r ≡ bitNumber presence ⌝ }
+{
+    if presence { 1 } else { 0 }
+}
+
+// The six digits of presence and count.
+fn put_head(s: &mut [u8], at: usize, presence: bool, count: u16)
+    requires { ⌜ at + 6 ≤ length (now s) ⌝ }
+    ensures { λ r. ⌜ now (s .exit) ≡ laid (now (s .entry)) at (headOf presence count) ⌝ }
+{
+    let shown = presence_byte(presence);
+    put_byte(s, at, shown);
+    put_byte(s, at + 2, (count / 256) as u8);
+    put_byte(s, at + 4, (count % 256) as u8);
+}
+
+// The whole line with its feed, where there is room for it.
+fn put_line(s: &mut [u8], at: usize, f: Frame)
+    requires { ⌜ (f .count ≤ mostSlots) × (at + (7 + 2 * bytesFor (f .count)) ≤ length (now s)) ⌝ }
+    ensures { λ r. ⌜ now (s .exit) ≡ laid (now (s .entry)) at (fedLine f) ⌝ }
+{
+    let count = f.count;
+    let bits = f.bits;
+    let n = bytes_for(count);
+    put_head(s, at, f.presence, count);
+    put_bytes(s, at + 6, &bits[0..n]);
+    let end = at + 6 + 2 * n;
+    s[end] = LINE_FEED;
 }
 
 // The frame's line with its feed, written at a place. A frame that no line can carry is refused before a lack of room.
@@ -195,7 +256,7 @@ pub fn write_at(s: &mut [u8], at: usize, f: Frame) -> Written
             next: 0,
         };
     }
-    writing::put_line(s, at, f);
+    put_line(s, at, f);
     Written {
         refusal: refusals::ACCEPTED,
         next: at + width,

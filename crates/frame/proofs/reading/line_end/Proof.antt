@@ -1,8 +1,7 @@
 -- The loop's invariant: the end of the line that starts at `i` is the end asked for. The measure is what is left. Assumes nothing.
 use denote.Ref.{now}
-use Prim.Native.Nat.{_+_, _≤_, _-_}
+use Prim.Native.Nat.{_+_, _-_}
 use mathlib.Core.Path.{_≡_, refl, sym, _∙_}
-use native.Mathlib.Omega.{arith}
 use lib.ListN.{length, drop}
 use Rattle.frame.specs.Lines.{feedAt, feed-here, feed-on, feed-end}
 use borrow.Author.Needs.{needs}
@@ -10,13 +9,13 @@ use Rattle.frame.proofs.reading.line_end.Statement.{statement}
 use Rattle.frame.proofs.reading.line_end.Tie as tie
 
 abbrev Inv-loop : tie.InvT-loop
-Inv-loop s at i₀ i = (i ≤ length s) × (i + feedAt (drop i s) ≡ at + feedAt (drop at s))
+Inv-loop s at i₀ i = i + feedAt (drop i s) ≡ at + feedAt (drop at s)
 
 abbrev μ-loop : tie.MeasureT-loop
 μ-loop s at i₀ i = length s - i
 
 loop-holds : tie.Need-loop-holds Inv-loop μ-loop
-loop-holds c = (c .pre, refl)
+loop-holds c = refl
 
 shared-slice-read-if1 : tie.Need-shared-slice-read-if1 Inv-loop μ-loop
 shared-slice-read-if1 c = search needs
@@ -24,7 +23,7 @@ shared-slice-read-if1 c = search needs
 returns : tie.Need-returns Inv-loop μ-loop
 returns c =
     let l = c .before .before .before in
-    sym (feed-here (now (l .before .args .s)) (l .loop .i) (c .before .before .loop-test .taken) (c .if1 .taken)) ∙ l .loop .inv .1
+    sym (feed-here (now (l .before .args .s)) (l .loop .i) (c .before .before .loop-test .taken) (c .if1 .taken)) ∙ l .loop .inv
 
 add-i : tie.Need-add-i Inv-loop μ-loop
 add-i c = search needs
@@ -34,15 +33,13 @@ loop-less c = search needs
 
 loop-again : tie.Need-loop-again Inv-loop μ-loop
 loop-again c =
-    let l = c .before .before .before in (
-      omega arith,
-      sym (feed-on (now (l .before .args .s)) (l .loop .i) (c .before .before .loop-test .taken) (c .if1 .left)) ∙ l .loop .inv .1,
-    )
+    let l = c .before .before .before in
+    sym (feed-on (now (l .before .args .s)) (l .loop .i) (c .before .before .loop-test .taken) (c .if1 .left)) ∙ l .loop .inv
 
 returns-2 : tie.Need-returns-2 Inv-loop μ-loop
 returns-2 c =
     let l = c .before in
-    sym (feed-end (now (l .before .args .s)) (l .loop .i) (c .loop-test .left)) ∙ l .loop .inv .1
+    sym (feed-end (now (l .before .args .s)) (l .loop .i) (c .loop-test .left)) ∙ l .loop .inv
 
 pub line-end-spec : {M : Type 1} → statement M
 line-end-spec =
