@@ -53,7 +53,7 @@ module _ (command : ℕ) (b : Bench) (places room : ℕ) (f : free b ≡ true) (
   unfolding searchOutcome
   outcome-lonely e = rw (le-ltb places fewestPlaces p, le-ltb room fewestBytes q, f, e)
 
-  outcome-found : resetDone b .presence ≡ true → searchOutcome command b places room ≡ foundOutcome (searchRun command b)
+  pub outcome-found : resetDone b .presence ≡ true → searchOutcome command b places room ≡ foundOutcome (searchRun command b)
   unfolding searchOutcome
   outcome-found e = rw (le-ltb places fewestPlaces p, le-ltb room fewestBytes q, f, e)
 
@@ -133,7 +133,7 @@ module _ (b : Bench) (s : BenchSound b) (f : free b ≡ true) where
       let t = length-take (b .count) (b .devices) in
       length-map (live b) (λ d. d .code) ∙ omega arith
 
-  presence-is : resetDone b .presence ≡ ltb 0 (length (codesOf b))
+  pub presence-is : resetDone b .presence ≡ ltb 0 (length (codesOf b))
   presence-is = ap (λ r. r .presence) (reset-accepted b f) ∙ ap (ltb 0) (sym device-count)
 
 -- ## Stored bytes
@@ -219,16 +219,24 @@ module _ (b : Bench) (s : BenchSound b) (f : free b ≡ true) (places room : ℕ
 
 -- ## The claim, for every history
 
+module _ (h : List Call) (t : Each Typed h) where
+  pub codes-fit : Below 64 (codesOf (after h))
+  codes-fit = let m = reached-after h t .marked in rw (m .codes-are) (m .codes-fit)
+
+  pub flagged-are-alarms : flaggedCodes (after h) ≡ alarms h
+  flagged-are-alarms =
+      let r = reached-after h t in
+      let m = r .marked in
+      flagged-are (ledger h .book) (live (after h)) (r .sound .devices-sound) (m .pages-are) ∙ ap (those (λ code. alarmed (page h code))) (m .codes-are)
+
 pub demand-3 : Claim
 demand-3 h t f places room p q =
     let r = reached-after h t in
-    let m = r .marked in
-    let fit : Below 64 (codesOf (after h)) = rw (m .codes-are) (m .codes-fit) in
-    let flags : flaggedCodes (after h) ≡ alarms h =
-    flagged-are (ledger h .book) (live (after h)) (r .sound .devices-sound) (m .pages-are) ∙ ap (those (λ code. alarmed (page h code))) (m .codes-are) in
+    let fit = codes-fit h t in
+    let are = r .marked .codes-are in
     record {
-      search = search-claim (after h) (r .sound) f places room p q fit (added h) (m .codes-are);
-      alarm-search = alarm-claim (after h) (r .sound) f places room p q fit (added h) (alarms h) (m .codes-are) flags;
+      search = search-claim (after h) (r .sound) f places room p q fit (added h) are;
+      alarm-search = alarm-claim (after h) (r .sound) f places room p q fit (added h) (alarms h) are (flagged-are-alarms h t);
     }
 
 -- as the calls promise it

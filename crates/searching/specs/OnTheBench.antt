@@ -156,7 +156,8 @@ same-flagged b c e =
 
 -- ## The codes of those whose flag is set are some of the codes
 
-some-each : (P : ℕ → Type 0) (p : Device → Bool) (ds : List Device) → Each P (numbersOf ds) → Each P (numbersOf (those p ds))
+-- what holds of each code holds of those of some devices
+pub some-each : (P : ℕ → Type 0) (p : Device → Bool) (ds : List Device) → Each P (numbersOf ds) → Each P (numbersOf (those p ds))
 unfolding those
 some-each P p [] h = tt
 some-each P p (d ∷ ds) h = by-test (p d) (some-each P p ds (h .1))
