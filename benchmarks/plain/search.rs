@@ -1,21 +1,31 @@
 // The work of `measure_search`: an ordinary Rust model of the bench, changed in place, and a search on it.
+// It has what resets and slots need; nothing ends a conversion or a copy.
 use std::io::Read;
 
 const SEARCHES: u32 = 100;
 const SLOTS: u32 = 500_000;
 const ROUND: u32 = 152;
 
-fn crc_bits(mut register: u8, mut number: u64, count: u8) -> u8 {
-    for _ in 0..count {
-        let mix = (register ^ number as u8) & 1;
-        register = (register >> 1) ^ if mix == 1 { 0x8C } else { 0 };
-        number >>= 1;
+const fn crc_table() -> [u8; 256] {
+    let mut table = [0u8; 256];
+    let mut i = 0;
+    while i < 256 {
+        let mut r = i as u8;
+        let mut bit = 0;
+        while bit < 8 {
+            r = if r & 1 == 1 { (r >> 1) ^ 0x8C } else { r >> 1 };
+            bit += 1;
+        }
+        table[i] = r;
+        i += 1;
     }
-    register
+    table
 }
 
+static CRC_TABLE: [u8; 256] = crc_table();
+
 fn crc_of(bytes: &[u8]) -> u8 {
-    bytes.iter().fold(0, |r, &b| crc_bits(r, b as u64, 8))
+    bytes.iter().fold(0, |r, b| CRC_TABLE[(r ^ b) as usize])
 }
 
 #[derive(Clone, Copy, PartialEq)]
@@ -339,7 +349,7 @@ fn search(b: &mut Bench) -> Found {
 
 fn code_of(serial: u64) -> u64 {
     let low = serial << 8 | 0x28;
-    low | (crc_bits(0, low, 56) as u64) << 56
+    low | (crc_of(&low.to_le_bytes()[..7]) as u64) << 56
 }
 
 fn full_bench() -> Bench {
