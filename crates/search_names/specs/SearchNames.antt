@@ -98,13 +98,15 @@ module _ (command : ℕ) (name : Name) (reads : (code : ℕ) (ss : List Bool) �
 each-fits : (ns : List ℕ) → Below 64 ns → Each (λ c. sound c ≡ true) ns → Each Fits (map (bitsOf 64) ns)
 each-fits [] b s = tt
 each-fits (n ∷ ns) b s =
-    let e = number-bits 64 n (b .0) in
-    (record {
-      long = bits-length 64 n;
-      small = rw e (b .0);
-      bits-are = rw e;
-      sound-is = rw e (eqb-true (codeRefusal n) accepted (s .0));
-    }, each-fits ns (b .1) (s .1))
+    let e = number-bits 64 n (b .0) in (
+      record {
+        long = bits-length 64 n;
+        small = rw e (b .0);
+        bits-are = rw e;
+        sound-is = rw e (eqb-true (codeRefusal n) accepted (s .0));
+      },
+      each-fits ns (b .1) (s .1),
+    )
 
 module _ (b : Bench) (s : BenchSound b) (f : free b ≡ true) (l : Below 64 (codesOf b)) where
   few-codes : length (codesOf b) ≤ mostPasses
