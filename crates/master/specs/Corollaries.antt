@@ -9,7 +9,7 @@ use mathlib.Core.Bool.{Bool, true}
 use mathlib.Core.List.{List, [], _∷_, map}
 use mathlib.Core.Path.{_≡_, refl, sym, ap, _∙_}
 use native.Mathlib.Omega.{arith}
-use lib.ListN.{length, length-map, length-take}
+use lib.ListN.{length}
 use Rattle.bits.specs.Bits.{bitsOf}
 use Rattle.commands.specs.Commands.{searchRom, alarmSearch}
 use Rattle.search_law.specs.Codes.{Each, Distinct}
@@ -19,7 +19,7 @@ use Rattle.device.specs.Sound.{Sound}
 use Rattle.device.specs.declared.Device.{Device}
 use Rattle.device.specs.declared.Page.{Page}
 use Rattle.bench.specs.Bench.{live, free}
-use Rattle.bench.specs.Sound.{codesOf, BenchSound}
+use Rattle.bench.specs.Sound.{codesOf, BenchSound, codes-count}
 use Rattle.bench.specs.declared.Bench.{Bench}
 use Rattle.searching.specs.OnTheBench as bench
 use Rattle.searching.specs.OnTheBench.{flaggedCodes}
@@ -35,14 +35,7 @@ module _ (h : List Call) (t : Each Typed h) where
   codes-are-added = reached-after h t .marked .codes-are
 
   pub devices-are : length (added h) ≡ after h .count
-  devices-are =
-      let s = bench-is-sound in
-      let few = s .few in
-      let long = s .places in
-      let k = length-take (after h .count) (after h .devices) in
-      let n = length-map (live (after h)) (λ d. d .code) in
-      let e = ap length codes-are-added in
-      omega arith
+  devices-are = let s = bench-is-sound in sym (ap length codes-are-added) ∙ codes-count (after h) (s .places) (s .few)
 
 flags-by-pages : (book : ℕ → Page) (ds : List Device) → Each Sound ds → PagesAre book ds → Each (λ d. d .alarm ≡ alarmed (book (d .code))) ds
 flags-by-pages book [] s p = tt
@@ -57,12 +50,7 @@ flags-are h t =
 
 module _ (b : Bench) (s : BenchSound b) (f : free b ≡ true) (l : Below 64 (codesOf b)) where
   few-codes : length (codesOf b) ≤ mostPasses
-  few-codes =
-      let few = s .few in
-      let long = s .places in
-      let k = length-take (b .count) (b .devices) in
-      let n = length-map (live b) (λ d. d .code) in
-      omega arith
+  few-codes = rw (codes-count b (s .places) (s .few)) (s .few)
 
   -- where there is a device
   pub search-lists : 0 < length (codesOf b) → searchRun searchRom b .codes ≡ inOrder 64 (map (bitsOf 64) (codesOf b))

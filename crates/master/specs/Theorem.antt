@@ -9,7 +9,7 @@ use mathlib.Core.Path.{_≡_, refl, sym, ap, _∙_}
 use native.Mathlib.Omega.{arith}
 use borrow.Author.Tests.{lt-ltb, le-ltb}
 use lib.Dec.{ltb, lit≤}
-use lib.ListN.{length, length-append, length-map, length-take}
+use lib.ListN.{length, length-append, length-map}
 use Rattle.lists.specs.Choice.{if_then_else_}
 use Rattle.lists.specs.Fold.{fold}
 use Rattle.bits.specs.Bits.{bitsOf, numberOf, bits-length}
@@ -34,7 +34,7 @@ use Rattle.device.specs.declared.Page.{Page}
 use Rattle.bench.specs.Bench.{live, free}
 use Rattle.bench.specs.Laws.{reset-accepted, restarted-live}
 use Rattle.bench.specs.Slot.{resetDone, restarted, presenceOf}
-use Rattle.bench.specs.Sound.{codesOf, BenchSound}
+use Rattle.bench.specs.Sound.{codesOf, BenchSound, codes-count}
 use Rattle.bench.specs.declared.Bench.{Bench}
 use Rattle.searching.specs.OnTheBench as bench
 use Rattle.searching.specs.OnTheBench.{onWire, flaggedCodes, searchOn, alarmSearchOn, same-but-stage}
@@ -126,15 +126,8 @@ listing command codes b r e numbered complete =
 -- ## Who is on the bench
 
 module _ (b : Bench) (s : BenchSound b) (f : free b ≡ true) where
-  device-count : length (codesOf b) ≡ b .count
-  device-count =
-      let few = s .few in
-      let long = s .places in
-      let t = length-take (b .count) (b .devices) in
-      length-map (live b) (λ d. d .code) ∙ omega arith
-
   pub presence-is : resetDone b .presence ≡ ltb 0 (length (codesOf b))
-  presence-is = ap (λ r. r .presence) (reset-accepted b f) ∙ ap (ltb 0) (sym device-count)
+  presence-is = ap (λ r. r .presence) (reset-accepted b f) ∙ ap (ltb 0) (sym (codes-count b (s .places) (s .few)))
 
 -- ## Stored bytes
 
@@ -186,7 +179,7 @@ module _ (b : Bench) (s : BenchSound b) (f : free b ≡ true) (places room : ℕ
       rw (outcome-found command b places room f p q there) record { comes = c; stored-kept = stored-same b (searchRun command b .devices) k }
 
   few-codes : length (codesOf b) ≤ mostPasses
-  few-codes = rw (device-count b s f) (s .few)
+  few-codes = rw (codes-count b (s .places) (s .few)) (s .few)
 
   -- every code listed
   search-claim : Below 64 (codesOf b) → (ns : List ℕ) → codesOf b ≡ ns → SearchClaim searchRom ns ns b (searchOutcome searchRom b places room)

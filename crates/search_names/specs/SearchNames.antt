@@ -10,7 +10,7 @@ use mathlib.Core.Path.{_≡_, refl, sym, ap, _∙_}
 use native.Mathlib.Omega.{arith}
 use borrow.Author.Tests.{eqb-true, lt-ltb}
 use lib.Dec.{eqb, lit≤}
-use lib.ListN.{length, length-append, length-map, length-take}
+use lib.ListN.{length, length-append}
 use Rattle.bits.specs.Bits.{bitsOf, numberOf, bits-length, number-bits}
 use Rattle.commands.specs.Commands.{searchRom, alarmSearch}
 use Rattle.refusals.specs.Refusals.{accepted}
@@ -28,7 +28,7 @@ use Rattle.search_law.specs.Numbers.{Below}
 use Rattle.search_law.specs.OnTheWire.{shown}
 use Rattle.search_law.specs.Pass.{Triple, triple, found}
 use Rattle.bench.specs.Bench.{live, free}
-use Rattle.bench.specs.Sound.{codesOf, BenchSound}
+use Rattle.bench.specs.Sound.{codesOf, BenchSound, codes-count}
 use Rattle.bench.specs.declared.Bench.{Bench}
 use Rattle.searching.specs.OnTheBench as bench
 use Rattle.searching.specs.OnTheBench.{flaggedCodes}
@@ -110,12 +110,7 @@ each-fits (n ∷ ns) b s =
 
 module _ (b : Bench) (s : BenchSound b) (f : free b ≡ true) (l : Below 64 (codesOf b)) where
   few-codes : length (codesOf b) ≤ mostPasses
-  few-codes =
-      let few = s .few in
-      let long = s .places in
-      let k = length-take (b .count) (b .devices) in
-      let n = length-map (live b) (λ d. d .code) in
-      omega arith
+  few-codes = rw (codes-count b (s .places) (s .few)) (s .few)
 
   run-search-names : 0 < length (codesOf b)
       → map named (foundOutcome (searchRun searchRom b) .frames) ≡ map (lists Search) (foundOutcome (searchRun searchRom b) .listed)
