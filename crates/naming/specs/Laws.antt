@@ -1,7 +1,7 @@
 -- Laws that the proofs of naming rest on: triples along a loop from the last to the first, and the number of bytes along such a loop.
 -- Assumes nothing.
 use Prim.Native.Nat.{ℕ, zero, suc, _+_, _-_, _*_, _/_, _^_, _<_, _≤_}
-use mathlib.Core.Path.{_≡_, refl, sym, ap, _∙_}
+use mathlib.Core.Path.{_≡_, refl, ap, _∙_}
 use mathlib.Core.Bool.{Bool, true, false, _&&_, and-false}
 use mathlib.Core.List.{List, [], _∷_}
 use native.Mathlib.Omega.{arith}
@@ -9,9 +9,8 @@ use native.Mathlib.Numerals.{add-one}
 use lib.Pow.{pow-mono}
 use lib.ListN.{length, take, drop, getD, length-take, length-drop, drop-of-length-le}
 use lib.Seq.{drop-cons, drop-nil, getD-drop, getD-take}
-use Rattle.lists.specs.Choice.{if_then_else_}
 use Rattle.bits.specs.Bits.{bitNumber, numberOf, number-lt, bytesBits, bytes-length}
-use Rattle.naming.specs.Naming.{tripleAllowed, triplesAllowed, thirds, passSlots, passRead, lowFirst, codeIn, padIn}
+use Rattle.naming.specs.Naming.{tripleAllowed, triplesAllowed, thirds, passSlots, lowFirst, padIn}
 
 pub one-at-most : (b : Bool) → bitNumber b ≤ 1
 one-at-most true = omega arith

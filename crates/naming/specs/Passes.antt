@@ -1,21 +1,20 @@
 -- How the frames of a search are named: a pass that lists a sound code is SEARCH or ALARM with that code, a search that nobody answers is NOBODY,
 -- and a reset without presence is EMPTY. A frame is taken by its slots, as the master records them.
 -- Assumes nothing.
-use Prim.Native.Nat.{ℕ, _+_, _^_, _<_, _≤_}
+use Prim.Native.Nat.{ℕ, _^_, _<_, _≤_}
 use mathlib.Core.Path.{_≡_, refl, sym, ap, _∙_}
-use mathlib.Core.Bool.{Bool, true, false, or-true}
-use mathlib.Core.List.{List, [], _∷_, _++_, append-assoc}
+use mathlib.Core.Bool.{Bool, true, false}
+use mathlib.Core.List.{List, [], _∷_, _++_}
 use native.Mathlib.Omega.{arith}
-use lib.Dec.{eqb, lit<}
-use lib.ListN.{length, take, drop, getD, length-append, length-take}
+use lib.Dec.{lit<}
+use lib.ListN.{length, take, drop, getD, length-append}
 use lib.Seq.{take-at, drop-at, take-take}
-use Rattle.lists.specs.Choice.{if_then_else_}
 use Rattle.bits.specs.Bits.{bitsOf, bytesBits, numberOf, bits-length, number-bits}
 use Rattle.refusals.specs.Refusals.{accepted}
 use Rattle.commands.specs.Commands.{searchRom, alarmSearch}
 use Rattle.rom.specs.Code.{codeBits, codeRefusal}
 use Rattle.frame.specs.declared.Frame.{Frame}
-use Rattle.frame.specs.Frames.{slotsOf, blankFrame, Held, Recorded}
+use Rattle.frame.specs.Frames.{slotsOf, blankFrame, Recorded}
 use Rattle.naming.specs.declared.Name.{Name}
 use Rattle.naming.specs.declared.Name.the-variants.{Empty, Search, Alarm, Nobody}
 use Rattle.naming.specs.declared.Named.{Named}

@@ -1,20 +1,20 @@
 -- Whatever the cuts: what the calls print for the pieces of a recording, one after the other, is what is printed for the recording as a whole.
 --     chunked u cs      what is printed for the pieces cs, where u was carried over from those before; at the end u itself is finished
 -- Assumes nothing.
-use Prim.Native.Nat.{ℕ, zero, suc, _+_, _<_, _≤_}
+use Prim.Native.Nat.{ℕ, _<_}
 use mathlib.Core.Path.{_≡_, refl, sym, ap, _∙_}
-use mathlib.Core.Bool.{Bool, true, false, not}
+use mathlib.Core.Bool.{Bool, true, false}
 use mathlib.Core.List.{List, [], _∷_, _++_, append-assoc, append-nil}
 use native.Mathlib.Omega.{arith}
 use borrow.Author.Tests.{leb-true, leb-false, not-true}
 use lib.Dec.{eqb, leb}
-use lib.ListN.{length, take, drop, length-append, length-take}
+use lib.ListN.{length, take, length-append, length-take}
 use lib.Seq.{take-all}
 use Rattle.lists.specs.Choice.{if_then_else_}
 use Rattle.lists.specs.Fold.{all}
 use Rattle.frame.specs.Laws.{and-left, and-right, all-take}
 use Rattle.frame.specs.Lines.{Line, lineFeed, notFeed, longer, linesOf}
-use Rattle.frame.specs.Reading.{longest, readLine, read-long}
+use Rattle.frame.specs.Reading.{longest, read-long}
 use Rattle.naming.specs.Naming.{readNamed}
 use Rattle.printing.specs.Printing.{printedName, printedLine}
 use Rattle.streaming.specs.Streaming.{printedAll, printed, whole, rest, longestCarried, carried}

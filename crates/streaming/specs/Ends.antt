@@ -1,15 +1,14 @@
 -- Each way in which a call can end, as its definition has it: no room, or the whole lines printed and then the unfinished line carried over or, at
 -- the end of the recording, printed.
 -- Assumes nothing.
-use Prim.Native.Nat.{ℕ, _+_, _-_, _*_, _/_, _<_, _≤_}
+use Prim.Native.Nat.{ℕ, _+_, _-_, _/_, _<_, _≤_}
 use mathlib.Core.Path.{_≡_, refl, sym, ap, _∙_}
-use mathlib.Core.Bool.{Bool, true, false}
-use mathlib.Core.List.{List, [], _∷_, _++_, append-nil}
+use mathlib.Core.Bool.{false}
+use mathlib.Core.List.{List, [], _++_, append-nil}
 use native.Mathlib.Omega.{arith}
 use borrow.Author.Tests.{le-leb, lt-leb}
 use lib.ListN.{length, take, drop, length-append, length-take, length-drop, drop-of-length-le}
 use lib.Seq.{take-all}
-use Rattle.lists.specs.Choice.{if_then_else_}
 use Rattle.lists.specs.Laid.{laid, laid-length}
 use Rattle.refusals.specs.Refusals.{accepted, noRoom}
 use Rattle.frame.specs.declared.Written.{Written}
@@ -19,7 +18,7 @@ use Rattle.frame.specs.Reading.{width}
 use Rattle.printing.specs.Printing.{printedLine, layAnswer, layLeaves}
 use Rattle.streaming.specs.declared.Fed.{Fed}
 use Rattle.streaming.specs.declared.Progress.{Progress}
-use Rattle.streaming.specs.Streaming.{printedAll, printed, whole, rest, longestCarried, carried, Told, FeedWithin, feedAnswer, feedCarries, feedPrints, finishAnswer, finishPrints}
+use Rattle.streaming.specs.Streaming.{printedAll, printed, whole, rest, longestCarried, Told, FeedWithin, feedAnswer, feedCarries, feedPrints, finishAnswer, finishPrints}
 use Rattle.streaming.specs.Laws.{text-short, lay-fits}
 use Rattle.streaming.specs.Cuts.{printed-append, lines-split, rest-plain, alone-open}
 

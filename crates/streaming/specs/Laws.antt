@@ -1,11 +1,11 @@
 -- Laws that the proofs of streaming rest on: how much room a line's text takes, one whole line more, and bytes moved to the front.
 -- Assumes nothing.
-use Prim.Native.Nat.{ℕ, suc, _+_, _-_, _*_, _/_, _%_, _<_, _≤_, min}
+use Prim.Native.Nat.{ℕ, _+_, _-_, _*_, _%_, _<_, _≤_, min}
 use mathlib.Core.Path.{_≡_, refl, sym, ap, _∙_}
 use mathlib.Core.Bool.{Bool, true, false, _&&_}
 use mathlib.Core.List.{List, [], _∷_, _++_}
 use native.Mathlib.Omega.{arith}
-use borrow.Author.Tests.{eqb-true, lt-ltb, le-ltb, le-leb, lt-leb}
+use borrow.Author.Tests.{eqb-true, lt-ltb, le-ltb, le-leb}
 use lib.Dec.{eqb, leb, ltb, lit≤}
 use lib.ListN.{length, take, drop, getD, length-append, length-take, length-drop, drop-of-length-le}
 use lib.Seq.{take-all, getD-append-add, getD-drop, getD-take, length-take-le}
@@ -24,7 +24,6 @@ use Rattle.naming.specs.Naming.{named, refusedName, readNamed}
 use Rattle.naming.specs.declared.Name.the-variants.{Other}
 use Rattle.printing.specs.Printing.{word, refusedWord, printedName, printedLine, layAnswer, layLeaves}
 use Rattle.printing.specs.Laws.{printed-length}
-use Rattle.streaming.specs.declared.Progress.{Progress}
 use Rattle.streaming.specs.Streaming.{printedAll, whole, rest, Told}
 
 -- ## A line's text takes at most ten bytes for each byte of the line

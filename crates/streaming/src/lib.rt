@@ -5,7 +5,7 @@ ghost use Prim.Native.Nat.{_*_, _≤_, min};
 ghost use lib.ListN.{length, take, drop};
 ghost use Rattle.lists.specs.Laid.{laid};
 ghost use Rattle.frame.specs.Lines.{linesOf};
-ghost use Rattle.streaming.specs.Streaming.{printedAll, whole, rest, longestCarried, Told, FeedWithin, feedAnswer, feedCarries, feedPrints, finishAnswer, finishPrints};
+ghost use Rattle.streaming.specs.Streaming.{printedAll, whole, longestCarried, Told, FeedWithin, feedAnswer, feedCarries, feedPrints, finishAnswer, finishPrints};
 use frame::Written;
 
 // As much of an unfinished line as tells that it is over-long: one character more than a line may have.

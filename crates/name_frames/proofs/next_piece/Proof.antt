@@ -1,3 +1,4 @@
+-- What is read stands within the buffer, and so does what is carried over. Assumes nothing.
 use native.Mathlib.Omega.{arith}
 use lib.ListN.{length-take}
 use borrow.Author.Needs.{needs}

@@ -1,3 +1,5 @@
+-- The loop's invariant: what is carried over stands within the buffer, and both buffers have their lengths. The measure is the number of turns
+-- that are left. Assumes nothing.
 use Prim.Native.Nat.{_≤_}
 use mathlib.Core.Path.{_≡_}
 use lib.ListN.{length}

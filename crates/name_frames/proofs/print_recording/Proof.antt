@@ -1,3 +1,4 @@
+-- What is carried over stands within the buffer. Assumes nothing.
 use native.Mathlib.Omega.{arith}
 use lib.ListN.{length-take}
 use borrow.Author.Needs.{needs}

@@ -1,3 +1,4 @@
+-- Each return is one line of the definition: the tests before it came out the other way, its own came out its way. Assumes nothing.
 use Rattle.naming.specs.Naming.{named}
 use borrow.Author.Needs.{needs}
 use Rattle.naming.proofs.name_frame.Statement.{statement}

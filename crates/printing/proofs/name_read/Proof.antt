@@ -1,3 +1,4 @@
+-- A refusal is passed on; else the frame is named. Assumes nothing.
 use borrow.Author.Tests.{eq-eqb, ne-eqb}
 use borrow.Author.Needs.{needs}
 use Rattle.printing.proofs.name_read.Statement.{statement}

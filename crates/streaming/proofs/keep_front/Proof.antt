@@ -1,10 +1,10 @@
 -- The loop's invariant: the first `i` bytes that are kept stand at the front, and those from `from` on are as they were. The measure is what is
 -- left. Assumes nothing.
-use Prim.Native.Nat.{_+_, _-_, _<_, _≤_, min}
-use mathlib.Core.Path.{_≡_, refl, sym, ap, _∙_}
+use Prim.Native.Nat.{_+_, _-_, _<_, _≤_}
+use mathlib.Core.Path.{_≡_, refl, _∙_}
 use native.Mathlib.Omega.{arith}
 use denote.Ref.{now}
-use lib.ListN.{length, take, drop, getD, length-set}
+use lib.ListN.{length, take, drop, length-set}
 use lib.Seq.{take-length}
 use Rattle.lists.specs.Laid.{laid, laid-none}
 use Rattle.frame.specs.Laws.{laid-next}
