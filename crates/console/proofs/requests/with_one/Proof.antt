@@ -1,0 +1,56 @@
+use borrow.Author.Needs.{needs}
+use Rattle.console.proofs.requests.with_one.Statement.{statement}
+use Rattle.console.proofs.requests.with_one.Tie as tie
+
+slice-aggregate-same : tie.Need-slice-aggregate-same
+slice-aggregate-same c = search needs
+
+same-requires : tie.Need-same-requires
+same-requires c κs = search needs
+
+is-bit-requires : tie.Need-is-bit-requires
+is-bit-requires c κs = search needs
+
+slice-aggregate-same-2 : tie.Need-slice-aggregate-same-2
+slice-aggregate-same-2 c = search needs
+
+same-requires-2 : tie.Need-same-requires-2
+same-requires-2 c κs = search needs
+
+returns : tie.Need-returns
+returns c = search needs
+
+returns-2 : tie.Need-returns-2
+returns-2 c = search needs
+
+is-hex-requires : tie.Need-is-hex-requires
+is-hex-requires c κs = search needs
+
+hex-in-requires : tie.Need-hex-in-requires
+hex-in-requires c κs = search needs
+
+at-code-requires : tie.Need-at-code-requires
+at-code-requires c κs = search needs
+
+returns-3 : tie.Need-returns-3
+returns-3 c = search needs
+
+returns-4 : tie.Need-returns-4
+returns-4 c = search needs
+
+pub with-one-spec : {M : Type 1} → statement M
+with-one-spec =
+    tie.close
+    (tie.spec
+    slice-aggregate-same
+    same-requires
+    is-bit-requires
+    slice-aggregate-same-2
+    same-requires-2
+    returns
+    returns-2
+    is-hex-requires
+    hex-in-requires
+    at-code-requires
+    returns-3
+    returns-4)
