@@ -5,14 +5,14 @@ use Prim.Native.Nat.{ℕ, zero, suc, _+_, _-_, _*_, _^_, _<_, _≤_}
 use mathlib.Core.Path.{_≡_, refl, sym, ap, _∙_}
 use mathlib.Core.Bool.{Bool, true, false, _&&_, _||_, false≢true}
 use mathlib.Core.List.{List, [], _∷_}
-use native.Mathlib.Nat.{le-trans, lt-of-lt-of-le, mul-le-mul-left, mul-suc, pow-le-pow-right, pow-succ'}
+use native.Mathlib.Nat.{le-trans, lt-of-lt-of-le, mul-le-mul-left, mul-suc, pow-le-pow-right, pow-succ', pow-zero}
 use native.Mathlib.Numerals.{add-one}
 use native.Mathlib.Omega.{arith}
 use borrow.Author.Tests.{eqb-true, leb-true, lt-ltb, ltb-true}
-use lib.Dec.{eqb, leb, ltb, lit≤}
+use lib.Dec.{eqb, leb, ltb, lit<, lit≤}
 use lib.IntN.{ℤ, pos, negsuc, negℤ, _-ℤ_}
 use lib.ListN.{length, take, drop, getD, length-drop}
-use lib.Seq.{take-all}
+use lib.Seq.{take-all, take-length}
 use mir.Syntax.{Width, w16, w32}
 use mir.Val.{SFits, toZ, ofZ, hbits}
 use mir.ValLaws.{toZ-ofZ}
@@ -118,6 +118,15 @@ module _ (base x d i : ℕ) (below : x < base ^ i) (digit : d < base) where
       let k : base ^ (i + 1) ≤ base ^ n = pow-le-pow-right one (omega arith) in
       lt-of-lt-of-le digits-below k
 
+-- the number of some digits is below the power that they do not reach
+pub number-below : (base : ℕ) (w : List ℕ) → spells base w ≡ true → (i : ℕ) → i ≤ length w → numberIn base (take i w) < base ^ i
+unfolding numberIn fold
+number-below base w e zero h = rw (pow-zero base) (lit< tt)
+number-below base w e (suc i) h =
+    let k : i < length w = omega arith in
+    rw (← add-one i, ← number-next base w i k)
+    (digits-below base (numberIn base (take i w)) (valueOf (getD w i 0)) i (number-below base w e i (omega arith)) (digit-below base w i k e))
+
 -- ## What a test tells of a field
 
 module _ (w : List ℕ) (e : isDecimal w ≡ true) where
@@ -140,6 +149,11 @@ module _ (n : ℕ) (w : List ℕ) (e : isHex n w ≡ true) where
 
   pub hex-spells : spells 16 w ≡ true
   hex-spells = and-right (eqb (length w) n) (spells 16 w) e
+
+  pub hex-below : hexIn w < 16 ^ n
+  hex-below =
+      let k = hex-length in
+      rw (← k) (rw (take-length) at (number-below 16 w hex-spells (length w) (omega arith)))
 
 -- a base to the power of few digits stays within 64 bits
 pub power-within : (base n m : ℕ) → 1 ≤ base → n ≤ m → base ^ m ≤ 18446744073709551616 → base ^ n ≤ 18446744073709551616

@@ -8,6 +8,7 @@ use native.Mathlib.Omega.{arith}
 use lib.Dec.{leb}
 use lib.ListN.{length, getD}
 use Rattle.lists.specs.Choice.{if_then_else_}
+use Rattle.frame.specs.Laws.{and-left, and-right}
 use Rattle.device.specs.declared.Settings.{Settings}
 use Rattle.console.specs.declared.Request.{Request}
 use Rattle.console.specs.declared.Request.the-variants.{Bad, Add, Reset, Slot, Converted, Copied, Cycle, Search, Alarm, Read, Write, Show}
@@ -123,12 +124,16 @@ withFour w a h l c =
       Write (hexIn a) record { high = hexIn h; low = hexIn l; configuration = hexIn c }
     else Bad
 
--- `add CODE POWER HIGH LOW CONFIGURATION`
-abbrev pub withFive : List ℕ → List ℕ → List ℕ → List ℕ → List ℕ → List ℕ → Request
-withFive w a p h l c =
-    if same w addName && isHex 16 a && isPower p && areSettings h l c then
+-- `add CODE POWER HIGH LOW CONFIGURATION`, by its five fields
+abbrev pub joins : List ℕ → List ℕ → List ℕ → List ℕ → List ℕ → Request
+joins a p h l c =
+    if isHex 16 a && isPower p && areSettings h l c then
       Add record { code = hexIn a; power = powerIn p; high = hexIn h; low = hexIn l; configuration = hexIn c }
     else Bad
+
+-- `add` and its fields
+abbrev pub withFive : List ℕ → List ℕ → List ℕ → List ℕ → List ℕ → List ℕ → Request
+withFive w a p h l c = if same w addName then joins a p h l c else Bad
 
 -- what a list of words asks for
 abbrev pub inWords : List (List ℕ) → Request
@@ -200,3 +205,15 @@ other-words (a ∷ b ∷ c ∷ d ∷ []) p q r s t = refl
 other-words (a ∷ b ∷ c ∷ d ∷ f ∷ []) p q r s t = absurd (s refl)
 other-words (a ∷ b ∷ c ∷ d ∷ f ∷ g ∷ []) p q r s t = absurd (t refl)
 other-words (a ∷ b ∷ c ∷ d ∷ f ∷ g ∷ h ∷ ws) p q r s t = refl
+
+-- ## What the test of three settings tells
+
+module _ (h l c : List ℕ) (e : areSettings h l c ≡ true) where
+  pub high-hex : isHex 2 h ≡ true
+  high-hex = and-left (isHex 2 h) (isHex 2 l) (and-left (isHex 2 h && isHex 2 l) (isHex 2 c) e)
+
+  pub low-hex : isHex 2 l ≡ true
+  low-hex = and-right (isHex 2 h) (isHex 2 l) (and-left (isHex 2 h && isHex 2 l) (isHex 2 c) e)
+
+  pub configuration-hex : isHex 2 c ≡ true
+  configuration-hex = and-right (isHex 2 h && isHex 2 l) (isHex 2 c) e

@@ -72,11 +72,18 @@ pub(crate) fn is_hex(w: &[u8], digits: usize) -> bool
     spell(w, 16)
 }
 
-pub(crate) fn hex_in(w: &[u8]) -> u64
-    requires { ⌜ (spells 16 (now w) ≡ true) × (length (now w) ≤ 16) ⌝ }
+pub(crate) fn code_in(w: &[u8]) -> u64
+    requires { ⌜ isHex 16 (now w) ≡ true ⌝ }
     ensures { λ r. ⌜ r ≡ hexIn (now (w .entry)) ⌝ }
 {
     number_in(w, 16)
+}
+
+pub(crate) fn byte_in(w: &[u8]) -> u8
+    requires { ⌜ isHex 2 (now w) ≡ true ⌝ }
+    ensures { λ r. ⌜ r ≡ hexIn (now (w .entry)) ⌝ }
+{
+    number_in(w, 16) as u8
 }
 
 fn is_decimal(w: &[u8]) -> bool

@@ -41,5 +41,5 @@ pub fn parse(line: &[u8]) -> Request
     if LONGEST < line.len() {
         return Request::Bad;
     }
-    Request::Bad
+    requests::in_words(line)
 }

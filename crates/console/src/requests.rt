@@ -1,13 +1,14 @@
 // Words to calls: the rows of the console's table, by the number of words.
 ghost use mathlib.Core.Path.{_≡_};
 ghost use Rattle.console.specs.Words.{wordsOf};
-ghost use Rattle.console.specs.Requests.{alone, atCode, withOne, lent, finished, withTwo, areSettings, withFour, withFive, inWords};
+ghost use Rattle.console.specs.Requests.{alone, atCode, withOne, lent, finished, withTwo, areSettings, withFour, joins, withFive, inWords};
 use crate::MOST_BYTES;
 use crate::MOST_PLACES;
 use crate::Request;
+use crate::fields::byte_in;
+use crate::fields::code_in;
 use crate::fields::count_in;
 use crate::fields::decimal_in;
-use crate::fields::hex_in;
 use crate::fields::is_bit;
 use crate::fields::is_count;
 use crate::fields::is_hex;
@@ -74,7 +75,7 @@ fn with_one(name: &[u8], a: &[u8]) -> Request
         return Request::Bad;
     }
     if is_hex(a, CODE_DIGITS) {
-        return at_code(name, hex_in(a));
+        return at_code(name, code_in(a));
     }
     Request::Bad
 }
@@ -97,7 +98,7 @@ fn converted(a: &[u8], b: &[u8]) -> Request
     if is_hex(a, CODE_DIGITS) {
         if is_count(b) {
             return Request::Converted {
-                code: hex_in(a),
+                code: code_in(a),
                 count: count_in(b),
             };
         }
@@ -130,4 +131,88 @@ fn are_settings(high: &[u8], low: &[u8], configuration: &[u8]) -> bool
         }
     }
     false
+}
+
+fn with_four(name: &[u8], a: &[u8], high: &[u8], low: &[u8], configuration: &[u8]) -> Request
+    ensures { λ r. ⌜ r ≡ withFour (now (name .entry)) (now (a .entry)) (now (high .entry)) (now (low .entry)) (now (configuration .entry)) ⌝ }
+{
+    if same(name, b"write") {
+        if is_hex(a, CODE_DIGITS) {
+            if are_settings(high, low, configuration) {
+                return Request::Write {
+                    code: code_in(a),
+                    settings: Settings {
+                        high: byte_in(high),
+                        low: byte_in(low),
+                        configuration: byte_in(configuration),
+                    },
+                };
+            }
+        }
+    }
+    Request::Bad
+}
+
+fn joining(a: &[u8], power: &[u8], high: &[u8], low: &[u8], configuration: &[u8]) -> Request
+    ensures { λ r. ⌜ r ≡ joins (now (a .entry)) (now (power .entry)) (now (high .entry)) (now (low .entry)) (now (configuration .entry)) ⌝ }
+{
+    if is_hex(a, CODE_DIGITS) {
+        if is_power(power) {
+            if are_settings(high, low, configuration) {
+                return Request::Add(Joining {
+                    code: code_in(a),
+                    power: power_in(power),
+                    high: byte_in(high),
+                    low: byte_in(low),
+                    configuration: byte_in(configuration),
+                });
+            }
+        }
+    }
+    Request::Bad
+}
+
+fn with_five(name: &[u8], a: &[u8], power: &[u8], high: &[u8], low: &[u8], configuration: &[u8]) -> Request
+    ensures { λ r. ⌜ r ≡ withFive (now (name .entry)) (now (a .entry)) (now (power .entry)) (now (high .entry)) (now (low .entry)) (now (configuration .entry)) ⌝ }
+{
+    if same(name, b"add") {
+        return joining(a, power, high, low, configuration);
+    }
+    Request::Bad
+}
+
+// What the words of a line ask for.
+pub(crate) fn in_words(line: &[u8]) -> Request
+    ensures { λ r. ⌜ r ≡ inWords (wordsOf (now (line .entry))) ⌝ }
+{
+    let count = words::count(line);
+    if count == 1 {
+        return alone(word(line, 0));
+    }
+    if count == 2 {
+        return with_one(word(line, 0), word(line, 1));
+    }
+    if count == 3 {
+        return with_two(word(line, 0), word(line, 1), word(line, 2));
+    }
+    if count == 5 {
+        return with_four(
+            word(line, 0),
+            word(line, 1),
+            word(line, 2),
+            word(line, 3),
+            word(line, 4),
+        );
+    }
+    if count == 6 {
+        return with_five(
+            word(line, 0),
+            word(line, 1),
+            word(line, 2),
+            word(line, 3),
+            word(line, 4),
+            word(line, 5),
+        );
+    }
+    Request::Bad
 }

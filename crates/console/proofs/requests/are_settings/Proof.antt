@@ -12,13 +12,13 @@ is-hex-requires-3 : tie.Need-is-hex-requires-3
 is-hex-requires-3 c κs = search needs
 
 returns : tie.Need-returns
-returns c = search needs
+returns c = simp (← c .before .before .before .before .is-hex .ensures, c .before .before .before .if1 .taken, ← c .before .before .is-hex2 .ensures, c .before .if2 .taken, c .is-hex3 .ensures)
 
 returns-2 : tie.Need-returns-2
-returns-2 c = search needs
+returns-2 c = simp (← c .before .before .before .is-hex .ensures, c .before .before .if1 .taken, ← c .before .is-hex2 .ensures, c .if2 .left)
 
 returns-3 : tie.Need-returns-3
-returns-3 c = search needs
+returns-3 c = simp (← c .before .is-hex .ensures, c .if1 .left)
 
 pub are-settings-spec : {M : Type 1} → statement M
 are-settings-spec =
