@@ -2,10 +2,19 @@
 ghost use mathlib.Core.Path.{_≡_};
 ghost use Rattle.console.specs.Requests.{requestOf};
 
+mod answers;
 mod fields;
 mod requests;
 mod words;
+mod writing;
 
+pub use answers::access_line;
+pub use answers::bad_line;
+pub use answers::bit_line;
+pub use answers::code_line;
+pub use answers::refusal_line;
+pub use answers::search_line;
+pub use answers::show_line;
 use device::Joining;
 use device::Settings;
 use temperature::Sixteenths;
@@ -32,6 +41,15 @@ pub enum Request {
     Read(u64),
     Write { code: u64, settings: Settings },
     Show(u64),
+}
+
+// The nine bytes of a scratchpad as a master reads them.
+pub type Pad = [u8; 9];
+
+// The characters of an answer; those from the count on are zero.
+pub struct Text {
+    pub bytes: [u8; 64],
+    pub count: usize,
 }
 
 // What a line, without its feed, asks for.

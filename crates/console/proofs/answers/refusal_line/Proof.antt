@@ -1,0 +1,19 @@
+use borrow.Author.Needs.{needs}
+use Rattle.console.proofs.answers.refusal_line.Statement.{statement}
+use Rattle.console.proofs.answers.refusal_line.Tie as tie
+
+empty-requires : tie.Need-empty-requires
+empty-requires c κs = search needs
+
+put-decimal-requires : tie.Need-put-decimal-requires
+put-decimal-requires c κs = search needs
+
+put-feed-requires : tie.Need-put-feed-requires
+put-feed-requires c κs = search needs
+
+returns : tie.Need-returns
+returns c = search needs
+
+pub refusal-line-spec : {M : Type 1} → statement M
+refusal-line-spec =
+    tie.close (tie.spec empty-requires put-decimal-requires put-feed-requires returns)

@@ -1,0 +1,18 @@
+use borrow.Author.Needs.{needs}
+use Rattle.console.proofs.answers.show_line.Statement.{statement}
+use Rattle.console.proofs.answers.show_line.Tie as tie
+
+device-line-requires : tie.Need-device-line-requires
+device-line-requires c κs = search needs
+
+returns : tie.Need-returns
+returns c = search needs
+
+absent-line-requires : tie.Need-absent-line-requires
+absent-line-requires c κs = search needs
+
+returns-2 : tie.Need-returns-2
+returns-2 c = search needs
+
+pub show-line-spec : {M : Type 1} → statement M
+show-line-spec = tie.close (tie.spec device-line-requires returns absent-line-requires returns-2)
