@@ -1,3 +1,6 @@
+-- Field after field. Assumes nothing.
+use mathlib.Core.List.{append-assoc}
+use Rattle.console.specs.Texts.{written-more}
 use borrow.Author.Needs.{needs}
 use Rattle.console.proofs.answers.absent_line.Statement.{statement}
 use Rattle.console.proofs.answers.absent_line.Tie as tie
@@ -33,7 +36,7 @@ put-feed-requires : tie.Need-put-feed-requires
 put-feed-requires c κs = search needs
 
 returns : tie.Need-returns
-returns c = search needs
+returns c = simp (c .before .before .before .before .before .before .before .before .before .empty .ensures, c .before .before .before .before .before .before .before .before .put-field .ensures, c .before .before .before .before .before .before .before .put-code .ensures, c .before .before .before .before .before .before .put-gap .ensures, c .before .before .before .before .before .put-settings .ensures, c .before .before .before .before .put-gap2 .ensures, c .before .before .before .put .ensures, c .before .before .put-gap3 .ensures, c .before .put2 .ensures, c .put-feed .ensures, written-more, append-assoc)
 
 pub absent-line-spec : {M : Type 1} → statement M
 absent-line-spec =

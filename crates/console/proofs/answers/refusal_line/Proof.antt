@@ -1,3 +1,6 @@
+-- Field after field. Assumes nothing.
+use mathlib.Core.List.{append-assoc}
+use Rattle.console.specs.Texts.{written-more}
 use borrow.Author.Needs.{needs}
 use Rattle.console.proofs.answers.refusal_line.Statement.{statement}
 use Rattle.console.proofs.answers.refusal_line.Tie as tie
@@ -12,7 +15,7 @@ put-feed-requires : tie.Need-put-feed-requires
 put-feed-requires c κs = search needs
 
 returns : tie.Need-returns
-returns c = search needs
+returns c = simp (c .before .before .empty .ensures, c .before .put-decimal .ensures, c .put-feed .ensures, written-more, append-assoc)
 
 pub refusal-line-spec : {M : Type 1} → statement M
 refusal-line-spec =

@@ -1,3 +1,6 @@
+-- Field after field. Assumes nothing.
+use mathlib.Core.List.{append-assoc}
+use Rattle.console.specs.Texts.{written-more}
 use borrow.Author.Needs.{needs}
 use Rattle.console.proofs.answers.search_line.Statement.{statement}
 use Rattle.console.proofs.answers.search_line.Tie as tie
@@ -24,7 +27,7 @@ put-feed-requires : tie.Need-put-feed-requires
 put-feed-requires c κs = search needs
 
 returns : tie.Need-returns
-returns c = search needs
+returns c = simp (c .before .before .before .before .before .before .empty .ensures, c .before .before .before .before .before .put-field .ensures, c .before .before .before .before .put-field2 .ensures, c .before .before .before .put-field3 .ensures, c .before .before .put-field4 .ensures, c .before .put-decimal .ensures, c .put-feed .ensures, written-more, append-assoc)
 
 pub search-line-spec : {M : Type 1} → statement M
 search-line-spec =

@@ -1,3 +1,5 @@
+-- By the value. Assumes nothing.
+use Rattle.console.specs.Texts.{written}
 use borrow.Author.Needs.{needs}
 use Rattle.console.proofs.writing.put_flag.Statement.{statement}
 use Rattle.console.proofs.writing.put_flag.Tie as tie
@@ -9,10 +11,12 @@ put-requires-2 : tie.Need-put-requires-2
 put-requires-2 c κs = search needs
 
 returns : tie.Need-returns
-returns c = search needs
+unfolding written
+returns c = simp (c .before .if1 .taken, c .put .ensures)
 
 returns-2 : tie.Need-returns-2
-returns-2 c = search needs
+unfolding written
+returns-2 c = simp (c .before .if1 .left, c .put2 .ensures)
 
 pub put-flag-spec : {M : Type 1} → statement M
 put-flag-spec = tie.close (tie.spec put-requires put-requires-2 returns returns-2)

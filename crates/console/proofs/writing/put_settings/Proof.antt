@@ -1,3 +1,7 @@
+-- One byte after the other. Assumes nothing.
+use mathlib.Core.List.{append-assoc}
+use Rattle.console.specs.Texts.{written-more}
+use Rattle.console.specs.Texts.{written}
 use borrow.Author.Needs.{needs}
 use Rattle.console.proofs.writing.put_settings.Statement.{statement}
 use Rattle.console.proofs.writing.put_settings.Tie as tie
@@ -12,7 +16,8 @@ put-byte-requires-3 : tie.Need-put-byte-requires-3
 put-byte-requires-3 c κs = search needs
 
 returns : tie.Need-returns
-returns c = search needs
+unfolding written
+returns c = simp (c .before .before .put-byte .ensures, c .before .put-byte2 .ensures, c .put-byte3 .ensures, written-more, append-assoc)
 
 pub put-settings-spec : {M : Type 1} → statement M
 put-settings-spec =
