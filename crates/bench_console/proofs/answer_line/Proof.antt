@@ -1,0 +1,24 @@
+-- A part is as long as asked where it is within the whole. Assumes nothing.
+use lib.Seq.{length-take-le}
+use borrow.Author.Needs.{needs}
+use Rattle.bench_console.proofs.answer_line.Statement.{statement}
+use Rattle.bench_console.proofs.answer_line.Tie as tie
+
+slice-aggregate-parse : tie.Need-slice-aggregate-parse
+slice-aggregate-parse c = search (needs, length-take-le)
+
+parse-requires : tie.Need-parse-requires
+parse-requires c κs = search needs
+
+answer-requires : tie.Need-answer-requires
+answer-requires c κs = search needs
+
+returns : tie.Need-returns
+returns c = search needs
+
+returns-2 : tie.Need-returns-2
+returns-2 c = search needs
+
+pub answer-line-spec : {M : Type 1} → statement M
+answer-line-spec =
+    tie.close (tie.spec slice-aggregate-parse parse-requires answer-requires returns returns-2)

@@ -1,0 +1,5 @@
+pub mod Words
+pub mod Fields
+pub mod Requests
+pub mod Texts
+pub mod Answers
