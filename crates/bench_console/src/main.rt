@@ -102,7 +102,14 @@ fn search_in(bench: Bench, list: &mut [u64], recording: &mut [u8], alarms: bool)
     r.bench
 }
 
-fn lend(bench: Bench, list: &mut [u64], recording: &mut [u8], places: usize, bytes: usize, alarms: bool) -> Bench {
+fn lend(
+    bench: Bench,
+    list: &mut [u64],
+    recording: &mut [u8],
+    places: usize,
+    bytes: usize,
+    alarms: bool,
+) -> Bench {
     if places <= list.len() {
         if bytes <= recording.len() {
             return search_in(bench, &mut list[..places], &mut recording[..bytes], alarms);

@@ -121,14 +121,14 @@ areSettings h l c = isHex 2 h && isHex 2 l && isHex 2 c
 abbrev pub withFour : List ℕ → List ℕ → List ℕ → List ℕ → List ℕ → Request
 withFour w a h l c =
     if same w writeName && isHex 16 a && areSettings h l c then
-      Write (hexIn a) record { high = hexIn h; low = hexIn l; configuration = hexIn c }
+    Write (hexIn a) record { high = hexIn h; low = hexIn l; configuration = hexIn c }
     else Bad
 
 -- `add CODE POWER HIGH LOW CONFIGURATION`, by its five fields
 abbrev pub joins : List ℕ → List ℕ → List ℕ → List ℕ → List ℕ → Request
 joins a p h l c =
     if isHex 16 a && isPower p && areSettings h l c then
-      Add record { code = hexIn a; power = powerIn p; high = hexIn h; low = hexIn l; configuration = hexIn c }
+    Add record { code = hexIn a; power = powerIn p; high = hexIn h; low = hexIn l; configuration = hexIn c }
     else Bad
 
 -- `add` and its fields

@@ -151,7 +151,7 @@ module _ (s : List ℕ) (k at j e : ℕ) (h : at ≤ length s) (so : wordsOf (dr
       let within = rest .0 in (
         omega arith,
         ap (λ (n : ℕ). wordsOf (drop n s)) (sym place) ∙ ap wordsOf (sym (drop-drop (spaceAt (drop at s) + 1) at s)) ∙ rest .1 ∙ ap (drop 1) so
-        ∙ drop-drop 1 j (wordsOf s),
+            ∙ drop-drop 1 j (wordsOf s),
       )
 
   -- the word that starts at a place is the list's next

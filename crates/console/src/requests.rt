@@ -172,7 +172,14 @@ fn joining(a: &[u8], power: &[u8], high: &[u8], low: &[u8], configuration: &[u8]
     Request::Bad
 }
 
-fn with_five(name: &[u8], a: &[u8], power: &[u8], high: &[u8], low: &[u8], configuration: &[u8]) -> Request
+fn with_five(
+    name: &[u8],
+    a: &[u8],
+    power: &[u8],
+    high: &[u8],
+    low: &[u8],
+    configuration: &[u8],
+) -> Request
     ensures { λ r. ⌜ r ≡ withFive (now (name .entry)) (now (a .entry)) (now (power .entry)) (now (high .entry)) (now (low .entry)) (now (configuration .entry)) ⌝ }
 {
     if same(name, b"add") {

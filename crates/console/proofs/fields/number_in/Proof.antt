@@ -66,8 +66,7 @@ loop-again c =
     let a = l .before .before in
     let w = now (a .args .w) in
     let h = c .before .before .loop-test .taken in
-    let d : c .value .result < a .args .base = rw (c .value .ensures) (digit-below (a .args .base) w (l .loop .i) h (a .pre .0)) in
-    (
+    let d : c .value .result < a .args .base = rw (c .value .ensures) (digit-below (a .args .base) w (l .loop .i) h (a .pre .0)) in (
       omega arith,
       rw (l .loop .inv .1, c .value .ensures) (number-next (a .args .base) w (l .loop .i) h),
       digits-below (a .args .base) (l .loop .number) (c .value .result) (l .loop .i) (l .loop .inv .2) d,
