@@ -3,9 +3,7 @@ ghost use mathlib.Core.Path.{_≡_};
 ghost use Rattle.console.specs.Requests.{requestOf};
 
 mod answers;
-mod fields;
 mod requests;
-mod words;
 mod writing;
 
 pub use answers::access_line;

@@ -1,25 +1,262 @@
-// Words to calls: the rows of the console's table, by the number of words.
+// Lines to calls: the words of a line, the fields they spell, and the rows of the console's table, by the
+// number of words.
 ghost use mathlib.Core.Path.{_≡_};
-ghost use Rattle.console.specs.Words.{wordsOf};
+ghost use Prim.Native.Nat.{_+_, _≤_, _<_, _^_};
+ghost use lib.ListN.{length, drop, getD};
+ghost use mathlib.Core.List.{[]};
+ghost use Rattle.console.specs.Words.{spaceAt, wordsEnded, wordsOf, same};
+ghost use mathlib.Core.Bool.{true};
+ghost use Rattle.frame.specs.Hex.{valueOf};
+ghost use Rattle.console.specs.Fields.{spells, numberIn, isHex, hexIn, isDecimal, isUpTo, isNegative, isCount, decimalIn, countIn, isBit, isPower, powerIn};
 ghost use Rattle.console.specs.Requests.{alone, atCode, withOne, lent, finished, withTwo, areSettings, withFour, joins, withFive, inWords};
 use crate::MOST_BYTES;
 use crate::MOST_PLACES;
 use crate::Request;
-use crate::fields::byte_in;
-use crate::fields::code_in;
-use crate::fields::count_in;
-use crate::fields::decimal_in;
-use crate::fields::is_bit;
-use crate::fields::is_count;
-use crate::fields::is_hex;
-use crate::fields::is_power;
-use crate::fields::is_up_to;
-use crate::fields::power_in;
-use crate::words;
-use crate::words::same;
-use crate::words::word;
 use device::Joining;
+use device::Power;
 use device::Settings;
+use temperature::Sixteenths;
+
+// The character between two words.
+const SPACE: u8 = 0x20;
+
+// Where the word that starts at a place ends: at the next space, or at the end of the line.
+fn word_end(line: &[u8], at: usize) -> usize
+    requires { ⌜ at ≤ length (now line) ⌝ }
+    ensures { λ r. ⌜ r ≡ at + spaceAt (drop at (now (line .entry))) ⌝ }
+{
+    let mut i = at;
+    while i < line.len() {
+        if line[i] == SPACE {
+            return i;
+        }
+        i += 1;
+    }
+    i
+}
+
+// How many words a character ends.
+fn ended(c: u8) -> usize
+    ensures { λ r. ⌜ r ≡ wordsEnded c ⌝ }
+{
+    if c == SPACE { 1 } else { 0 }
+}
+
+// How many words a line has: one more than it has spaces.
+fn count(line: &[u8]) -> usize
+    ensures { λ r. ⌜ r ≡ length (wordsOf (now (line .entry))) ⌝ }
+{
+    let mut n: usize = 1;
+    let mut i: usize = 0;
+    while i < line.len() {
+        n += ended(line[i]);
+        i += 1;
+    }
+    n
+}
+
+// Where word k starts.
+fn start_of(line: &[u8], k: usize) -> usize
+    requires { ⌜ k < length (wordsOf (now line)) ⌝ }
+    ensures { λ r. ⌜ (r ≤ length (now (line .entry))) × (wordsOf (drop r (now (line .entry))) ≡ drop k (wordsOf (now (line .entry)))) ⌝ }
+{
+    let mut at: usize = 0;
+    let mut j: usize = 0;
+    while j < k {
+        at = word_end(line, at) + 1;
+        j += 1;
+    }
+    at
+}
+
+// Word k.
+fn word(line: &[u8], k: usize) -> &[u8]
+    requires { ⌜ k < length (wordsOf (now line)) ⌝ }
+    ensures { λ r. ⌜ now r ≡ getD (wordsOf (now (line .entry))) k [] ⌝ }
+{
+    let from = start_of(line, k);
+    let end = word_end(line, from);
+    &line[from..end]
+}
+
+// Whether two words are the same.
+fn same(a: &[u8], b: &[u8]) -> bool
+    ensures { λ r. ⌜ r ≡ same (now (a .entry)) (now (b .entry)) ⌝ }
+{
+    if a.len() != b.len() {
+        return false;
+    }
+    let mut i: usize = 0;
+    while i < a.len() {
+        if a[i] != b[i] {
+            return false;
+        }
+        i += 1;
+    }
+    true
+}
+
+// The character in front of a negative count.
+const MINUS: u8 = 0x2D;
+
+// The most digits of a decimal number.
+const DECIMAL_DIGITS: usize = 5;
+
+// The value of a digit, A to F above 9; 16 for any other character.
+fn value(c: u8) -> u8
+    ensures { λ r. ⌜ r ≡ valueOf c ⌝ }
+{
+    if 0x41 <= c {
+        if c <= 0x46 {
+            return c - 0x37;
+        }
+        return 16;
+    }
+    if 0x39 < c {
+        return 16;
+    }
+    if c < 0x30 {
+        return 16;
+    }
+    c - 0x30
+}
+
+// Whether all characters are digits of a base.
+fn spell(w: &[u8], base: u8) -> bool
+    ensures { λ r. ⌜ r ≡ spells base (now (w .entry)) ⌝ }
+{
+    let mut i: usize = 0;
+    while i < w.len() {
+        if base <= value(w[i]) {
+            return false;
+        }
+        i += 1;
+    }
+    true
+}
+
+// The number that digits of a base stand for.
+fn number_in(w: &[u8], base: u64) -> u64
+    requires { ⌜ (spells base (now w) ≡ true) × (base ^ length (now w) ≤ 18446744073709551616) × (1 ≤ base) ⌝ }
+    ensures { λ r. ⌜ r ≡ numberIn base (now (w .entry)) ⌝ }
+{
+    let mut number: u64 = 0;
+    let mut i: usize = 0;
+    while i < w.len() {
+        let digit = value(w[i]) as u64;
+        number = base * number + digit;
+        i += 1;
+    }
+    number
+}
+
+fn is_hex(w: &[u8], digits: usize) -> bool
+    ensures { λ r. ⌜ r ≡ isHex digits (now (w .entry)) ⌝ }
+{
+    if w.len() != digits {
+        return false;
+    }
+    spell(w, 16)
+}
+
+fn code_in(w: &[u8]) -> u64
+    requires { ⌜ isHex 16 (now w) ≡ true ⌝ }
+    ensures { λ r. ⌜ r ≡ hexIn (now (w .entry)) ⌝ }
+{
+    number_in(w, 16)
+}
+
+fn byte_in(w: &[u8]) -> u8
+    requires { ⌜ isHex 2 (now w) ≡ true ⌝ }
+    ensures { λ r. ⌜ r ≡ hexIn (now (w .entry)) ⌝ }
+{
+    number_in(w, 16) as u8
+}
+
+fn is_decimal(w: &[u8]) -> bool
+    ensures { λ r. ⌜ r ≡ isDecimal (now (w .entry)) ⌝ }
+{
+    if w.len() < 1 {
+        return false;
+    }
+    if DECIMAL_DIGITS < w.len() {
+        return false;
+    }
+    spell(w, 10)
+}
+
+fn decimal_in(w: &[u8]) -> u64
+    requires { ⌜ isDecimal (now w) ≡ true ⌝ }
+    ensures { λ r. ⌜ r ≡ decimalIn (now (w .entry)) ⌝ }
+{
+    number_in(w, 10)
+}
+
+fn is_up_to(w: &[u8], most: u64) -> bool
+    ensures { λ r. ⌜ r ≡ isUpTo most (now (w .entry)) ⌝ }
+{
+    if is_decimal(w) {
+        return decimal_in(w) <= most;
+    }
+    false
+}
+
+fn is_negative(w: &[u8]) -> bool
+    ensures { λ r. ⌜ r ≡ isNegative (now (w .entry)) ⌝ }
+{
+    if w.len() < 1 {
+        return false;
+    }
+    w[0] == MINUS
+}
+
+fn is_count(w: &[u8]) -> bool
+    ensures { λ r. ⌜ r ≡ isCount (now (w .entry)) ⌝ }
+{
+    if is_negative(w) {
+        return is_up_to(&w[1..], 32768);
+    }
+    is_up_to(w, 32767)
+}
+
+fn count_in(w: &[u8]) -> Sixteenths
+    requires { ⌜ isCount (now w) ≡ true ⌝ }
+    ensures { λ r. ⌜ r ≡ countIn (now (w .entry)) ⌝ }
+{
+    if is_negative(w) {
+        let below = decimal_in(&w[1..]) as i32;
+        return Sixteenths((0 - below) as i16);
+    }
+    Sixteenths(decimal_in(w) as i16)
+}
+
+fn is_bit(w: &[u8]) -> bool
+    ensures { λ r. ⌜ r ≡ isBit (now (w .entry)) ⌝ }
+{
+    if same(w, b"0") {
+        return true;
+    }
+    same(w, b"1")
+}
+
+fn is_power(w: &[u8]) -> bool
+    ensures { λ r. ⌜ r ≡ isPower (now (w .entry)) ⌝ }
+{
+    if same(w, b"line") {
+        return true;
+    }
+    same(w, b"external")
+}
+
+fn power_in(w: &[u8]) -> Power
+    ensures { λ r. ⌜ r ≡ powerIn (now (w .entry)) ⌝ }
+{
+    if same(w, b"line") {
+        Power::Line
+    } else {
+        Power::External
+    }
+}
 
 // How many digits a code and a byte have.
 const CODE_DIGITS: usize = 16;
@@ -192,7 +429,7 @@ fn with_five(
 pub(crate) fn in_words(line: &[u8]) -> Request
     ensures { λ r. ⌜ r ≡ inWords (wordsOf (now (line .entry))) ⌝ }
 {
-    let count = words::count(line);
+    let count = count(line);
     if count == 1 {
         return alone(word(line, 0));
     }

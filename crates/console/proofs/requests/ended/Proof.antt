@@ -1,0 +1,14 @@
+-- By the definition's own test. Assumes nothing.
+use borrow.Author.Tests.{eq-eqb, ne-eqb}
+use borrow.Author.Needs.{needs}
+use Rattle.console.proofs.requests.ended.Statement.{statement}
+use Rattle.console.proofs.requests.ended.Tie as tie
+
+returns : tie.Need-returns
+returns c = simp (eq-eqb _ _ (c .if1 .taken))
+
+returns-2 : tie.Need-returns-2
+returns-2 c = simp (ne-eqb _ _ (c .if1 .left))
+
+pub ended-spec : {M : Type 1} → statement M
+ended-spec = tie.close (tie.spec returns returns-2)

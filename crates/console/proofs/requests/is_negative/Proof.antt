@@ -1,0 +1,20 @@
+-- An empty word starts with nothing. Assumes nothing.
+use denote.Ref.{now}
+use mathlib.Core.Path.{refl}
+use Rattle.console.specs.Fields.{positive-empty}
+use borrow.Author.Tests.{le-ltb, lt-ltb}
+use borrow.Author.Needs.{needs}
+use Rattle.console.proofs.requests.is_negative.Statement.{statement}
+use Rattle.console.proofs.requests.is_negative.Tie as tie
+
+returns : tie.Need-returns
+returns c = positive-empty (now (c .before .args .w)) (c .if1 .taken)
+
+shared-slice-read-result : tie.Need-shared-slice-read-result
+shared-slice-read-result c = search needs
+
+returns-2 : tie.Need-returns-2
+returns-2 c = refl
+
+pub is-negative-spec : {M : Type 1} → statement M
+is-negative-spec = tie.close (tie.spec returns shared-slice-read-result returns-2)
