@@ -1,5 +1,4 @@
-// Lines to calls: the words of a line, the fields they spell, and the rows of the console's table, by the
-// number of words.
+// A line to a call: its words, their fields, and the rows of the table of calls.
 ghost use mathlib.Core.Path.{_≡_};
 ghost use Prim.Native.Nat.{_+_, _≤_, _<_, _^_};
 ghost use lib.ListN.{length, drop, getD};
@@ -16,6 +15,8 @@ use device::Joining;
 use device::Power;
 use device::Settings;
 use temperature::Sixteenths;
+
+// ---- Words
 
 // The character between two words.
 const SPACE: u8 = 0x20;
@@ -95,6 +96,8 @@ fn same(a: &[u8], b: &[u8]) -> bool
     }
     true
 }
+
+// ---- Fields
 
 // The character in front of a negative count.
 const MINUS: u8 = 0x2D;
@@ -257,6 +260,8 @@ fn power_in(w: &[u8]) -> Power
         Power::External
     }
 }
+
+// ---- Calls, by the number of words
 
 // How many digits a code and a byte have.
 const CODE_DIGITS: usize = 16;
@@ -429,17 +434,17 @@ fn with_five(
 pub(crate) fn in_words(line: &[u8]) -> Request
     ensures { λ r. ⌜ r ≡ inWords (wordsOf (now (line .entry))) ⌝ }
 {
-    let count = count(line);
-    if count == 1 {
+    let words = count(line);
+    if words == 1 {
         return alone(word(line, 0));
     }
-    if count == 2 {
+    if words == 2 {
         return with_one(word(line, 0), word(line, 1));
     }
-    if count == 3 {
+    if words == 3 {
         return with_two(word(line, 0), word(line, 1), word(line, 2));
     }
-    if count == 5 {
+    if words == 5 {
         return with_four(
             word(line, 0),
             word(line, 1),
@@ -448,7 +453,7 @@ pub(crate) fn in_words(line: &[u8]) -> Request
             word(line, 4),
         );
     }
-    if count == 6 {
+    if words == 6 {
         return with_five(
             word(line, 0),
             word(line, 1),

@@ -1,3 +1,4 @@
+-- By the definition's own tests. Assumes nothing.
 use borrow.Author.Tests.{le-leb, le-ltb, lt-leb, lt-ltb}
 use borrow.Author.Needs.{needs}
 use Rattle.console.proofs.parse.Statement.{statement}

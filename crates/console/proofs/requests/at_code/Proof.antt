@@ -1,3 +1,4 @@
+-- By the definition's own tests. Assumes nothing.
 use borrow.Author.Needs.{needs}
 use Rattle.console.proofs.requests.at_code.Statement.{statement}
 use Rattle.console.proofs.requests.at_code.Tie as tie

@@ -1,3 +1,4 @@
+-- By the definition's own tests. Assumes nothing.
 use borrow.Author.Needs.{needs}
 use Rattle.console.proofs.requests.is_bit.Statement.{statement}
 use Rattle.console.proofs.requests.is_bit.Tie as tie

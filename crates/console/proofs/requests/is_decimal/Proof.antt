@@ -1,5 +1,5 @@
+-- By the definition's own tests. Assumes nothing.
 use borrow.Author.Tests.{le-leb, le-ltb, lt-leb, lt-ltb}
-use borrow.Author.Tests.{le-ltb, lt-ltb}
 use borrow.Author.Needs.{needs}
 use Rattle.console.proofs.requests.is_decimal.Statement.{statement}
 use Rattle.console.proofs.requests.is_decimal.Tie as tie

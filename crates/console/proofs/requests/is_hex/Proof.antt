@@ -1,3 +1,4 @@
+-- By the definition's own tests. Assumes nothing.
 use borrow.Author.Tests.{eq-eqb, ne-eqb}
 use borrow.Author.Needs.{needs}
 use Rattle.console.proofs.requests.is_hex.Statement.{statement}

@@ -1,3 +1,4 @@
+-- By the definition's own tests. Assumes nothing.
 use Rattle.console.specs.Texts.{noText}
 use mathlib.Core.Path.{refl}
 use Rattle.console.proofs.writing.empty.Statement.{statement}
