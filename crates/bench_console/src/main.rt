@@ -1,6 +1,7 @@
 // Drives a bench by lines: one call a line on standard input, its answer on standard output at once.
 // Lines are read and answers are formed by `console`; here bytes are moved.
 use bench::Bench;
+use bench::Changed;
 use console::Request;
 use console::Text;
 use libc::STDIN_FILENO;
@@ -131,6 +132,11 @@ fn say_access(a: Access) -> Bench {
     a.bench
 }
 
+fn say_changed(r: Changed) -> Bench {
+    say(console::refusal_line(r.refusal));
+    r.bench
+}
+
 // One call and its answer.
 fn answer(bench: Bench, request: Request) -> Bench {
     match request {
@@ -138,11 +144,7 @@ fn answer(bench: Bench, request: Request) -> Bench {
             say(console::bad_line());
             bench
         }
-        Request::Add(new) => {
-            let r = bench::add(bench, new);
-            say(console::refusal_line(r.refusal));
-            r.bench
-        }
+        Request::Add(new) => say_changed(bench::add(bench, new)),
         Request::Reset => {
             let r = bench::reset(bench);
             say(console::bit_line(r.refusal, r.presence));
@@ -153,21 +155,13 @@ fn answer(bench: Bench, request: Request) -> Bench {
             say(console::bit_line(r.refusal, r.line));
             r.bench
         }
-        Request::Converted { code, count } => {
-            let r = bench::finish_conversion(bench, code, count);
-            say(console::refusal_line(r.refusal));
-            r.bench
-        }
-        Request::Copied(code) => {
-            let r = bench::finish_copy(bench, code);
-            say(console::refusal_line(r.refusal));
-            r.bench
-        }
-        Request::Cycle(code) => {
-            let r = bench::power_cycle(bench, code);
-            say(console::refusal_line(r.refusal));
-            r.bench
-        }
+        Request::Converted { code, count } => say_changed(bench::finish_conversion(
+            bench,
+            code,
+            count,
+        )),
+        Request::Copied(code) => say_changed(bench::finish_copy(bench, code)),
+        Request::Cycle(code) => say_changed(bench::power_cycle(bench, code)),
         Request::Search { places, bytes } => search(bench, places, bytes, false),
         Request::Alarm { places, bytes } => search(bench, places, bytes, true),
         Request::Read(code) => say_access(master::read_at(bench, code)),

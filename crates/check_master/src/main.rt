@@ -122,6 +122,10 @@ fn alarm_searches() {
         b"\x90\x01\x7F\x80\x7F\xFF\x0C\x10",
     );
     alarms(b"do not move the flag", b, 32, 1824, [0, 2, 2, 400, 114]);
+}
+
+// Limits the wrong way round, a reading between two whole degrees, a flag that power takes away.
+fn alarm_edges() {
     let crossed = convert(join(many(0), B0, Power::External, settings(0, 10, 0x7F)));
     alarms(
         b"low above high",
@@ -250,6 +254,7 @@ fn main() {
     orders();
     recordings();
     alarm_searches();
+    alarm_edges();
     states();
     reads();
     writes();
