@@ -4,14 +4,11 @@
 --     placeOf b code      where the first device with this code stands, or nowhere
 --     holdsWire d         a busy device that is powered from the data wire: no slot can pass
 --     free b              whether no device holds the wire
-use Prim.Native.Nat.{ℕ, zero, suc, _+_, _<_, min}
-use mathlib.Core.Path.{_≡_}
+use Prim.Native.Nat.{ℕ}
 use mathlib.Core.Bool.{Bool, true, false, not, _&&_}
-use mathlib.Core.List.{List, [], _∷_}
-use native.Mathlib.Omega.{arith}
+use mathlib.Core.List.{List}
 use lib.Dec.{eqb}
-use lib.ListN.{length, take, replicate, length-take}
-use Rattle.lists.specs.Choice.{if_then_else_}
+use lib.ListN.{take, replicate}
 use Rattle.lists.specs.First.{firstWith}
 use Rattle.lists.specs.Fold.{all}
 use Rattle.device.specs.Power.{joined}
@@ -45,20 +42,3 @@ holdsWire d = fromLine (d .power) && busy d
 
 unfoldable pub free : Bench → Bool
 free b = all (λ d. not (holdsWire d)) (live b)
-
--- a place that was found is one of the table
-found-within : (p : Device → Bool) (k : ℕ) (l : List Device) (i : ℕ) → firstWith p At Nowhere k l ≡ At i → i < k + length l
-unfolding firstWith
-found-within p k [] i e = let z : _≡_ {A = ℕ} 0 1 = cc in absurd (omega arith)
-found-within p k (d ∷ l) i e = by-test (p d) (found-within p (suc k) l i) e
-  where
-    by-test : (t : Bool) → (firstWith p At Nowhere (suc k) l ≡ At i → i < suc k + length l) → (if t then At k else firstWith p At Nowhere (suc k) l) ≡ At i → i < k + suc (length l)
-    by-test true later f = let g : k ≡ i = cc in omega arith
-    by-test false later f = let g = later f in omega arith
-
-pub place-within : (b : Bench) (code i : ℕ) → length (b .devices) ≡ 32 → placeOf b code ≡ At i → i < 32
-unfolding placeOf
-place-within b code i long e =
-    let h = found-within (λ d. eqb (d .code) code) 0 (live b) i e in
-    let few = length-take (b .count) (b .devices) in
-    omega arith

@@ -8,7 +8,7 @@ use mathlib.Core.Bool.{Bool, true}
 use mathlib.Core.List.{List, [], _∷_, _++_, map}
 use native.Mathlib.Omega.{arith}
 use lib.ListN.{length, getD, set}
-use Rattle.search_law.specs.Codes.{Each}
+use Rattle.lists.specs.Each.{Each}
 use Rattle.temperature.specs.Range.{inRange}
 use Rattle.temperature.specs.declared.Reading.the-variants.{InSixteenths}
 use Rattle.temperature.specs.declared.Sixteenths.{Sixteenths}
@@ -16,7 +16,8 @@ use Rattle.device.specs.Finish.{conversionDone, copyDone}
 use Rattle.device.specs.Fits.{Fits, reset-fits, hear-fits, power-up-fits, conversion-fits, copy-fits}
 use Rattle.device.specs.Hear.{hearOf}
 use Rattle.device.specs.Power.{resetOf, powerUp, joined}
-use Rattle.device.specs.Sound.{Sound, reset-sound, hear-sound, power-up-sound, conversion-sound, copy-sound}
+use Rattle.device.specs.Sound.{Sound}
+use Rattle.device.specs.SoundLaws.{reset-sound, hear-sound, power-up-sound, conversion-sound, copy-sound}
 use Rattle.device.specs.declared.Activity.the-variants.{Copying}
 use Rattle.device.specs.declared.Device.{Device}
 use Rattle.device.specs.declared.Joining.{Joining}

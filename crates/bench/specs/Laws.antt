@@ -21,8 +21,9 @@ use lib.Seq.{take-suc-set, take-set-lt, getD-take}
 use Rattle.lists.specs.Choice.{if_then_else_}
 use Rattle.lists.specs.First.{firstWith}
 use Rattle.lists.specs.Fold.{all}
-use Rattle.lists.specs.Front.{front-taken, front-length}
-use Rattle.search_law.specs.Codes.{Each, each-implies}
+use Rattle.lists.specs.FrontLaws.{front-taken, front-length}
+use Rattle.lists.specs.Each.{Each}
+use Rattle.lists.specs.EachLaws.{each-implies}
 use Rattle.refusals.specs.Refusals.{accepted, wireBusy, duplicate, benchFull, outOfRange, notFound, mismatch}
 use Rattle.rom.specs.Code.{codeRefusal, sound}
 use Rattle.temperature.specs.Range.{inRange}

@@ -5,15 +5,10 @@
 --     numberOf bs      the number that has these bits; 0 for no bits
 --     bytesBits l      the bits of each byte of l, in turn
 -- Assumes nothing.
-use Prim.Native.Nat.{ℕ, zero, suc, _+_, _*_, _/_, _%_, _^_, _<_}
-use mathlib.Core.Path.{_≡_, refl, sym, ap, _∙_}
+use Prim.Native.Nat.{ℕ, zero, suc, _+_, _*_, _/_, _%_, _^_}
 use mathlib.Core.Bool.{Bool, true, false}
-use mathlib.Core.List.{List, [], _∷_, _++_, append-assoc}
-use native.Mathlib.Omega.{arith}
-use native.Mathlib.Nat.{pow-suc, div-div-eq-div-mul}
-use borrow.Author.Tests.{eqb-true, eqb-false}
-use lib.Dec.{eqb, lit<}
-use lib.ListN.{length, getD, length-append}
+use mathlib.Core.List.{List, [], _∷_, _++_}
+use lib.Dec.{eqb}
 
 abbrev pub odd : ℕ → Bool
 odd x = eqb (x % 2) 1
@@ -37,86 +32,3 @@ numberOf (b ∷ bs) = bitNumber b + 2 * numberOf bs
 unfoldable pub bytesBits : List ℕ → List Bool
 bytesBits [] = []
 bytesBits (x ∷ l) = bitsOf 8 x ++ bytesBits l
-
--- ## Lengths
-
-pub bits-length : (n x : ℕ) → length (bitsOf n x) ≡ n
-unfolding bitsOf
-bits-length zero x = refl
-bits-length (suc n) x = ap suc (bits-length n (x / 2))
-
--- ## There and back
-
-odd-number : (x : ℕ) → bitNumber (odd x) ≡ x % 2
-odd-number x = by-test (odd x) refl
-  where
-    by-test : (t : Bool) → odd x ≡ t → bitNumber t ≡ x % 2
-    by-test true e = sym (eqb-true (x % 2) 1 e)
-    by-test false e = let n = eqb-false (x % 2) 1 e in omega arith
-
-pub number-bits : (n x : ℕ) → x < 2 ^ n → numberOf (bitsOf n x) ≡ x
-unfolding numberOf bitsOf
-number-bits zero x h = omega arith
-number-bits (suc n) x h =
-    let k : x / 2 < 2 ^ n = omega (arith, pow-suc 2 n) in
-    let e = number-bits n (x / 2) k in
-    let o = odd-number x in
-    omega arith
-
-pub bits-number : (bs : List Bool) → bitsOf (length bs) (numberOf bs) ≡ bs
-unfolding numberOf bitsOf
-bits-number [] = refl
-bits-number (true ∷ bs) =
-    let e : (1 + 2 * numberOf bs) % 2 ≡ 1 = omega arith in
-    let f : (1 + 2 * numberOf bs) / 2 ≡ numberOf bs = omega arith in
-    let i = bits-number bs in rw (e, f, i)
-bits-number (false ∷ bs) =
-    let e : (0 + 2 * numberOf bs) % 2 ≡ 0 = omega arith in
-    let f : (0 + 2 * numberOf bs) / 2 ≡ numberOf bs = omega arith in
-    let i = bits-number bs in rw (e, f, i)
-
-pub number-lt : (bs : List Bool) → numberOf bs < 2 ^ length bs
-unfolding numberOf
-number-lt [] = lit< tt
-number-lt (true ∷ bs) = let h = number-lt bs in omega (arith, pow-suc 2 (length bs))
-number-lt (false ∷ bs) = let h = number-lt bs in omega (arith, pow-suc 2 (length bs))
-
--- ## One bit more at the end
-
-pub number-snoc : (bs : List Bool) (b : Bool) → numberOf (bs ++ (b ∷ [])) ≡ numberOf bs + bitNumber b * 2 ^ length bs
-unfolding numberOf
-number-snoc [] true = refl
-number-snoc [] false = refl
-number-snoc (a ∷ bs) true = let e = number-snoc bs true in omega (arith, pow-suc 2 (length bs))
-number-snoc (a ∷ bs) false = let e = number-snoc bs false in omega arith
-
--- ## A bit by its place
-
-half-then : (x i : ℕ) → x / 2 / 2 ^ i ≡ x / 2 ^ suc i
-half-then x i = div-div-eq-div-mul x 2 (2 ^ i) ∙ ap (λ (k : ℕ). x / k) (sym (pow-suc 2 i ∙ omega arith))
-
-pub bits-at : (n x i : ℕ) → i < n → getD (bitsOf n x) i false ≡ bitAt x i
-unfolding bitsOf
-bits-at zero x i h = absurd (omega arith)
-bits-at (suc n) x zero h = let e : x / 1 ≡ x = omega arith in ap odd (sym e)
-bits-at (suc n) x (suc i) h = bits-at n (x / 2) i (omega arith) ∙ ap odd (half-then x i)
-
--- ## Bits in two parts
-
-pub bits-append : (m n x : ℕ) → bitsOf (m + n) x ≡ bitsOf m x ++ bitsOf n (x / 2 ^ m)
-unfolding bitsOf
-bits-append zero n x =
-    let z : 0 + n ≡ n = omega arith in let e : x / 1 ≡ x = omega arith in rw (z, e)
-bits-append (suc m) n x =
-    let s : suc m + n ≡ suc (m + n) = omega arith in
-    rw s (ap (λ (t : List Bool). odd x ∷ t) (bits-append m n (x / 2) ∙ ap (λ (k : ℕ). bitsOf m (x / 2) ++ bitsOf n k) (half-then x m)))
-
-pub bytes-append : (a b : List ℕ) → bytesBits (a ++ b) ≡ bytesBits a ++ bytesBits b
-unfolding bytesBits
-bytes-append [] b = refl
-bytes-append (x ∷ a) b = let i = bytes-append a b in rw (i, append-assoc)
-
-pub bytes-length : (l : List ℕ) → length (bytesBits l) ≡ 8 * length l
-unfolding bytesBits
-bytes-length [] = refl
-bytes-length (x ∷ l) = let i = bytes-length l in let b = bits-length 8 x in simp length-append (omega arith)

@@ -1,1 +1,5 @@
 pub mod Bits
+pub mod BitsLaws
+pub mod Bytes
+pub mod BytesLaws
+pub mod XorLaws

@@ -17,10 +17,12 @@ use lib.Dec.{eqb, lit<}
 use lib.ListN.{length, getD, take}
 use lib.Seq.{take-suc}
 use Rattle.lists.specs.Choice.{if_then_else_}
-use Rattle.lists.specs.Fold.{fold, fold-append}
-use Rattle.bits.specs.Bits.{odd, bitsOf, bytesBits, bytes-append}
+use Rattle.lists.specs.Fold.{fold}
+use Rattle.lists.specs.FoldLaws.{fold-append}
+use Rattle.bits.specs.Bits.{odd, bitsOf, bytesBits}
+use Rattle.bits.specs.BitsLaws.{bytes-append}
 use Rattle.crc.specs.Crc.{taps, crcBit, crcBits, crcOf}
-use Rattle.crc.specs.Xor.{xor-half, xor-low, xor-swap}
+use Rattle.bits.specs.XorLaws.{xor-half, xor-low, xor-swap}
 
 pub crc-none : (r : ℕ) → crcBits r [] ≡ r
 unfolding crcBits fold

@@ -24,8 +24,8 @@ use Rattle.family.specs.Families.{ds18s20, ds18b20, rowS, rowB, rowUnknown}
 use Rattle.family.specs.Layout.{configurationPlace}
 use Rattle.family.specs.declared.Properties.{Properties}
 use Rattle.rom.specs.Code.{familyOf}
-use Rattle.signed.specs.Complement.{bits-below}
-use Rattle.temperature.specs.Measured.{measured-fits}
+use Rattle.signed.specs.ComplementLaws.{bits-below}
+use Rattle.temperature.specs.MeasuredLaws.{measured-fits}
 use Rattle.temperature.specs.Range.{inRange}
 use Rattle.temperature.specs.Register.{countOf, registerOf}
 use Rattle.temperature.specs.declared.Reading.the-variants.{InSixteenths}
@@ -46,7 +46,7 @@ use Rattle.device.specs.Hear.{shiftIn, afterBit, afterSearch, afterScrat
 use Rattle.device.specs.Power.{resetOf, poweredUp, powerUp, joined}
 use Rattle.device.specs.Finish.{storedReading, stored, conversionDone, copyDone}
 use Rattle.device.specs.Outcomes.{hear-outcome}
-use Rattle.device.specs.Sound.{range-fits}
+use Rattle.device.specs.SoundLaws.{range-fits}
 
 abbrev pub Byte : ℕ → Type 0
 Byte x = x < 256

@@ -5,10 +5,8 @@
 --     functionCommand d c        the device after function command c
 --     storeSetting d k b         the device with byte b stored as its setting k, and what follows
 --     hearOf d l                 the device after a slot in which the line showed l
-use Prim.Native.Nat.{ℕ, _+_, _/_, _≤_}
-use native.Mathlib.Omega.{arith}
-use mathlib.Core.Bool.{Bool, true, false, not, Bool·beq, _&&_}
-use mathlib.Core.List.{List}
+use Prim.Native.Nat.{ℕ, _+_, _/_}
+use mathlib.Core.Bool.{Bool, not, Bool·beq, _&&_}
 use lib.Dec.{ltb, eqb}
 use lib.ListN.{set}
 use Rattle.lists.specs.Choice.{if_then_else_}
@@ -111,13 +109,6 @@ hearFunction d s n l =
 -- how many bytes it takes
 abbrev pub settingsCount : Properties → ℕ
 settingsCount row = if row .configurable then 3 else 2
-
-pub settings-few : (row : Properties) → settingsCount row ≤ 3
-settings-few row = by-test (row .configurable)
-  where
-    by-test : (t : Bool) → (if t then 3 else 2) ≤ 3
-    by-test true = omega arith
-    by-test false = omega arith
 
 -- byte k as it is stored: the third is the configuration
 abbrev pub settingByte : Properties → ℕ → ℕ → ℕ

@@ -4,14 +4,11 @@
 --     nineBytes pad              the eight scratchpad bytes and their CRC, as they stand
 --     scratchpadSlot pad k j     bit j of byte k of the nine; 1 past their end
 --     offerOf d                  what the device offers
-use Prim.Native.Nat.{ℕ, _<_}
-use mathlib.Core.Path.{_≡_}
-use native.Mathlib.Omega.{arith}
+use Prim.Native.Nat.{ℕ}
 use mathlib.Core.Bool.{Bool, true, false, not, _&&_}
 use mathlib.Core.List.{List, [], _∷_, _++_}
 use lib.Dec.{ltb}
-use lib.ListN.{length, getD, List·getD-append}
-use lib.Seq.{getD-append-seam}
+use lib.ListN.{getD}
 use Rattle.lists.specs.Choice.{if_then_else_}
 use Rattle.bits.specs.Bits.{bitAt}
 use Rattle.crc.specs.Crc.{crcOf}
@@ -34,13 +31,6 @@ searchSlot code i TakeBit = true
 
 abbrev pub nineBytes : List ℕ → List ℕ
 nineBytes pad = pad ++ (crcOf pad ∷ [])
-
--- the nine by their places
-pub nine-byte : (pad : List ℕ) (k : ℕ) → length pad ≡ 8 → k < 8 → getD (nineBytes pad) k 0 ≡ getD pad k 0
-nine-byte pad k long h = let b : k < length pad = omega arith in List·getD-append pad (crcOf pad ∷ []) 0 k b
-
-pub nine-crc : (pad : List ℕ) (k : ℕ) → length pad ≡ 8 → k ≡ 8 → getD (nineBytes pad) k 0 ≡ crcOf pad
-nine-crc pad k long h = let e : k ≡ length pad = omega arith in rw e (getD-append-seam pad (crcOf pad) [] 0)
 
 unfoldable pub scratchpadSlot : List ℕ → ℕ → ℕ → Bool
 scratchpadSlot pad k j = if ltb k 9 && ltb j 8 then bitAt (getD (nineBytes pad) k 0) j else true

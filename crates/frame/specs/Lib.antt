@@ -1,8 +1,13 @@
-pub mod Laws
 pub mod Hex
+pub mod HexLaws
 pub mod Frames
+pub mod FramesLaws
 pub mod Lines
+pub mod LinesLaws
 pub mod Reading
+pub mod ReadingLaws
 pub mod Writing
+pub mod WritingLaws
 pub mod Recording
+pub mod RecordingLaws
 pub mod Cases

@@ -1,23 +1,19 @@
 -- What one line of a recording says, with the refusals 2 and 3 in the scope's order, and what the reader answers at a place.
 -- A line has two digits presence, four digits count, and the slots' bytes.
 -- Assumes nothing.
-use Prim.Native.Nat.{ℕ, _+_, _*_, _<_, _≤_}
-use mathlib.Core.Path.{_≡_, refl, _∙_}
-use mathlib.Core.Bool.{Bool, true, false, _&&_, _||_, and-false}
+use Prim.Native.Nat.{ℕ, _+_, _*_}
+use mathlib.Core.Bool.{Bool, true, false, _&&_}
 use mathlib.Core.List.{List, [], _∷_}
-use native.Mathlib.Omega.{arith}
-use borrow.Author.Tests.{leb-true, lt-ltb, le-ltb, ltb-false, le-leb, lt-leb, eq-eqb, ne-eqb}
 use lib.Dec.{eqb, leb, ltb}
-use lib.ListN.{length, take, drop, getD, length-drop}
+use lib.ListN.{length, take, drop}
 use Rattle.lists.specs.Choice.{if_then_else_}
-use Rattle.lists.specs.Fold.{fold, all}
+use Rattle.lists.specs.Fold.{all}
 use Rattle.lists.specs.Laid.{laid}
 use Rattle.refusals.specs.Refusals.{accepted, notHex, malformed}
 use Rattle.frame.specs.declared.Frame.{Frame}
 use Rattle.frame.specs.declared.LineRead.{LineRead}
-use Rattle.frame.specs.Laws.{and-left, and-right}
-use Rattle.frame.specs.Hex.{valueOf, isDigit, numberIn, bytesOf, bytes-length}
-use Rattle.frame.specs.Frames.{noBits, blankFrame, bytesFor, countAllowed, clearFrom, lineable, mostSlots, pad-clear}
+use Rattle.frame.specs.Hex.{isDigit, numberIn, bytesOf}
+use Rattle.frame.specs.Frames.{noBits, blankFrame, bytesFor, clearFrom, lineable}
 use Rattle.frame.specs.Lines.{Line, linesOf}
 
 -- the most characters that stand before a feed: presence, count and the 64 bytes of 512 slots
@@ -78,125 +74,9 @@ firstRead at (l ∷ ls) = answered (at + width l) (readLine l)
 abbrev pub readAt : List ℕ → ℕ → LineRead
 readAt s at = firstRead at (linesOf (drop at s))
 
--- ## The answer's next place
-
-pub answered-next : (n : ℕ) (r : Reading) → answered n r .next ≡ n
-answered-next n (carries f) = refl
-answered-next n (refused k) = refl
-
--- ## Each way a line is refused before its digits are looked into
-
-module _ (l : Line) where
-  pub read-long : longest < length (l .chars) → readLine l ≡ refused malformed
-  unfolding readLine
-  read-long h = rw (lt-ltb longest (length (l .chars)) h)
-
-  pub read-open : length (l .chars) ≤ longest → l .fed ≡ false → readLine l ≡ refused notHex
-  unfolding readLine
-  read-open h e = rw (le-ltb longest (length (l .chars)) h, e, and-false (all isDigit (l .chars)))
-
-  pub read-other : length (l .chars) ≤ longest → all isDigit (l .chars) ≡ false → readLine l ≡ refused notHex
-  unfolding readLine
-  read-other h e = rw (le-ltb longest (length (l .chars)) h, e)
-
-  pub read-fed : length (l .chars) ≤ longest → l .fed ≡ true → all isDigit (l .chars) ≡ true → readLine l ≡ readDigits (l .chars)
-  unfolding readLine
-  read-fed h e d = rw (le-ltb longest (length (l .chars)) h, e, d)
-
--- ## What an accepted line tells
-
-pub record Accepted (l : Line) (f : Frame) : Type 0 where
-  pub short : length (l .chars) ≤ longest
-  pub digital : all isDigit (l .chars) ≡ true
-  pub ended : l .fed ≡ true
-  pub formed : wellFormed (l .chars) ≡ true
-  pub spelt : frameIn (l .chars) ≡ f
-
-pub read-accepted : (l : Line) (f : Frame) → readLine l ≡ carries f → Accepted l f
-unfolding readLine readDigits
-read-accepted l f h = by-test (ltb longest (length (l .chars))) refl (all isDigit (l .chars) && l .fed) refl (wellFormed (l .chars)) refl h
-  where
-    by-test : (t : Bool) → ltb longest (length (l .chars)) ≡ t → (u : Bool) → (all isDigit (l .chars) && l .fed) ≡ u → (v : Bool) → wellFormed (l .chars) ≡ v
-        → (if t then refused malformed else if u then (if v then carries (frameIn (l .chars)) else refused malformed) else refused notHex) ≡ carries f
-        → Accepted l f
-    by-test true a u b v c h = let z : _≡_ {A = ℕ} 0 1 = cc in absurd (omega arith)
-    by-test false a false b v c h = let z : _≡_ {A = ℕ} 0 1 = cc in absurd (omega arith)
-    by-test false a true b false c h = let z : _≡_ {A = ℕ} 0 1 = cc in absurd (omega arith)
-    by-test false a true b true c h = record {
-      short = ltb-false longest (length (l .chars)) a;
-      digital = and-left (all isDigit (l .chars)) (l .fed) b;
-      ended = and-right (all isDigit (l .chars)) (l .fed) b;
-      formed = c;
-      spelt = cc;
-    }
-
-pub accepted-read : (l : Line) (f : Frame) → Accepted l f → readLine l ≡ carries f
-unfolding readLine readDigits
-accepted-read l f a =
-    rw (le-ltb longest (length (l .chars)) (a .short), a .digital, a .ended, a .formed, a .spelt)
-
--- ## The head's numbers, digit by digit
-
-pub presence-in : (cs : List ℕ) → 6 ≤ length cs → presenceIn cs ≡ 16 * valueOf (getD cs 0 0) + valueOf (getD cs 1 0)
-unfolding numberIn fold
-presence-in [] h = absurd (omega arith)
-presence-in (a ∷ []) h = absurd (omega arith)
-presence-in (a ∷ b ∷ cs) h = omega arith
-
-pub count-in : (cs : List ℕ) → 6 ≤ length cs
-    → countIn cs ≡ 256 * (16 * valueOf (getD cs 2 0) + valueOf (getD cs 3 0)) + (16 * valueOf (getD cs 4 0) + valueOf (getD cs 5 0))
-unfolding numberIn fold
-count-in [] h = absurd (omega arith)
-count-in (a ∷ []) h = absurd (omega arith)
-count-in (a ∷ b ∷ []) h = absurd (omega arith)
-count-in (a ∷ b ∷ c ∷ []) h = absurd (omega arith)
-count-in (a ∷ b ∷ c ∷ d ∷ []) h = absurd (omega arith)
-count-in (a ∷ b ∷ c ∷ d ∷ e ∷ []) h = absurd (omega arith)
-count-in (a ∷ b ∷ c ∷ d ∷ e ∷ f ∷ cs) h = omega arith
-
 -- ## The digits of the slots
 
 -- what they say behind a head that is in order
 unfoldable pub readSlots : Bool → ℕ → List ℕ → Reading
 readSlots p n cs =
     if clearFrom n (bytesOf cs) then carries record { presence = p; count = n; bits = laid noBits 0 (bytesOf cs) } else refused malformed
-
-pub body-length : (cs : List ℕ) (n : ℕ) → length cs ≡ 2 * bytesFor n → length (bytesOf cs) ≡ bytesFor n
-body-length cs n e = bytes-length (bytesFor n) cs e
-
-pub slots-clear : (p : Bool) (n : ℕ) (cs : List ℕ) → clearFrom n (bytesOf cs) ≡ true
-    → readSlots p n cs ≡ carries record { presence = p; count = n; bits = laid noBits 0 (bytesOf cs) }
-unfolding readSlots
-slots-clear p n cs h = rw h
-
-pub slots-spare : (p : Bool) (n : ℕ) (cs : List ℕ) → clearFrom n (bytesOf cs) ≡ false → readSlots p n cs ≡ refused malformed
-unfolding readSlots
-slots-spare p n cs h = rw h
-
--- ## Each way a line of digits is refused by its head
-
-module _ (cs : List ℕ) where
-  unformed : wellFormed cs ≡ false → readDigits cs ≡ refused malformed
-  unfolding readDigits
-  unformed e = rw e
-
-  pub wrong-presence : 1 < presenceIn cs → readDigits cs ≡ refused malformed
-  wrong-presence h = unformed (rw (lt-leb (presenceIn cs) 1 h))
-
-  pub wrong-length : (length cs ≡ 6 + 2 * bytesFor (countIn cs) → ⊥) → readDigits cs ≡ refused malformed
-  wrong-length h = unformed (rw (ne-eqb (length cs) (6 + 2 * bytesFor (countIn cs)) h, and-false (leb (presenceIn cs) 1)))
-
-  pub wrong-count : countAllowed (eqb (presenceIn cs) 1) (countIn cs) ≡ false → readDigits cs ≡ refused malformed
-  wrong-count h = unformed (rw (h, and-false (leb (presenceIn cs) 1 && eqb (length cs) (6 + 2 * bytesFor (countIn cs)))))
-
-  -- behind a head that is in order the slots decide
-  pub right-head : presenceIn cs ≤ 1 → countAllowed (eqb (presenceIn cs) 1) (countIn cs) ≡ true → length cs ≡ 6 + 2 * bytesFor (countIn cs)
-      → readDigits cs ≡ readSlots (eqb (presenceIn cs) 1) (countIn cs) (drop 6 cs)
-  unfolding readDigits readSlots
-  right-head p c l =
-      let few : countIn cs ≤ mostSlots = leb-true (countIn cs) mostSlots (and-left (leb (countIn cs) mostSlots) (eqb (presenceIn cs) 1 || eqb (countIn cs) 0) c) in
-      let b = body-length (drop 6 cs) (countIn cs) (length-drop 6 cs ∙ omega arith) in
-      let small : length (bytesOf (drop 6 cs)) ≤ 64 = omega arith in
-      let wide : countIn cs ≤ 8 * length (bytesOf (drop 6 cs)) = omega arith in
-      rw
-      (le-leb (presenceIn cs) 1 p, eq-eqb (length cs) (6 + 2 * bytesFor (countIn cs)) l, c, pad-clear (bytesOf (drop 6 cs)) small (countIn cs) wide)

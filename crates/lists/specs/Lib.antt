@@ -1,7 +1,14 @@
 pub mod Choice
+pub mod ChoiceLaws
 pub mod Tests
 pub mod Front
+pub mod FrontLaws
 pub mod Fold
+pub mod FoldLaws
 pub mod First
+pub mod FirstLaws
 pub mod Laid
+pub mod LaidLaws
 pub mod Places
+pub mod Each
+pub mod EachLaws

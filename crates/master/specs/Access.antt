@@ -4,18 +4,14 @@
 --     replied b                    72 read slots: the nine bytes they show, and the bench after them
 --     readAt b code                a read at the code
 --     writeAt b code s             a write of the settings s: high limit, low limit and, where the family has one, configuration, then a read at the code
-use Prim.Native.Nat.{ℕ, zero, suc, _+_, _*_, _^_, _<_}
-use mathlib.Core.Path.{_≡_, refl, ap, _∙_, sym}
+use Prim.Native.Nat.{ℕ, zero, suc}
 use mathlib.Core.Bool.{Bool, true, not, _&&_, _||_}
-use mathlib.Core.List.{List, [], _∷_, _++_}
+use mathlib.Core.List.{List, [], _∷_}
 use lib.Dec.{eqb}
 use lib.IntN.{pos}
-use native.Mathlib.Numerals.{add-one}
-use native.Mathlib.Omega.{arith}
-use lib.ListN.{length, getD, set, replicate, replicate-append-replicate, length-replicate}
+use lib.ListN.{getD, replicate}
 use Rattle.lists.specs.Choice.{if_then_else_}
-use Rattle.lists.specs.Laid.{laid, laid-store}
-use Rattle.bits.specs.Bits.{bitNumber, numberOf, number-snoc, number-lt}
+use Rattle.bits.specs.Bits.{numberOf}
 use Rattle.commands.specs.Commands.{matchRom, readScratchpad, writeScratchpad}
 use Rattle.refusals.specs.Refusals.{accepted, noPresence, wireBusy, mismatch}
 use Rattle.family.specs.Families.{propertiesOf}
@@ -26,11 +22,10 @@ use Rattle.rom.specs.Code.{familyOf, codeRefusal}
 use Rattle.temperature.specs.declared.Reading.the-variants.{InSixteenths}
 use Rattle.scratchpad.specs.Judgement.{judged}
 use Rattle.scratchpad.specs.declared.Judged.{Judged}
-use Rattle.search_law.specs.Issued.{slots-append, slots-length}
-use Rattle.search_law.specs.Wire.{Run, run, slots}
+use Rattle.search_law.specs.Wire.{slots}
 use Rattle.device.specs.declared.Settings.{Settings}
 use Rattle.bench.specs.Bench.{free}
-use Rattle.bench.specs.Slot.{slotted, resetDone}
+use Rattle.bench.specs.Slot.{resetDone}
 use Rattle.bench.specs.declared.Bench.{Bench}
 use Rattle.bench.specs.declared.ResetDone.{ResetDone}
 use Rattle.master.specs.declared.Access.{Access}
@@ -129,61 +124,3 @@ unfoldable pub writeAt : Bench → ℕ → Settings → Access
 writeAt b code s =
     if not (eqb (admission b code) accepted) then refusedAt (admission b code) b
     else onPresence (resetDone b) (writtenAndRead code s)
-
--- ## Read slots, as the loops make them
-
-reads-more : (n : ℕ) (b : Bench) → slots calls (readSlots (n + 1)) b
-    ≡ run (shown (readSlots n) b ++ (slotted (afterSlots n b) true .line ∷ [])) (slotted (afterSlots n b) true .bench)
-unfolding slots
-reads-more n b =
-    rw (← replicate-append-replicate n 1 true) (slots-append calls (readSlots n) (true ∷ []) b)
-
-pub byte-more : (n : ℕ) (b : Bench) → numberOf (shown (readSlots n) b) + bitNumber (slotted (afterSlots n b) true .line) * 2 ^ n ≡ numberOf (shown (readSlots (n + 1)) b)
-byte-more n b =
-    let long : length (shown (readSlots n) b) ≡ n = slots-length calls (readSlots n) b ∙ length-replicate n true in
-    let line = slotted (afterSlots n b) true .line in
-    sym (ap (λ r. numberOf (r .lines)) (reads-more n b) ∙ number-snoc (shown (readSlots n) b) line ∙ ap (λ (k : ℕ). numberOf (shown (readSlots n) b) + bitNumber line * 2 ^ k) long)
-
-pub slots-more : (n : ℕ) (b : Bench) → slotted (afterSlots n b) true .bench ≡ afterSlots (n + 1) b
-slots-more n b = sym (ap (λ r. r .devices) (reads-more n b))
-
--- n bits make a number below 2 ^ n
-pub byte-small : (n : ℕ) (b : Bench) → numberOf (shown (readSlots n) b) < 2 ^ n
-byte-small n b =
-    let long : length (shown (readSlots n) b) ≡ n = slots-length calls (readSlots n) b ∙ length-replicate n true in
-    rw long at (number-lt (shown (readSlots n) b))
-
--- ## Bytes, as the loop over them makes them
-
-slots-then : (m n : ℕ) (b : Bench) → afterSlots n (afterSlots m b) ≡ afterSlots (m + n) b
-slots-then m n b =
-    sym (ap (λ r. r .devices) (slots-append calls (readSlots m) (readSlots n) b)) ∙ ap (λ (l : List Bool). slots calls l b .devices) (replicate-append-replicate m n true)
-
-pub bytes-bench : (n : ℕ) (b : Bench) → afterSlots 8 (afterSlots (8 * n) b) ≡ afterSlots (8 * (n + 1)) b
-bytes-bench n b = let e : 8 * n + 8 ≡ 8 * (n + 1) = omega arith in slots-then (8 * n) 8 b ∙ ap (λ (k : ℕ). afterSlots k b) e
-
-pub bytes-length : (n : ℕ) (b : Bench) → length (bytesShown n b) ≡ n
-unfolding bytesShown
-bytes-length zero b = refl
-bytes-length (suc n) b = ap suc (bytes-length n (afterSlots 8 b))
-
-bytes-snoc : (n : ℕ) (b : Bench) → bytesShown (suc n) b ≡ bytesShown n b ++ (byteShown (afterSlots (8 * n) b) ∷ [])
-unfolding bytesShown slots
-bytes-snoc zero b = refl
-bytes-snoc (suc n) b =
-    let e : 8 + 8 * n ≡ 8 * suc n = omega arith in
-    ap (λ (l : List ℕ). byteShown b ∷ l) (bytes-snoc n (afterSlots 8 b))
-    ∙ ap (λ (c : Bench). byteShown b ∷ (bytesShown n (afterSlots 8 b) ++ (byteShown c ∷ []))) (slots-then 8 (8 * n) b ∙ ap (λ (k : ℕ). afterSlots k b) e)
-
--- one byte more stored
-pub bytes-more : (n : ℕ) (b : Bench) (pad : List ℕ) → n < length pad
-    → set (laid pad 0 (bytesShown n b)) n (byteShown (afterSlots (8 * n) b)) ≡ laid pad 0 (bytesShown (n + 1) b)
-bytes-more n b pad h =
-    let e : 0 + length (bytesShown n b) ≡ n = omega (arith, bytes-length n b) in
-    laid-store pad 0 (bytesShown n b) (byteShown (afterSlots (8 * n) b)) n e h
-    ∙ ap (laid pad 0) (sym (ap (λ (k : ℕ). bytesShown k b) (add-one n) ∙ bytes-snoc n b))
-
--- nine bytes over nine places
-pub bytes-all : (b : Bench) → laid (replicate 9 0) 0 (bytesShown 9 b) ≡ bytesShown 9 b
-unfolding laid bytesShown
-bytes-all b = refl

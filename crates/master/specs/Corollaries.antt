@@ -12,14 +12,15 @@ use native.Mathlib.Omega.{arith}
 use lib.ListN.{length}
 use Rattle.bits.specs.Bits.{bitsOf}
 use Rattle.commands.specs.Commands.{searchRom, alarmSearch}
-use Rattle.search_law.specs.Codes.{Each, Distinct}
+use Rattle.lists.specs.Each.{Each, Distinct}
 use Rattle.search_law.specs.Listing.{inOrder}
 use Rattle.search_law.specs.Numbers.{Below}
 use Rattle.device.specs.Sound.{Sound}
 use Rattle.device.specs.declared.Device.{Device}
 use Rattle.device.specs.declared.Page.{Page}
 use Rattle.bench.specs.Bench.{live, free}
-use Rattle.bench.specs.Sound.{codesOf, BenchSound, codes-count}
+use Rattle.bench.specs.Sound.{codesOf, BenchSound}
+use Rattle.bench.specs.SoundLaws.{codes-count}
 use Rattle.bench.specs.declared.Bench.{Bench}
 use Rattle.searching.specs.OnTheBench as bench
 use Rattle.searching.specs.OnTheBench.{flaggedCodes}

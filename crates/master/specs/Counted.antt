@@ -11,11 +11,13 @@ use lib.Dec.{lit≤}
 use lib.ListN.{length, length-append, length-map}
 use Rattle.lists.specs.Choice.{if_then_else_}
 use Rattle.lists.specs.Fold.{fold}
-use Rattle.frame.specs.Frames.{blankFrame, bytesFor, mostSlots, pushedAll, Recorded, recorded-all}
+use Rattle.frame.specs.Frames.{blankFrame, bytesFor, mostSlots, pushedAll, Recorded}
+use Rattle.frame.specs.FramesLaws.{recorded-all}
 use Rattle.frame.specs.Recording.{writeAll}
-use Rattle.frame.specs.Writing.{fedLine, fed-length}
+use Rattle.frame.specs.Writing.{fedLine}
+use Rattle.frame.specs.WritingLaws.{fed-length}
 use Rattle.frame.specs.declared.Frame.{Frame}
-use Rattle.search_law.specs.Codes.{Each}
+use Rattle.lists.specs.Each.{Each}
 use Rattle.master.specs.Search.{frameOf, countPass, passesIn, slotsIn}
 
 -- ## Frames that are alike

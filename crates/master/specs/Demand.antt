@@ -17,9 +17,8 @@ use Rattle.bits.specs.Bits.{bitsOf}
 use Rattle.commands.specs.Commands.{searchRom, alarmSearch}
 use Rattle.refusals.specs.Refusals.{accepted}
 use Rattle.frame.specs.Frames.{blankFrame}
-use Rattle.search_law.specs.Codes.{Each, Pairs}
+use Rattle.lists.specs.Each.{Each, Pairs, those}
 use Rattle.search_law.specs.Numbers.{Sooner}
-use Rattle.search_law.specs.Searchers.{those}
 use Rattle.search_law.specs.Wire.{Passes, Run, passes, slots}
 use Rattle.rom.specs.Code.{codeBits}
 use Rattle.device.specs.declared.Device.{Device}

@@ -1,5 +1,7 @@
 pub mod Wire
+pub mod WireLaws
 pub mod Access
+pub mod AccessLaws
 pub mod Search
 pub mod Pass
 pub mod Sweep

@@ -13,12 +13,14 @@ use native.Mathlib.Nat.{pow-suc}
 use native.Mathlib.Numerals.{add-one}
 use mathlib.Core.Option.{none, some}
 use Rattle.lists.specs.Choice.{if_then_else_}
-use Rattle.lists.specs.Fold.{fold, fold-append}
+use Rattle.lists.specs.Fold.{fold}
+use Rattle.lists.specs.FoldLaws.{fold-append}
 use Rattle.bits.specs.Bits.{odd, bitNumber, bitsOf}
 use Rattle.frame.specs.Frames.{blankFrame, pushed, pushedAll}
 use Rattle.frame.specs.declared.Frame.{Frame}
 use Rattle.search_law.specs.Departure.{takes}
-use Rattle.search_law.specs.Pass.{triple, choice, onSome, on-some, on-both}
+use Rattle.search_law.specs.Pass.{triple, choice, onSome}
+use Rattle.search_law.specs.PassLaws.{on-some, on-both}
 use Rattle.search_law.specs.PassLoop.{Walk as PassWalk, walk, walkOn, walkEnds, onward, bit-step, steps, steps-turn, steps-end, steps-over}
 use Rattle.search_law.specs.Wire.{slots}
 use Rattle.bench.specs.Slot.{slotted, resetDone}

@@ -16,7 +16,7 @@ use Rattle.lists.specs.Choice.{if_then_else_}
 use Rattle.lists.specs.Fold.{fold}
 use Rattle.commands.specs.Commands.{searchRom, alarmSearch}
 use Rattle.refusals.specs.Refusals.{accepted}
-use Rattle.search_law.specs.Codes.{Each, Distinct}
+use Rattle.lists.specs.Each.{Each, Distinct}
 use Rattle.search_law.specs.Numbers.{Below}
 use Rattle.temperature.specs.declared.Sixteenths.{Sixteenths}
 use Rattle.device.specs.Finish.{conversionDone, copyDone}
@@ -30,7 +30,8 @@ use Rattle.bench.specs.Bench.{live, vacant, free, placeOf}
 use Rattle.bench.specs.Calls.{refused, changed, addedTo, conversionFinished, copyFinished, powerCycled, deviceAt}
 use Rattle.bench.specs.Laws.{heard-live, restarted-live, slot-cases, reset-cases, Added, added-cases, OneChanged, conversion-cases, copy-cases, cycle-cases}
 use Rattle.bench.specs.Slot.{lineOf, heard, restarted, slotted, resetDone}
-use Rattle.bench.specs.Sound.{codesOf, BenchSound, heard-codes, restarted-codes, added-codes, one-changed-codes, empty-sound, slotted-sound, reset-done-sound, added-sound, conversion-finished-sound, copy-finished-sound, power-cycled-sound}
+use Rattle.bench.specs.Sound.{codesOf, BenchSound}
+use Rattle.bench.specs.SoundLaws.{heard-codes, restarted-codes, added-codes, one-changed-codes, empty-sound, slotted-sound, reset-done-sound, added-sound, conversion-finished-sound, copy-finished-sound, power-cycled-sound}
 use Rattle.bench.specs.declared.Bench.{Bench}
 use Rattle.bench.specs.declared.Changed.{Changed}
 use Rattle.bench.specs.declared.Place.the-variants.{At, Nowhere}

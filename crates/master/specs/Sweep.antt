@@ -14,17 +14,23 @@ use borrow.Author.Tests.{lt-ltb, le-ltb}
 use lib.Dec.{ltb}
 use lib.ListN.{length, set, length-append}
 use Rattle.lists.specs.Choice.{if_then_else_}
-use Rattle.lists.specs.Fold.{fold, fold-append}
-use Rattle.lists.specs.Laid.{laid, laid-none, laid-length, laid-more, laid-store}
-use Rattle.bits.specs.Bits.{bitsOf, bits-length}
+use Rattle.lists.specs.Fold.{fold}
+use Rattle.lists.specs.FoldLaws.{fold-append}
+use Rattle.lists.specs.Laid.{laid}
+use Rattle.lists.specs.LaidLaws.{laid-none, laid-length, laid-more, laid-store}
+use Rattle.bits.specs.Bits.{bitsOf}
+use Rattle.bits.specs.BitsLaws.{bits-length}
 use Rattle.refusals.specs.Refusals.{accepted, noRoom, wireBusy}
-use Rattle.frame.specs.Frames.{blankFrame, lineable, recorded-all, blank-held, blank-lineable}
+use Rattle.frame.specs.Frames.{blankFrame, lineable}
+use Rattle.frame.specs.FramesLaws.{recorded-all, blank-held, blank-lineable}
 use Rattle.frame.specs.Recording.{writeAll}
-use Rattle.frame.specs.Writing.{fedLine, fed-length, writeAnswer, writeLeaves, write-done}
+use Rattle.frame.specs.Writing.{fedLine, writeAnswer, writeLeaves}
+use Rattle.frame.specs.WritingLaws.{fed-length, write-done}
 use Rattle.frame.specs.declared.Frame.{Frame}
 use Rattle.frame.specs.declared.Written.{Written}
 use Rattle.search_law.specs.Issued.{slots-length}
-use Rattle.search_law.specs.Pass.{triple, choice, on-some}
+use Rattle.search_law.specs.Pass.{triple, choice}
+use Rattle.search_law.specs.PassLaws.{on-some}
 use Rattle.search_law.specs.Departure.{takes}
 use Rattle.search_law.specs.PassLoop.{Walk as PassWalk, walk, walkOn, walkEnds, onward, bitStep, steps, loopPass}
 use Rattle.search_law.specs.SearchLoop.{Sweep as SearchSweep, sweep, withPass, turns, turns-turn, turns-end, turns-over, turn-pass, loopSearch, SameSearch, loop-search}

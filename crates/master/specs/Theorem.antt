@@ -12,7 +12,8 @@ use lib.Dec.{ltb, lit≤}
 use lib.ListN.{length, length-append, length-map}
 use Rattle.lists.specs.Choice.{if_then_else_}
 use Rattle.lists.specs.Fold.{fold}
-use Rattle.bits.specs.Bits.{bitsOf, numberOf, bits-length}
+use Rattle.bits.specs.Bits.{bitsOf, numberOf}
+use Rattle.bits.specs.BitsLaws.{bits-length}
 use Rattle.commands.specs.Commands.{searchRom, alarmSearch}
 use Rattle.refusals.specs.Refusals.{accepted, noRoom, wireBusy}
 use Rattle.frame.specs.Frames.{blankFrame, noBits}
@@ -20,11 +21,10 @@ use Rattle.frame.specs.Hex.{digits, hexOf}
 use Rattle.frame.specs.Recording.{writeAll}
 use Rattle.frame.specs.Writing.{lineOf}
 use Rattle.rom.specs.Code.{codeBits}
-use Rattle.search_law.specs.Codes.{Each}
+use Rattle.lists.specs.Each.{Each, those}
 use Rattle.search_law.specs.Complete.{Complete}
-use Rattle.search_law.specs.Listing.{perm-length}
+use Rattle.lists.specs.EachLaws.{perm-length}
 use Rattle.search_law.specs.Numbers.{Below, Numbered}
-use Rattle.search_law.specs.Searchers.{those}
 use Rattle.search_law.specs.Whole.{search-issued, search-unheard}
 use Rattle.search_law.specs.Wire.{Search, searched, passes, slots, ran, run}
 use Rattle.device.specs.Power.{resetOf}
@@ -34,7 +34,8 @@ use Rattle.device.specs.declared.Page.{Page}
 use Rattle.bench.specs.Bench.{live, free}
 use Rattle.bench.specs.Laws.{reset-accepted, restarted-live}
 use Rattle.bench.specs.Slot.{resetDone, restarted, presenceOf}
-use Rattle.bench.specs.Sound.{codesOf, BenchSound, codes-count}
+use Rattle.bench.specs.Sound.{codesOf, BenchSound}
+use Rattle.bench.specs.SoundLaws.{codes-count}
 use Rattle.bench.specs.declared.Bench.{Bench}
 use Rattle.searching.specs.OnTheBench as bench
 use Rattle.searching.specs.OnTheBench.{onWire, flaggedCodes, searchOn, alarmSearchOn, same-but-stage}

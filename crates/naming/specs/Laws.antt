@@ -9,7 +9,8 @@ use native.Mathlib.Numerals.{add-one}
 use lib.Pow.{pow-mono}
 use lib.ListN.{length, take, drop, getD, length-take, length-drop, drop-of-length-le}
 use lib.Seq.{drop-cons, drop-nil, getD-drop, getD-take}
-use Rattle.bits.specs.Bits.{bitNumber, numberOf, number-lt, bytesBits, bytes-length}
+use Rattle.bits.specs.Bits.{bitNumber, numberOf, bytesBits}
+use Rattle.bits.specs.BitsLaws.{number-lt, bytes-length}
 use Rattle.naming.specs.Naming.{tripleAllowed, triplesAllowed, thirds, passSlots, lowFirst, padIn}
 
 pub one-at-most : (b : Bool) → bitNumber b ≤ 1

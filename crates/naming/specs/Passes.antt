@@ -9,7 +9,8 @@ use native.Mathlib.Omega.{arith}
 use lib.Dec.{lit<}
 use lib.ListN.{length, take, drop, getD, length-append}
 use lib.Seq.{take-at, drop-at, take-take}
-use Rattle.bits.specs.Bits.{bitsOf, bytesBits, numberOf, bits-length, number-bits}
+use Rattle.bits.specs.Bits.{bitsOf, bytesBits, numberOf}
+use Rattle.bits.specs.BitsLaws.{bits-length, number-bits}
 use Rattle.refusals.specs.Refusals.{accepted}
 use Rattle.commands.specs.Commands.{searchRom, alarmSearch}
 use Rattle.rom.specs.Code.{codeBits, codeRefusal}

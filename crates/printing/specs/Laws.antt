@@ -13,10 +13,11 @@ use lib.Pow.{pow-add}
 use lib.Seq.{getD-append-add}
 use Rattle.lists.specs.Choice.{if_then_else_}
 use Rattle.lists.specs.Fold.{all}
-use Rattle.lists.specs.Laid.{laid, laid-length, laid-store, laid-read}
+use Rattle.lists.specs.Laid.{laid}
+use Rattle.lists.specs.LaidLaws.{laid-length, laid-store, laid-read, laid-then}
 use Rattle.refusals.specs.Refusals.{accepted, noRoom, notHex, malformed}
-use Rattle.frame.specs.Hex.{isDigit, digitOf, digits, digits-length}
-use Rattle.frame.specs.Laws.{laid-then}
+use Rattle.frame.specs.Hex.{isDigit, digitOf, digits}
+use Rattle.frame.specs.HexLaws.{digits-length}
 use Rattle.frame.specs.Lines.{Line, lineFeed}
 use Rattle.frame.specs.Reading.{longest, wellFormed, frameIn, carries, refused, readDigits, readLine, answered}
 use Rattle.naming.specs.Naming.{readNamed, lineNamed}

@@ -5,20 +5,17 @@
 --     coLine S             the second read slot: the AND of their complements, 1 for nobody
 --     follow d S           those of S whose first bit is d, each without that bit; the others have gone quiet
 --     nobody S             whether S is empty
---     Each P l             P holds of each of l
---     Pairs R l            R holds of each two of l, the earlier one first
 --     Sized n S            each code of S has n bits
---     Distinct l           no two of l are the same
 --     Before c d           at the first bit in which they differ c has 0 and d has 1
 -- Assumes nothing.
 use mathlib.Core.Path.{_≡_}
-use mathlib.Core.Logic.{_≢_}
 use mathlib.Core.Bool.{Bool, true, false, not, Bool·beq}
 use mathlib.Core.List.{List, [], _∷_, _++_}
 use Prim.Native.Nat.{ℕ}
 use lib.ListN.{length}
 use Rattle.lists.specs.Choice.{if_then_else_}
 use Rattle.lists.specs.Fold.{all}
+use Rattle.lists.specs.Each.{Each}
 
 abbrev pub Code : Type 0
 Code = List Bool
@@ -47,21 +44,8 @@ abbrev pub nobody : List Code → Bool
 nobody [] = true
 nobody (c ∷ S) = false
 
--- ## What is said of a list
-
-abbrev pub Each : {A : Type 0} → (A → Type 0) → List A → Type 0
-Each P [] = Unit
-Each P (x ∷ l) = P x × Each P l
-
-abbrev pub Pairs : {A : Type 0} → (A → A → Type 0) → List A → Type 0
-Pairs R [] = Unit
-Pairs R (x ∷ l) = Each (R x) l × Pairs R l
-
 abbrev pub Sized : ℕ → List Code → Type 0
 Sized n = Each (λ c. length c ≡ n)
-
-abbrev pub Distinct : {A : Type 0} → List A → Type 0
-Distinct = Pairs (λ x y. x ≢ y)
 
 pub record Before (c d : Code) : Type 0 where
   pub common : Code
@@ -69,7 +53,3 @@ pub record Before (c d : Code) : Type 0 where
   pub right : Code
   pub is-left : c ≡ common ++ false ∷ left
   pub is-right : d ≡ common ++ true ∷ right
-
-pub each-implies : {A : Type 0} {P Q : A → Type 0} → ((x : A) → P x → Q x) → (l : List A) → Each P l → Each Q l
-each-implies f [] h = tt
-each-implies f (x ∷ l) h = (f x (h .0), each-implies f l (h .1))

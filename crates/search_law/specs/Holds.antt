@@ -5,7 +5,8 @@ use mathlib.Core.Option.{Option, none, some}
 use mathlib.Core.List.{List, [], _∷_}
 use Prim.Native.Nat.{ℕ, zero, suc}
 use Rattle.search_law.specs.Codes.{first, rest}
-use Rattle.search_law.specs.Pass.{triple, Plan, choice, on-some, found, next}
+use Rattle.search_law.specs.Pass.{triple, Plan, choice, found, next}
+use Rattle.search_law.specs.PassLaws.{on-some}
 use Rattle.search_law.specs.Wire.{Bus, Pass, passed, withTriple, Search, unanswered, withCode, slots, triplets, wirePass, searchFrom, wireSearch}
 
 module _ (B : Bus) (Q : B .Devices → Type 0) (by-slot : (x : Bool) (ds : B .Devices) → Q ds → Q (B .after x ds)) where

@@ -8,8 +8,10 @@ use mathlib.Core.List.{List, [], _∷_, _++_}
 use Prim.Native.Nat.{ℕ, zero, suc, _+_, _*_}
 use native.Mathlib.Omega.{arith}
 use lib.ListN.{length, length-append}
-use Rattle.search_law.specs.Codes.{Code, first, rest, Each, Sized}
-use Rattle.search_law.specs.Pass.{Triple, triple, Plan, choice, on-some, never, found}
+use Rattle.search_law.specs.Codes.{Code, first, rest, Sized}
+use Rattle.lists.specs.Each.{Each}
+use Rattle.search_law.specs.Pass.{Triple, triple, Plan, choice, found}
+use Rattle.search_law.specs.PassLaws.{on-some, never}
 use Rattle.search_law.specs.Wire.{Bus, Run, run, Pass, passed, withTriple, tripleOffers, passOffers, slots, passes, triplets, wirePass}
 
 -- A list that was made longer at its front.

@@ -10,8 +10,10 @@ use mathlib.Core.List.{List, [], _∷_, _++_, map}
 use Prim.Native.Nat.{ℕ, zero, suc, _+_, _<_}
 use native.Mathlib.Omega.{arith}
 use lib.ListN.{length}
-use Rattle.search_law.specs.Codes.{first, rest, Each}
-use Rattle.search_law.specs.Pass.{triple, Plan, choice, on-some, found, next}
+use Rattle.search_law.specs.Codes.{first, rest}
+use Rattle.lists.specs.Each.{Each}
+use Rattle.search_law.specs.Pass.{triple, Plan, choice, found, next}
+use Rattle.search_law.specs.PassLaws.{on-some}
 use Rattle.search_law.specs.Paths.{agrees}
 use Rattle.search_law.specs.Wire.{Bus, Pass, passed, withTriple, Search, unanswered, withCode, slots, triplets, wirePass, searchFrom, wireSearch}
 use Rattle.search_law.specs.Searchers.{Model, Carries, Takes, Searchers}

@@ -10,7 +10,8 @@ use Prim.Native.Nat.{ℕ, zero, suc}
 use Rattle.lists.specs.Fold.{all}
 use Rattle.search_law.specs.Codes.{Code, line, coLine, follow, nobody}
 use Rattle.search_law.specs.Pass.{Triple, triple, Plan, choice, pass, found, departed, next}
-use Rattle.search_law.specs.Listing.{inOrder, order-nobody}
+use Rattle.search_law.specs.Listing.{inOrder}
+use Rattle.search_law.specs.ListingLaws.{order-nobody}
 
 pub data Lists (n : ℕ) (S : List Code) : Option Plan → List Code → Type 0 where
   end : Lists n S none []

@@ -11,8 +11,11 @@ use Prim.Native.Nat.{ℕ, zero, suc, _+_, _<_}
 use native.Mathlib.Omega.{arith}
 use lib.ListN.{length, length-append}
 use Rattle.lists.specs.Fold.{all}
-use Rattle.search_law.specs.Codes.{first, rest, line, coLine, follow, Each, each-implies}
-use Rattle.search_law.specs.Pass.{Triple, triple, Plan, choice, on-both, never, pass}
+use Rattle.search_law.specs.Codes.{first, rest, line, coLine, follow}
+use Rattle.lists.specs.EachLaws.{each-implies}
+use Rattle.lists.specs.Each.{Each}
+use Rattle.search_law.specs.Pass.{Triple, triple, Plan, choice, pass}
+use Rattle.search_law.specs.PassLaws.{on-both, never}
 use Rattle.search_law.specs.Paths.{onPath, path-nil, agrees-nil, path-snoc}
 use Rattle.search_law.specs.Wire.{Bus, Pass, passed, withTriple, slots, triplets, wirePass}
 use Rattle.search_law.specs.Issued.{longer}

@@ -7,12 +7,10 @@
 --     found ts            the code of a pass: the bits sent
 --     next ts             the plan of the next pass: the bits sent before the last conflict taken at 0, then 1; none without such a conflict
 -- Assumes nothing.
-use mathlib.Core.Path.{_≡_}
 use mathlib.Core.Bool.{Bool, true, false, not, _||_}
 use mathlib.Core.Option.{Option, none, some, Option·map}
 use mathlib.Core.List.{List, [], _∷_}
 use Prim.Native.Nat.{ℕ, zero, suc}
-use native.Mathlib.Omega.{arith}
 use Rattle.lists.specs.Choice.{if_then_else_}
 use Rattle.search_law.specs.Codes.{Code, first, rest, line, coLine, follow}
 
@@ -37,19 +35,6 @@ choice true true w = none
 abbrev pub onSome : {A R : Type 0} → Option A → R → (A → R) → R
 onSome none r f = r
 onSome (some x) r f = f x
-
--- What holds of each way on from an answer, of one result and of two that go by the same answer.
-pub on-some : {A R : Type 0} (Q : R → Type 0) (o : Option A) (r : R) (f : A → R) → Q r → ((x : A) → Q (f x)) → Q (onSome o r f)
-on-some Q none r f h k = h
-on-some Q (some x) r f h k = k x
-
-pub on-both : {A R T : Type 0} (Q : R → T → Type 0) (o : Option A) (r : R) (f : A → R) (t : T) (g : A → T) → Q r t → ((x : A) → Q (f x) (g x))
-    → Q (onSome o r f) (onSome o t g)
-on-both Q none r f t g h k = h
-on-both Q (some x) r f t g h k = k x
-
-pub never : {A : Type 0} {x : A} → none ≡ some x → ⊥
-never e = let z : _≡_ {A = ℕ} 0 1 = cc in omega arith
 
 unfoldable pub pass : ℕ → Plan → List Code → Option (List Triple)
 pass zero plan S = some []

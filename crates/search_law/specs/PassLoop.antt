@@ -17,7 +17,8 @@ use lib.ListN.{getD, drop}
 use Rattle.lists.specs.Choice.{if_then_else_}
 use Rattle.bits.specs.Bits.{bitNumber, numberOf}
 use Rattle.search_law.specs.Codes.{rest}
-use Rattle.search_law.specs.Pass.{Triple, triple, Plan, choice, onSome, on-both, never, found, tookZero}
+use Rattle.search_law.specs.Pass.{Triple, triple, Plan, choice, onSome, found, tookZero}
+use Rattle.search_law.specs.PassLaws.{on-both, never}
 use Rattle.search_law.specs.Paths.{first-drop}
 use Rattle.search_law.specs.Wire.{Bus, Pass, passed, withTriple, slots, triplets, wirePass}
 use Rattle.search_law.specs.Issued.{longer}

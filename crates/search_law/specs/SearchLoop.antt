@@ -17,10 +17,12 @@ use lib.ListN.{length, getD, take}
 use Rattle.lists.specs.Choice.{if_then_else_}
 use Rattle.bits.specs.Bits.{numberOf}
 use Rattle.search_law.specs.Codes.{first, rest}
-use Rattle.search_law.specs.Pass.{Triple, triple, Plan, choice, onSome, on-some, never, found, next}
+use Rattle.search_law.specs.Pass.{Triple, triple, Plan, choice, onSome, found, next}
+use Rattle.search_law.specs.PassLaws.{on-some, never}
 use Rattle.search_law.specs.Wire.{Bus, Pass, passed, withTriple, Search, searched, unanswered, withCode, triplets, wirePass, searchFrom, wireSearch}
 use Rattle.search_law.specs.Issued.{longer}
-use Rattle.search_law.specs.Departure.{takes, lastFrom, planOf, takes-plan, takes-first, next-plan}
+use Rattle.search_law.specs.Departure.{takes, lastFrom, planOf}
+use Rattle.search_law.specs.DepartureLaws.{takes-plan, takes-first, next-plan}
 use Rattle.search_law.specs.PassLoop.{Walk, if-true, if-false, answers, loopPass, SamePass, loop-pass}
 
 pub record Sweep (D : Type 0) : Type 0 where

@@ -6,7 +6,6 @@
 --     Takes M P bs d      d offers 1 at each of the bits bs that it hears, and then P holds of it
 --     Searchers M command n    the laws, for codes of n bits
 --     participants Z ds   the codes of those devices that take part
---     those p l           those of l that pass the test p
 -- Assumes nothing.
 use mathlib.Core.Path.{_≡_, refl}
 use mathlib.Core.Bool.{Bool, true, false, not, _&&_, cond, Bool·beq}
@@ -70,23 +69,3 @@ pub record Searchers (M : Model) (command : List Bool) (n : ℕ) : Type 1 where
 unfoldable pub participants : {M : Model} {command : List Bool} {n : ℕ} → Searchers M command n → List (M .Dev) → List Code
 participants Z [] = []
 participants Z (d ∷ ds) = if Z .joins d then Z .code d ∷ participants Z ds else participants Z ds
-
-unfoldable pub those : {A : Type 0} → (A → Bool) → List A → List A
-those p [] = []
-those p (x ∷ l) = if p x then x ∷ those p l else those p l
-
-pub those-all : {A : Type 0} (p : A → Bool) → ((x : A) → p x ≡ true) → (l : List A) → those p l ≡ l
-unfolding those
-those-all p h [] = refl
-those-all p h (x ∷ l) = let i = those-all p h l in rw (h x, i)
-
-pub participants-those : {M : Model} {command : List Bool} {n : ℕ} (Z : Searchers M command n) (ds : List (M .Dev))
-    → participants Z ds ≡ map (Z .code) (those (Z .joins) ds)
-unfolding participants those
-participants-those Z [] = refl
-participants-those Z (d ∷ ds) = let i = participants-those Z ds in rw i (by-test (Z .joins d))
-  where
-    by-test : (t : Bool) → (if t then Z .code d ∷ map (Z .code) (those (Z .joins) ds) else map (Z .code) (those (Z .joins) ds))
-        ≡ map (Z .code) (if t then d ∷ those (Z .joins) ds else those (Z .joins) ds)
-    by-test true = refl
-    by-test false = refl

@@ -11,7 +11,8 @@ use Prim.Native.Nat.{ℕ, suc, _<_}
 use lib.ListN.{length, getD}
 use Rattle.lists.specs.Choice.{if_then_else_}
 use Rattle.lists.specs.Fold.{all}
-use Rattle.search_law.specs.Codes.{Code, line, coLine, Each}
+use Rattle.search_law.specs.Codes.{Code, line, coLine}
+use Rattle.lists.specs.Each.{Each}
 use Rattle.search_law.specs.Paths.{agrees, onPath, agrees-snoc, if-and, all-if, line-path, co-line-path}
 use Rattle.search_law.specs.Wire.{Bus}
 use Rattle.search_law.specs.Searchers.{Model, Carries, Takes, Searchers, participants}

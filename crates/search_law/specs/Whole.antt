@@ -11,7 +11,8 @@ use Prim.Native.Nat.{ℕ, zero, suc, _+_}
 use native.Mathlib.Omega.{arith}
 use lib.ListN.{length, length-append}
 use Rattle.search_law.specs.Codes.{Code, first, rest}
-use Rattle.search_law.specs.Pass.{Triple, triple, Plan, choice, onSome, never, found, next}
+use Rattle.search_law.specs.Pass.{Triple, triple, Plan, choice, onSome, found, next}
+use Rattle.search_law.specs.PassLaws.{never}
 use Rattle.search_law.specs.Wire.{Bus, Run, run, Passes, ran, Pass, passed, withTriple, Search, searched, unanswered, withCode, passOffers, slots, passes, triplets, wirePass, searchFrom}
 use Rattle.search_law.specs.Issued.{slots-append, slots-length, pass-issued, runOf}
 

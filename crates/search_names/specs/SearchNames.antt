@@ -11,24 +11,28 @@ use native.Mathlib.Omega.{arith}
 use borrow.Author.Tests.{eqb-true, lt-ltb}
 use lib.Dec.{eqb, lit≤}
 use lib.ListN.{length, length-append}
-use Rattle.bits.specs.Bits.{bitsOf, numberOf, bits-length, number-bits}
+use Rattle.bits.specs.Bits.{bitsOf, numberOf}
+use Rattle.bits.specs.BitsLaws.{bits-length, number-bits}
 use Rattle.commands.specs.Commands.{searchRom, alarmSearch}
 use Rattle.refusals.specs.Refusals.{accepted}
 use Rattle.rom.specs.Code.{codeBits, codeRefusal, sound}
 use Rattle.frame.specs.declared.Frame.{Frame}
-use Rattle.frame.specs.Frames.{Recorded, recorded-all}
+use Rattle.frame.specs.Frames.{Recorded}
+use Rattle.frame.specs.FramesLaws.{recorded-all}
 use Rattle.naming.specs.declared.Name.{Name}
 use Rattle.naming.specs.declared.Name.the-variants.{Search, Alarm}
 use Rattle.naming.specs.Naming.{named, tripleAllowed, triplesAllowed, thirds}
 use Rattle.naming.specs.Passes.{lists, Listing, search-named, alarm-named}
-use Rattle.search_law.specs.Codes.{Code, Each}
-use Rattle.search_law.specs.Complete.{allowed, PassShown, Along, Complete}
-use Rattle.search_law.specs.Listing.{each-perm}
+use Rattle.search_law.specs.Codes.{Code}
+use Rattle.lists.specs.Each.{Each, Along}
+use Rattle.search_law.specs.Complete.{allowed, PassShown, Complete}
+use Rattle.lists.specs.EachLaws.{each-perm}
 use Rattle.search_law.specs.Numbers.{Below}
 use Rattle.search_law.specs.OnTheWire.{shown}
 use Rattle.search_law.specs.Pass.{Triple, triple, found}
 use Rattle.bench.specs.Bench.{live, free}
-use Rattle.bench.specs.Sound.{codesOf, BenchSound, codes-count}
+use Rattle.bench.specs.Sound.{codesOf, BenchSound}
+use Rattle.bench.specs.SoundLaws.{codes-count}
 use Rattle.bench.specs.declared.Bench.{Bench}
 use Rattle.searching.specs.OnTheBench as bench
 use Rattle.searching.specs.OnTheBench.{flaggedCodes}

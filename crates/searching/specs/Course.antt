@@ -12,7 +12,8 @@ use Prim.Native.Nat.{ℕ, zero, suc, _+_, _<_}
 use native.Mathlib.Omega.{arith}
 use lib.ListN.{length}
 use Rattle.lists.specs.Fold.{all}
-use Rattle.search_law.specs.Codes.{first, rest, Each}
+use Rattle.search_law.specs.Codes.{first, rest}
+use Rattle.lists.specs.Each.{Each}
 use Rattle.search_law.specs.Pass.{Triple, triple, Plan, choice, onSome, found, next}
 use Rattle.search_law.specs.Paths.{agrees}
 use Rattle.search_law.specs.Wire.{Bus, Pass, passed, withTriple, unanswered, withCode, slots, triplets, wirePass, searchFrom, wireSearch}

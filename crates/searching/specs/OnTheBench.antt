@@ -26,12 +26,15 @@ use lib.ListN.{length, length-map}
 use Rattle.lists.specs.Choice.{if_then_else_}
 use Rattle.lists.specs.Fold.{all}
 use Rattle.bits.specs.Bits.{bitsOf}
-use Rattle.search_law.specs.Codes.{nobody, Each, Distinct}
+use Rattle.search_law.specs.Codes.{nobody}
+use Rattle.lists.specs.Each.{Each, Distinct, those}
 use Rattle.search_law.specs.Listing.{inOrder}
 use Rattle.search_law.specs.Wire.{Bus, Search, searched, slots, wireSearch}
-use Rattle.search_law.specs.Searchers.{Carries, Searchers, participants, those}
-use Rattle.search_law.specs.Complete.{Complete, swept, search-is, search-nobody}
-use Rattle.search_law.specs.Numbers.{Below, Numbered, numbers-complete, numbers-listed, bits-sized, bits-distinct}
+use Rattle.search_law.specs.Searchers.{Carries, Searchers, participants}
+use Rattle.search_law.specs.Complete.{Complete, swept}
+use Rattle.search_law.specs.CompleteLaws.{search-is, search-nobody}
+use Rattle.search_law.specs.Numbers.{Below, Numbered}
+use Rattle.search_law.specs.NumbersLaws.{numbers-complete, numbers-listed, bits-sized, bits-distinct}
 use Rattle.search_law.specs.Keeps.{Keeps, search-keeps as keeps-search}
 use Rattle.search_law.specs.Holds.{search-holds}
 use Rattle.search_law.specs.SearchLoop.{SameSearch, loopSearch, loop-search}
@@ -42,7 +45,8 @@ use Rattle.device.specs.declared.Device.{Device}
 use Rattle.bench.specs.Bench.{live, holdsWire, free}
 use Rattle.bench.specs.Laws.{line-live, heard-live, heard-count, restarted-live, restarted-count, free-live, slot-accepted, reset-accepted}
 use Rattle.bench.specs.Slot.{lineOf, heard, slotted, restarted, resetDone}
-use Rattle.bench.specs.Sound.{codesOf, BenchSound, heard-sound, restarted-sound}
+use Rattle.bench.specs.Sound.{codesOf, BenchSound}
+use Rattle.bench.specs.SoundLaws.{heard-sound, restarted-sound}
 use Rattle.bench.specs.declared.Bench.{Bench}
 use Rattle.searching.specs.Course.{Course, search-same}
 use Rattle.searching.specs.Thermometers.{thermometers, searchBits, alarmBits, unstaged, Moving, numbersOf, everybody, everybody-keeps, everybody-course, everybody-codes, flagged, flagged-keeps, flagged-course, flagged-codes}

@@ -15,10 +15,13 @@ use borrow.Author.Tests.{lt-ltb, ltb-false, ltb-true}
 use lib.Dec.{ltb}
 use lib.ListN.{getD}
 use Rattle.lists.specs.Choice.{if_then_else_}
-use Rattle.bits.specs.Bits.{bitAt, bitsOf, bits-at}
+use Rattle.bits.specs.Bits.{bitAt, bitsOf}
+use Rattle.bits.specs.BitsLaws.{bits-at}
 use Rattle.commands.specs.Commands.{searchRom, alarmSearch}
 use Rattle.search_law.specs.Codes.{Code}
-use Rattle.search_law.specs.Searchers.{Model, Takes, Searchers, participants, participants-those, those, those-all}
+use Rattle.search_law.specs.Searchers.{Model, Takes, Searchers, participants}
+use Rattle.search_law.specs.SearchersLaws.{participants-those, those-all}
+use Rattle.lists.specs.Each.{those}
 use Rattle.search_law.specs.Keeps.{Keeps}
 use Rattle.device.specs.Hear.{awaitFunction, afterBit, hearOf}
 use Rattle.device.specs.Laws.{onlyMoves, hear-code, hear-alarm, hear-only-stage, quiet-stays, quiet-offers}

@@ -1,2 +1,4 @@
 pub mod Rounding
+pub mod RoundingLaws
 pub mod Complement
+pub mod ComplementLaws

@@ -9,10 +9,10 @@ use native.Mathlib.Omega.{arith}
 use borrow.Author.Tests.{le-leb, lt-leb}
 use lib.ListN.{length, take, drop, length-append, length-take, length-drop, drop-of-length-le}
 use lib.Seq.{take-all}
-use Rattle.lists.specs.Laid.{laid, laid-length}
+use Rattle.lists.specs.Laid.{laid}
+use Rattle.lists.specs.LaidLaws.{laid-length, laid-then}
 use Rattle.refusals.specs.Refusals.{accepted, noRoom}
 use Rattle.frame.specs.declared.Written.{Written}
-use Rattle.frame.specs.Laws.{laid-then}
 use Rattle.frame.specs.Lines.{Line, linesOf}
 use Rattle.frame.specs.Reading.{width}
 use Rattle.printing.specs.Printing.{printedLine, layAnswer, layLeaves}

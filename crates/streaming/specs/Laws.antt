@@ -11,15 +11,18 @@ use lib.ListN.{length, take, drop, getD, length-append, length-take, length-drop
 use lib.Seq.{take-all, getD-append-add, getD-drop, getD-take, length-take-le}
 use Rattle.lists.specs.Choice.{if_then_else_}
 use Rattle.lists.specs.Fold.{all}
-use Rattle.lists.specs.Laid.{laid, laid-none, laid-more, laid-length}
+use Rattle.lists.specs.Laid.{laid}
+use Rattle.lists.specs.LaidLaws.{laid-none, laid-more, laid-length}
 use Rattle.refusals.specs.Refusals.{accepted, notHex, malformed}
 use Rattle.frame.specs.declared.Written.{Written}
 use Rattle.frame.specs.Hex.{isDigit, digitOf}
 use Rattle.frame.specs.Frames.{bytesFor, lineable}
-use Rattle.frame.specs.Laws.{and-left, and-right}
-use Rattle.frame.specs.Lines.{Line, lineFeed, linesOf, feedAt, firstLine, feed-within}
-use Rattle.frame.specs.Reading.{Reading, longest, width, presenceIn, countIn, wellFormed, frameIn, carries, refused, readDigits, readLine, read-accepted}
-use Rattle.frame.specs.Recording.{lines-next, lines-done}
+use Rattle.lists.specs.ChoiceLaws.{and-left, and-right}
+use Rattle.frame.specs.Lines.{Line, lineFeed, linesOf, feedAt, firstLine}
+use Rattle.frame.specs.LinesLaws.{feed-within}
+use Rattle.frame.specs.Reading.{Reading, longest, width, presenceIn, countIn, wellFormed, frameIn, carries, refused, readDigits, readLine}
+use Rattle.frame.specs.ReadingLaws.{read-accepted}
+use Rattle.frame.specs.RecordingLaws.{lines-next, lines-done}
 use Rattle.naming.specs.Naming.{named, refusedName, readNamed}
 use Rattle.naming.specs.declared.Name.the-variants.{Other}
 use Rattle.printing.specs.Printing.{word, refusedWord, printedName, printedLine, layAnswer, layLeaves}

@@ -1,6 +1,12 @@
 pub mod Range
+pub mod RangeLaws
 pub mod Units
+pub mod UnitsLaws
 pub mod Measured
+pub mod MeasuredLaws
 pub mod Alarm
+pub mod AlarmLaws
 pub mod Register
+pub mod RegisterLaws
 pub mod Degrees
+pub mod DegreesLaws

@@ -4,22 +4,17 @@
 --     roundedOf count configuration           the count rounded down to a multiple of that step
 --     measuredOf unit count configuration     the stored reading: rounded sixteenths, or the half degrees at or below the count
 -- The laws cite one law of rounding down, which holds for any step. Assumes nothing.
-use Prim.Native.Nat.{ℕ, _*_, _<_}
-use mathlib.Core.Path.{_≡_, refl, sym}
-use mathlib.Core.Bool.{Bool, true, false}
-use lib.Dec.{eqb, lit<}
+use Prim.Native.Nat.{ℕ}
+use lib.Dec.{eqb}
 use Rattle.family.specs.Configuration.{resolution}
 use Rattle.family.specs.declared.Unit.{Unit}
 use Rattle.family.specs.declared.Unit.the-variants.{Sixteenths as inSixteenths, HalfDegrees as inHalfDegrees}
 use Rattle.lists.specs.Choice.{if_then_else_}
-use Rattle.signed.specs.Complement.{Fits16, floor-fits, div-fits}
-use Rattle.signed.specs.Rounding.{floorTo, floor-below, floor-near, floor-div}
+use Rattle.signed.specs.Rounding.{floorTo}
 use Rattle.temperature.specs.declared.Reading.{Reading}
 use Rattle.temperature.specs.declared.Reading.the-variants.{InSixteenths, InHalves}
 use Rattle.temperature.specs.declared.Sixteenths.{Sixteenths}
-use Rattle.temperature.specs.Range.{between-div, between-floor, highestSixteenths, inRange, lowestSixteenths}
-use Rattle.temperature.specs.Register.{countOf, readingOf, registerOf, reading-register, unitOf}
-use Rattle.temperature.specs.Units.{_atMost_, _below_, _plus_, _sixteenths, toHalfDegrees, wholeOf, whole-halves}
+use Rattle.temperature.specs.Units.{toHalfDegrees}
 
 abbrev pub stepAt : ℕ → ℕ
 stepAt r = if eqb r 0 then 8 else if eqb r 1 then 4 else if eqb r 2 then 2 else 1
@@ -33,84 +28,3 @@ roundedOf count configuration = record { 0 = floorTo (stepOf configuration) (cou
 abbrev pub measuredOf : Unit → Sixteenths → ℕ → Reading
 measuredOf inSixteenths count configuration = InSixteenths (roundedOf count configuration)
 measuredOf inHalfDegrees count configuration = InHalves (toHalfDegrees count)
-
--- ## The four steps
-
--- what holds of 8, 4, 2 and 1 holds of every step
-pub each-step : (P : ℕ → Type 0) → P 8 → P 4 → P 2 → P 1 → (configuration : ℕ) → P (stepOf configuration)
-each-step P p8 p4 p2 p1 configuration = pick (eqb r 0) (eqb r 1) (eqb r 2)
-  where
-    r : ℕ
-    r = resolution configuration
-
-    pick : (a b c : Bool) → P (if a then 8 else if b then 4 else if c then 2 else 1)
-    pick true b c = p8
-    pick false true c = p4
-    pick false false true = p2
-    pick false false false = p1
-
-step-positive : (configuration : ℕ) → 0 < stepOf configuration
-step-positive = each-step (λ s. 0 < s) (lit< tt) (lit< tt) (lit< tt) (lit< tt)
-
--- ## The stored count is at most the count, and less than a step below it
-
-pub rounded-below : (count : Sixteenths) (configuration : ℕ) → roundedOf count configuration atMost count ≡ true
-rounded-below count configuration = floor-below (stepOf configuration) (count .0) (step-positive configuration)
-
-pub rounded-near : (count : Sixteenths) (configuration : ℕ)
-    → count below roundedOf count configuration plus stepOf configuration sixteenths ≡ true
-rounded-near count configuration = floor-near (stepOf configuration) (count .0) (step-positive configuration)
-
--- ## The whole degree of what is stored is that of the count, since each step divides a degree
-
-pub whole-measured : (unit : Unit) (count : Sixteenths) (configuration : ℕ)
-    → wholeOf (measuredOf unit count configuration) ≡ wholeOf (InSixteenths count)
-whole-measured inSixteenths count configuration =
-    each-step (λ s. wholeOf (InSixteenths (record { 0 = floorTo s (count .0) })) ≡ wholeOf (InSixteenths count))
-    (whole 8 2 (lit< tt) refl)
-    (whole 4 4 (lit< tt) refl)
-    (whole 2 8 (lit< tt) refl)
-    (whole 1 16 (lit< tt) refl)
-    configuration
-  where
-    whole : (s t : ℕ) → 0 < s → s * t ≡ 16 → wholeOf (InSixteenths (record { 0 = floorTo s (count .0) })) ≡ wholeOf (InSixteenths count)
-    whole s t h e = rw (sym e, floor-div (count .0) s t h)
-whole-measured inHalfDegrees count configuration = whole-halves count
-
--- ## A count in range is stored as a reading in range
-
-pub measured-range : (unit : Unit) (count : Sixteenths) (configuration : ℕ)
-    → inRange (InSixteenths count) ≡ true → inRange (measuredOf unit count configuration) ≡ true
-unfolding floorTo
-measured-range inSixteenths count configuration h =
-    each-step (λ s. inRange (InSixteenths (record { 0 = floorTo s (count .0) })) ≡ true)
-    (between-floor 8 lowestSixteenths highestSixteenths (count .0) (lit< tt) refl h)
-    (between-floor 4 lowestSixteenths highestSixteenths (count .0) (lit< tt) refl h)
-    (between-floor 2 lowestSixteenths highestSixteenths (count .0) (lit< tt) refl h)
-    (between-floor 1 lowestSixteenths highestSixteenths (count .0) (lit< tt) refl h)
-    configuration
-measured-range inHalfDegrees count configuration h = between-div 8 lowestSixteenths highestSixteenths (count .0) (lit< tt) h
-
--- ## What is stored fits the register, which gives it back
-
-pub measured-fits : (unit : Unit) (count : Sixteenths) (configuration : ℕ)
-    → Fits16 (count .0) → Fits16 (countOf (measuredOf unit count configuration))
-measured-fits inSixteenths count configuration f =
-    each-step (λ s. Fits16 (floorTo s (count .0)))
-    (floor-fits (count .0) 8 4096 (lit< tt) refl f)
-    (floor-fits (count .0) 4 8192 (lit< tt) refl f)
-    (floor-fits (count .0) 2 16384 (lit< tt) refl f)
-    (floor-fits (count .0) 1 32768 (lit< tt) refl f)
-    configuration
-measured-fits inHalfDegrees count configuration f = div-fits (count .0) 8 f
-
-pub unit-measured : (unit : Unit) (count : Sixteenths) (configuration : ℕ) → unitOf (measuredOf unit count configuration) ≡ unit
-unit-measured inSixteenths count configuration = refl
-unit-measured inHalfDegrees count configuration = refl
-
-pub measured-read : (unit : Unit) (count : Sixteenths) (configuration : ℕ) → Fits16 (count .0)
-    → readingOf unit (registerOf (measuredOf unit count configuration) .low) (registerOf (measuredOf unit count configuration) .high)
-    ≡ measuredOf unit count configuration
-measured-read unit count configuration f =
-    rw (unit-measured unit count configuration) at
-    (reading-register (measuredOf unit count configuration) (measured-fits unit count configuration f))

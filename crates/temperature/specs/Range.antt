@@ -2,14 +2,9 @@
 --     between low high z   whether z is from low to high, both included
 --     inRange r            whether r is from -55 to +125 degrees: -110 to 250 half degrees, or -880 to 2000 sixteenths
 -- `leZ a b` is the test a ≤ b. Assumes nothing.
-use Prim.Native.Nat.{ℕ, _<_, _≤_}
-use mathlib.Core.Path.{_≡_, refl}
-use mathlib.Core.Bool.{Bool, true, false, false≢true, _&&_}
-use native.Mathlib.Omega.{arith}
-use borrow.Author.Tests.{leb-true}
-use lib.IntN.{ℤ, pos, negsuc, negℤ}
-use lib.Signed.{leZ, mag}
-use Rattle.signed.specs.Rounding.{floorDiv, floorTo, floor-below, floor-mono, div-mono, le-trans}
+use mathlib.Core.Bool.{Bool, _&&_}
+use lib.IntN.{ℤ, pos, negℤ}
+use lib.Signed.{leZ}
 use Rattle.temperature.specs.declared.Reading.{Reading}
 use Rattle.temperature.specs.declared.Reading.the-variants.{InSixteenths, InHalves}
 
@@ -33,33 +28,3 @@ highestHalves = pos 250
 abbrev pub inRange : Reading → Bool
 inRange (InSixteenths c) = between lowestSixteenths highestSixteenths (c .0)
 inRange (InHalves h) = between lowestHalves highestHalves (h .0)
-
--- ## A range as its two bounds
-
-both : (s t : Bool) → (s && t) ≡ true → (s ≡ true) × (t ≡ true)
-both true t e = (refl, e)
-both false t e = absurd (false≢true e)
-
-pub between-bounds : (low high z : ℤ) → between low high z ≡ true → (leZ low z ≡ true) × (leZ z high ≡ true)
-between-bounds low high z e = both (leZ low z) (leZ z high) e
-
-pub between-size : (a b n : ℕ) (z : ℤ) → a ≤ n → b ≤ n → between (negsuc a) (pos b) z ≡ true → mag z ≤ n
-between-size a b n (pos k) l m e = let h = leb-true k b e in omega arith
-between-size a b n (negsuc k) l m e =
-    let h = leb-true k a (between-bounds (negsuc a) (pos b) (negsuc k) e .0) in omega arith
-
--- ## Rounding down keeps a range whose low end is a multiple of the step, and moves it with its ends
-
-pub between-floor : (s : ℕ) (low high z : ℤ) → 0 < s → floorTo s low ≡ low → between low high z ≡ true
-    → between low high (floorTo s z) ≡ true
-between-floor s low high z p multiple e =
-    let b = between-bounds low high z e in
-    let l : leZ low (floorTo s z) ≡ true = rw multiple at (floor-mono low z s p (b .0)) in
-    let h = le-trans (floorTo s z) z high (floor-below s z p) (b .1) in
-    rw (l, h)
-
-pub between-div : (s : ℕ) (low high z : ℤ) → 0 < s → between low high z ≡ true
-    → between (floorDiv low s) (floorDiv high s) (floorDiv z s) ≡ true
-between-div s low high z p e =
-    let b = between-bounds low high z e in
-    rw (div-mono low z s p (b .0), div-mono z high s p (b .1))

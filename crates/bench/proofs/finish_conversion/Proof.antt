@@ -1,7 +1,7 @@
 -- The code is there, or it is refused. Assumes nothing.
 use mathlib.Core.Path.{_≡_, _∙_, sym}
 use lib.ListN.{length, length-map}
-use Rattle.bench.specs.Bench.{place-within}
+use Rattle.bench.specs.BenchLaws.{place-within}
 use Rattle.bench.specs.Calls.{conversionFinished}
 use borrow.Author.Needs.{needs}
 use Rattle.bench.proofs.finish_conversion.Statement.{statement}

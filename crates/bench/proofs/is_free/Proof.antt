@@ -6,7 +6,7 @@ use mathlib.Core.Path.{_≡_, _∙_, sym, ap, refl}
 use native.Mathlib.Omega.{arith}
 use borrow.Author.Needs.{needs}
 use lib.ListN.{length, length-map, take}
-use Rattle.lists.specs.First.{onward, all-onward, all-stopped, all-skip, all-passed}
+use Rattle.lists.specs.FirstLaws.{onward, all-onward, all-stopped, all-skip, all-passed}
 use Rattle.lists.specs.Fold.{all}
 use Rattle.bench.specs.Bench.{holdsWire, free}
 use Rattle.bench.proofs.is_free.Statement.{statement}

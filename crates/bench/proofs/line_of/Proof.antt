@@ -6,7 +6,8 @@ use mathlib.Core.Path.{_≡_, _∙_}
 use native.Mathlib.Omega.{arith}
 use borrow.Author.Needs.{needs}
 use lib.ListN.{length, length-map, take}
-use Rattle.lists.specs.Fold.{fold, all-fold, fold-upto-none, fold-upto-more, fold-upto-skip, fold-upto-end}
+use Rattle.lists.specs.Fold.{fold}
+use Rattle.lists.specs.FoldLaws.{all-fold, fold-upto-none, fold-upto-more, fold-upto-skip, fold-upto-end}
 use Rattle.device.specs.Offer.{offerOf}
 use Rattle.bench.specs.Slot.{lineOf}
 use Rattle.bench.proofs.line_of.Statement.{statement}

@@ -1,7 +1,7 @@
 -- A place that was found is one of the table, and its record is the definition's. Assumes nothing.
 use mathlib.Core.Path.{_≡_, _∙_, sym}
 use lib.ListN.{length, length-map}
-use Rattle.bench.specs.Bench.{place-within}
+use Rattle.bench.specs.BenchLaws.{place-within}
 use Rattle.bench.specs.Calls.{looked}
 use borrow.Author.Needs.{needs}
 use Rattle.bench.proofs.look.Statement.{statement}

@@ -5,7 +5,8 @@ use mathlib.Core.Path.{_≡_, _∙_, ap}
 use native.Mathlib.Omega.{arith}
 use borrow.Author.Needs.{needs}
 use lib.ListN.{length, length-map}
-use Rattle.lists.specs.Front.{mapFront, upto-none, upto-more, upto-skip, upto-end}
+use Rattle.lists.specs.Front.{mapFront}
+use Rattle.lists.specs.FrontLaws.{upto-none, upto-more, upto-skip, upto-end}
 use Rattle.device.specs.Power.{resetOf}
 use Rattle.bench.specs.Slot.{restarted}
 use Rattle.bench.proofs.restart_all.Statement.{statement}

@@ -1,6 +1,6 @@
 -- A comparison with a known bit is that bit or its complement. Assumes nothing.
 use borrow.Author.Needs.{needs}
-use Rattle.lists.specs.Choice.{beq-true, beq-false}
+use Rattle.lists.specs.ChoiceLaws.{beq-true, beq-false}
 use Rattle.device.proofs.same_bit.Statement.{statement}
 use Rattle.device.proofs.same_bit.Tie as tie
 

@@ -1,5 +1,6 @@
 -- No more bytes than the family has settings; a byte within them is stored, and the next is awaited or all are there. Assumes nothing.
-use Rattle.device.specs.Hear.{storeSetting, settings-few}
+use Rattle.device.specs.Hear.{storeSetting}
+use Rattle.device.specs.HearLaws.{settings-few}
 use borrow.Author.Tests.{lt-ltb, le-ltb}
 use native.Mathlib.Omega.{arith}
 use borrow.Author.Needs.{needs}

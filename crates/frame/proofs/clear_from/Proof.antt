@@ -7,7 +7,8 @@ use Prim.Native.Nat.{_+_, _/_, _%_, _^_, _<_, _-_}
 use mathlib.Core.Path.{_≡_, refl, sym, _∙_}
 use native.Mathlib.Omega.{arith}
 use lib.ListN.{length, drop, getD}
-use Rattle.frame.specs.Frames.{clearFrom, clear-start, clear-step, clear-end}
+use Rattle.frame.specs.Frames.{clearFrom}
+use Rattle.frame.specs.FramesLaws.{clear-start, clear-step, clear-end}
 use borrow.Author.Needs.{needs}
 use Rattle.frame.proofs.clear_from.Statement.{statement}
 use Rattle.frame.proofs.clear_from.Tie as tie

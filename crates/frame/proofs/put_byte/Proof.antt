@@ -5,7 +5,7 @@ use mathlib.Core.List.{[], _∷_}
 use native.Mathlib.Omega.{arith}
 use native.Mathlib.Numerals.{add-one}
 use lib.ListN.{length-set}
-use Rattle.lists.specs.Laid.{laid-sets}
+use Rattle.lists.specs.LaidLaws.{laid-sets}
 use Rattle.frame.specs.Hex.{digitOf, digits}
 use borrow.Author.Needs.{needs}
 use Rattle.frame.proofs.put_byte.Statement.{statement}

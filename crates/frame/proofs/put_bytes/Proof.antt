@@ -4,8 +4,10 @@ use mathlib.Core.Path.{_≡_, refl, _∙_}
 use native.Mathlib.Omega.{arith}
 use lib.ListN.{length, take}
 use lib.Seq.{take-length}
-use Rattle.lists.specs.Laid.{laid, laid-none}
-use Rattle.frame.specs.Hex.{hexOf, laid-hex}
+use Rattle.lists.specs.Laid.{laid}
+use Rattle.lists.specs.LaidLaws.{laid-none}
+use Rattle.frame.specs.Hex.{hexOf}
+use Rattle.frame.specs.HexLaws.{laid-hex}
 use borrow.Author.Needs.{needs}
 use Rattle.frame.proofs.put_bytes.Statement.{statement}
 use Rattle.frame.proofs.put_bytes.Tie as tie

@@ -1,6 +1,6 @@
 -- Three bytes laid one behind the other are the head. Assumes nothing.
 use denote.Ref.{now}
-use Rattle.frame.specs.Writing.{head-laid}
+use Rattle.frame.specs.WritingLaws.{head-laid}
 use borrow.Author.Needs.{needs}
 use Rattle.frame.proofs.put_head.Statement.{statement}
 use Rattle.frame.proofs.put_head.Tie as tie

@@ -6,7 +6,8 @@ use denote.Ref.{now}
 use lib.ListN.{length, length-map, length-set}
 use lib.Seq.{length-take-le}
 use Rattle.frame.specs.Frames.{bytesFor}
-use Rattle.frame.specs.Writing.{slotBytes, line-laid}
+use Rattle.frame.specs.Writing.{slotBytes}
+use Rattle.frame.specs.WritingLaws.{line-laid}
 use borrow.Author.Needs.{needs}
 use Rattle.frame.proofs.put_line.Statement.{statement}
 use Rattle.frame.proofs.put_line.Tie as tie

@@ -5,8 +5,8 @@ use native.Mathlib.Omega.{arith}
 use borrow.Author.Tests.{lt-ltb, le-ltb}
 use denote.Ref.{now}
 use lib.ListN.{length, drop, length-drop}
-use Rattle.frame.specs.Lines.{feed-within}
-use Rattle.frame.specs.Recording.{read-done, read-first}
+use Rattle.frame.specs.LinesLaws.{feed-within}
+use Rattle.frame.specs.RecordingLaws.{read-done, read-first}
 use borrow.Author.Needs.{needs}
 use Rattle.frame.proofs.read_at.Statement.{statement}
 use Rattle.frame.proofs.read_at.Tie as tie

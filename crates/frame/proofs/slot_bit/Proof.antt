@@ -1,7 +1,7 @@
 -- Past the count or past the array there is no slot; else the bit of its byte. Assumes nothing.
 use lib.ListN.{length, length-map}
 use mathlib.Core.Path.{_≡_, sym}
-use Rattle.frame.specs.Frames.{slot-none, slot-past, slot-here}
+use Rattle.frame.specs.FramesLaws.{slot-none, slot-past, slot-here}
 use borrow.Author.Needs.{needs}
 use Rattle.frame.proofs.slot_bit.Statement.{statement}
 use Rattle.frame.proofs.slot_bit.Tie as tie

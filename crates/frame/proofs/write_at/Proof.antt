@@ -7,7 +7,8 @@ use borrow.Author.Tests.{not-true, not-false}
 use denote.Ref.{now}
 use lib.ListN.{length, length-map}
 use Rattle.frame.specs.Frames.{lineable}
-use Rattle.frame.specs.Writing.{fedLine, lineable-count, fed-length, write-unsound, write-short, write-done}
+use Rattle.frame.specs.Writing.{fedLine}
+use Rattle.frame.specs.WritingLaws.{lineable-count, fed-length, write-unsound, write-short, write-done}
 use borrow.Author.Needs.{needs}
 use Rattle.frame.proofs.write_at.Statement.{statement}
 use Rattle.frame.proofs.write_at.Tie as tie

@@ -6,7 +6,7 @@ use native.Mathlib.Omega.{arith}
 use denote.Ref.{now}
 use lib.ListN.{length, getD}
 use Rattle.bits.specs.Bits.{bytesBits}
-use Rattle.frame.specs.Laws.{byte-bit}
+use Rattle.bits.specs.BitsLaws.{byte-bit}
 use borrow.Author.Needs.{needs}
 use Rattle.naming.proofs.bit_at.Statement.{statement}
 use Rattle.naming.proofs.bit_at.Tie as tie

@@ -7,7 +7,7 @@ use native.Mathlib.Numerals.{add-one}
 use borrow.Author.Tests.{lt-ltb, le-ltb}
 use denote.Ref.{now}
 use lib.ListN.{length, length-set}
-use Rattle.lists.specs.Laid.{laid-sets}
+use Rattle.lists.specs.LaidLaws.{laid-sets}
 use Rattle.frame.specs.Hex.{digitOf}
 use borrow.Author.Needs.{needs}
 use Rattle.printing.proofs.put_decimal.Statement.{statement}

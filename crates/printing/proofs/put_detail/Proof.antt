@@ -5,9 +5,8 @@ use mathlib.Core.List.{_∷_}
 use native.Mathlib.Omega.{arith}
 use denote.Ref.{now}
 use lib.ListN.{length}
-use Rattle.lists.specs.Laid.{laid-none}
+use Rattle.lists.specs.LaidLaws.{laid-none, laid-then}
 use Rattle.frame.specs.Hex.{digits}
-use Rattle.frame.specs.Laws.{laid-then}
 use Rattle.printing.specs.Printing.{space}
 use Rattle.printing.specs.Laws.{spaced-length, pad-length, place-none}
 use borrow.Author.Needs.{needs}

@@ -5,9 +5,10 @@ use native.Mathlib.Omega.{arith}
 use denote.Ref.{now}
 use lib.ListN.{length, take, getD, length-set}
 use lib.Seq.{take-length}
-use Rattle.lists.specs.Laid.{laid, laid-none}
-use Rattle.frame.specs.Hex.{digitOf, digits, digits-length}
-use Rattle.frame.specs.Laws.{laid-next}
+use Rattle.lists.specs.Laid.{laid}
+use Rattle.lists.specs.LaidLaws.{laid-none, laid-next}
+use Rattle.frame.specs.Hex.{digitOf, digits}
+use Rattle.frame.specs.HexLaws.{digits-length}
 use Rattle.printing.specs.Laws.{digit-at}
 use borrow.Author.Needs.{needs}
 use Rattle.printing.proofs.put_digits.Statement.{statement}

@@ -5,9 +5,9 @@ use mathlib.Core.List.{[], _∷_}
 use native.Mathlib.Omega.{arith}
 use denote.Ref.{now}
 use lib.ListN.{length, length-set}
-use Rattle.lists.specs.Laid.{laid-sets}
-use Rattle.frame.specs.Hex.{digits, digits-length}
-use Rattle.frame.specs.Laws.{laid-then}
+use Rattle.lists.specs.LaidLaws.{laid-sets, laid-then}
+use Rattle.frame.specs.Hex.{digits}
+use Rattle.frame.specs.HexLaws.{digits-length}
 use Rattle.printing.specs.Printing.{space}
 use borrow.Author.Needs.{needs}
 use Rattle.printing.proofs.put_spaced.Statement.{statement}

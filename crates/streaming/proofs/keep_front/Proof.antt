@@ -6,8 +6,8 @@ use native.Mathlib.Omega.{arith}
 use denote.Ref.{now}
 use lib.ListN.{length, take, drop, length-set}
 use lib.Seq.{take-length}
-use Rattle.lists.specs.Laid.{laid, laid-none}
-use Rattle.frame.specs.Laws.{laid-next}
+use Rattle.lists.specs.Laid.{laid}
+use Rattle.lists.specs.LaidLaws.{laid-none, laid-next}
 use Rattle.streaming.specs.Streaming.{longestCarried}
 use Rattle.streaming.specs.Laws.{kept-length, kept-next}
 use borrow.Author.Needs.{needs}

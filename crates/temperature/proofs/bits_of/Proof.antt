@@ -8,7 +8,8 @@ use mir.Syntax.{w16, w32}
 use mir.Val.{SFits, toZ, ofZ}
 use mir.ValLaws.{toZ-ofZ, ofZ-fits}
 use native.Mathlib.Omega.{arith}
-use Rattle.signed.specs.Complement.{signed16, bits16, signed-bits, bits-below, bits-positive, bits-negative, wider}
+use Rattle.signed.specs.Complement.{signed16, bits16}
+use Rattle.signed.specs.ComplementLaws.{signed-bits, bits-below, bits-positive, bits-negative, wider}
 use Rattle.temperature.proofs.bits_of.Statement.{statement}
 use Rattle.temperature.proofs.bits_of.Tie as tie
 

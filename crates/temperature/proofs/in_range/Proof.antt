@@ -5,7 +5,8 @@ use mathlib.Core.Path.{_≡_}
 use borrow.Author.Needs.{needs}
 use lib.IntN.{ℤ}
 use lib.Signed.{leZ}
-use Rattle.signed.specs.Complement.{Fits16, signed16, bits16, signed-bits}
+use Rattle.signed.specs.Complement.{Fits16, signed16, bits16}
+use Rattle.signed.specs.ComplementLaws.{signed-bits}
 use Rattle.temperature.specs.Range.{between, highestHalves, highestSixteenths, lowestHalves, lowestSixteenths}
 use Rattle.temperature.proofs.in_range.Statement.{statement}
 use Rattle.temperature.proofs.in_range.Tie as tie

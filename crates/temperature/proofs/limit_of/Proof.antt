@@ -7,7 +7,8 @@ use lib.Dec.{lit≤}
 use lib.IntN.{pos, _-ℤ_}
 use mir.Syntax.{w8, w16}
 use mir.ValLaws.{toZ-pos, toZ-fits}
-use Rattle.signed.specs.Complement.{signed8, signed16, Fits16, signed-bits, signed-high, wider}
+use Rattle.signed.specs.Complement.{signed8, signed16, Fits16}
+use Rattle.signed.specs.ComplementLaws.{signed-bits, signed-high, wider}
 use Rattle.temperature.proofs.limit_of.Statement.{statement}
 use Rattle.temperature.proofs.limit_of.Tie as tie
 

@@ -3,7 +3,8 @@ use Prim.Native.Nat.{_+_, _*_, _<_}
 use mathlib.Core.Path.{_≡_}
 use native.Mathlib.Omega.{arith}
 use borrow.Author.Needs.{needs}
-use Rattle.signed.specs.Complement.{signed16, bits16, signed-bits, signed-fits}
+use Rattle.signed.specs.Complement.{signed16, bits16}
+use Rattle.signed.specs.ComplementLaws.{signed-bits, signed-fits}
 use Rattle.temperature.proofs.reading_of.Statement.{statement}
 use Rattle.temperature.proofs.reading_of.Tie as tie
 

@@ -8,7 +8,8 @@ use lib.IntN.{pos, _-ℤ_}
 use mir.Syntax.{w16, w32}
 use mir.Val.{SFits, toZ}
 use mir.ValLaws.{toZ-ofZ, toZ-pos, toZ-fits}
-use Rattle.signed.specs.Complement.{signed16, Fits16, signed-bits, signed-high, wider}
+use Rattle.signed.specs.Complement.{signed16, Fits16}
+use Rattle.signed.specs.ComplementLaws.{signed-bits, signed-high, wider}
 use Rattle.temperature.proofs.signed_of.Statement.{statement}
 use Rattle.temperature.proofs.signed_of.Tie as tie
 

@@ -2,9 +2,10 @@
 use mathlib.Core.Bool.{true, false}
 use mathlib.Core.Path.{_≡_, sym, _∙_}
 use borrow.Author.Needs.{needs}
-use Rattle.signed.specs.Complement.{signed-bits}
+use Rattle.signed.specs.ComplementLaws.{signed-bits}
 use Rattle.temperature.specs.Range.{inRange}
-use Rattle.temperature.specs.Units.{eightfold, eightfold-fits}
+use Rattle.temperature.specs.Units.{eightfold}
+use Rattle.temperature.specs.UnitsLaws.{eightfold-fits}
 use Rattle.temperature.specs.declared.Reading.the-variants.{InHalves}
 use Rattle.temperature.proofs.to_sixteenths.Statement.{statement}
 use Rattle.temperature.proofs.to_sixteenths.Tie as tie

@@ -1,6 +1,6 @@
 -- Field after field. Assumes nothing.
 use mathlib.Core.List.{append-assoc}
-use Rattle.console.specs.Texts.{written-more}
+use Rattle.console.specs.TextsLaws.{written-more}
 use borrow.Author.Needs.{needs}
 use Rattle.console.proofs.answers.device_line.Statement.{statement}
 use Rattle.console.proofs.answers.device_line.Tie as tie

@@ -3,7 +3,7 @@ use denote.Ref.{now}
 use lib.Dec.{lit≤}
 use lib.ListN.{length}
 use native.Mathlib.Nat.{le-of-eq}
-use Rattle.console.specs.Fields.{hex-length, hex-spells, hex-below, power-within}
+use Rattle.console.specs.FieldsLaws.{hex-length, hex-spells, hex-below, power-within}
 use borrow.Author.Needs.{needs}
 use Rattle.console.proofs.requests.byte_in.Statement.{statement}
 use Rattle.console.proofs.requests.byte_in.Tie as tie

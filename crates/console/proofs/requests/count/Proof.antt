@@ -4,7 +4,8 @@ use Prim.Native.Nat.{_+_, _≤_, _-_}
 use mathlib.Core.Path.{_≡_}
 use native.Mathlib.Omega.{arith}
 use lib.ListN.{length, drop}
-use Rattle.console.specs.Words.{wordsOf, ended-few, words-on, words-end}
+use Rattle.console.specs.Words.{wordsOf}
+use Rattle.console.specs.WordsLaws.{ended-few, words-on, words-end}
 use borrow.Author.Needs.{needs}
 use Rattle.console.proofs.requests.count.Statement.{statement}
 use Rattle.console.proofs.requests.count.Tie as tie

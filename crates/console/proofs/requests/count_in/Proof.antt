@@ -4,7 +4,7 @@ use Prim.Native.Nat.{_-_}
 use lib.ListN.{length, take, drop}
 use native.Mathlib.Omega.{arith}
 use mathlib.Core.Path.{sym, _∙_}
-use Rattle.console.specs.Fields.{negative-some, up-to-decimal, rest-up-to, rest-most, rest-count, whole-up-to, whole-most, whole-count, difference-fits, narrow-fits}
+use Rattle.console.specs.FieldsLaws.{negative-some, up-to-decimal, rest-up-to, rest-most, rest-count, whole-up-to, whole-most, whole-count, difference-fits, narrow-fits}
 use borrow.Author.Needs.{needs}
 use Rattle.console.proofs.requests.count_in.Statement.{statement}
 use Rattle.console.proofs.requests.count_in.Tie as tie

@@ -2,7 +2,7 @@
 use denote.Ref.{now}
 use lib.Dec.{lit≤}
 use lib.ListN.{length}
-use Rattle.console.specs.Fields.{decimal-spells, decimal-short, power-within}
+use Rattle.console.specs.FieldsLaws.{decimal-spells, decimal-short, power-within}
 use borrow.Author.Needs.{needs}
 use Rattle.console.proofs.requests.decimal_in.Statement.{statement}
 use Rattle.console.proofs.requests.decimal_in.Tie as tie

@@ -2,7 +2,7 @@
 use denote.Ref.{now}
 use mathlib.Core.Path.{sym, _∙_}
 use Rattle.console.specs.Words.{wordsOf}
-use Rattle.console.specs.Requests.{one-word, two-words, three-words, five-words, six-words, other-words}
+use Rattle.console.specs.RequestsLaws.{one-word, two-words, three-words, five-words, six-words, other-words}
 use borrow.Author.Needs.{needs}
 use Rattle.console.proofs.requests.in_words.Statement.{statement}
 use Rattle.console.proofs.requests.in_words.Tie as tie

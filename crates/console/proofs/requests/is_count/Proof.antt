@@ -1,7 +1,7 @@
 -- A minus stands in a word that is not empty. Assumes nothing.
 use denote.Ref.{now}
 use mathlib.Core.Path.{refl, sym, _∙_}
-use Rattle.console.specs.Fields.{negative-some, rest-whole}
+use Rattle.console.specs.FieldsLaws.{negative-some, rest-whole}
 use borrow.Author.Needs.{needs}
 use Rattle.console.proofs.requests.is_count.Statement.{statement}
 use Rattle.console.proofs.requests.is_count.Tie as tie

@@ -1,7 +1,7 @@
 -- An empty word starts with nothing. Assumes nothing.
 use denote.Ref.{now}
 use mathlib.Core.Path.{refl}
-use Rattle.console.specs.Fields.{positive-empty}
+use Rattle.console.specs.FieldsLaws.{positive-empty}
 use borrow.Author.Tests.{le-ltb, lt-ltb}
 use borrow.Author.Needs.{needs}
 use Rattle.console.proofs.requests.is_negative.Statement.{statement}

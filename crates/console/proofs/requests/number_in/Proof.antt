@@ -8,7 +8,8 @@ use lib.Dec.{lit<}
 use lib.ListN.{length, take}
 use lib.Seq.{take-length}
 use Rattle.lists.specs.Fold.{fold}
-use Rattle.console.specs.Fields.{numberIn, number-next, digit-below, digits-below, digits-within}
+use Rattle.console.specs.Fields.{numberIn}
+use Rattle.console.specs.FieldsLaws.{number-next, digit-below, digits-below, digits-within}
 use borrow.Author.Needs.{needs}
 use Rattle.console.proofs.requests.number_in.Statement.{statement}
 use Rattle.console.proofs.requests.number_in.Tie as tie

@@ -4,7 +4,8 @@ use Prim.Native.Nat.{_≤_, _<_, _-_}
 use mathlib.Core.Path.{_≡_, refl, sym, _∙_}
 use native.Mathlib.Omega.{arith}
 use lib.ListN.{length, drop}
-use Rattle.console.specs.Words.{same, same-lengths, same-on, same-not, same-past}
+use Rattle.console.specs.Words.{same}
+use Rattle.console.specs.WordsLaws.{same-lengths, same-on, same-not, same-past}
 use borrow.Author.Needs.{needs}
 use Rattle.console.proofs.requests.same.Statement.{statement}
 use Rattle.console.proofs.requests.same.Tie as tie

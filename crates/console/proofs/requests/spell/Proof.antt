@@ -6,7 +6,7 @@ use native.Mathlib.Omega.{arith}
 use borrow.Author.Tests.{lt-ltb, le-ltb}
 use lib.Dec.{ltb}
 use lib.ListN.{length, drop, getD}
-use Rattle.lists.specs.Fold.{all-passes, all-fails, all-end}
+use Rattle.lists.specs.FoldLaws.{all-passes, all-fails, all-end}
 use Rattle.frame.specs.Hex.{valueOf}
 use Rattle.console.specs.Fields.{spells}
 use borrow.Author.Needs.{needs}

@@ -4,7 +4,8 @@ use Prim.Native.Nat.{_≤_, _-_}
 use mathlib.Core.Path.{_≡_, refl}
 use native.Mathlib.Omega.{arith}
 use lib.ListN.{length, drop}
-use Rattle.console.specs.Words.{wordsOf, word-next}
+use Rattle.console.specs.Words.{wordsOf}
+use Rattle.console.specs.WordsLaws.{word-next}
 use borrow.Author.Needs.{needs}
 use Rattle.console.proofs.requests.start_of.Statement.{statement}
 use Rattle.console.proofs.requests.start_of.Tie as tie

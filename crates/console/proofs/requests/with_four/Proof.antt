@@ -1,7 +1,7 @@
 -- Each field is read where its test holds. Assumes nothing.
 use denote.Ref.{now}
 use mathlib.Core.Path.{sym, _∙_}
-use Rattle.console.specs.Requests.{high-hex, low-hex, configuration-hex}
+use Rattle.console.specs.RequestsLaws.{high-hex, low-hex, configuration-hex}
 use borrow.Author.Needs.{needs}
 use Rattle.console.proofs.requests.with_four.Statement.{statement}
 use Rattle.console.proofs.requests.with_four.Tie as tie

@@ -1,7 +1,7 @@
 -- Both lengths are read where their tests hold. Assumes nothing.
 use denote.Ref.{now}
 use mathlib.Core.Path.{sym, _∙_}
-use Rattle.console.specs.Fields.{up-to-decimal}
+use Rattle.console.specs.FieldsLaws.{up-to-decimal}
 use borrow.Author.Needs.{needs}
 use Rattle.console.proofs.requests.with_two.Statement.{statement}
 use Rattle.console.proofs.requests.with_two.Tie as tie

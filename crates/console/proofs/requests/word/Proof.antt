@@ -3,7 +3,7 @@ use denote.Ref.{now}
 use native.Mathlib.Omega.{arith}
 use lib.ListN.{length, drop, length-drop}
 use mathlib.Core.Path.{refl}
-use Rattle.console.specs.Words.{space-within, word-here}
+use Rattle.console.specs.WordsLaws.{space-within, word-here}
 use borrow.Author.Needs.{needs}
 use Rattle.console.proofs.requests.word.Statement.{statement}
 use Rattle.console.proofs.requests.word.Tie as tie

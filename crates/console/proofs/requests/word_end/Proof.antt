@@ -4,7 +4,8 @@ use Prim.Native.Nat.{_+_, _≤_, _-_}
 use mathlib.Core.Path.{_≡_, refl, sym, _∙_}
 use native.Mathlib.Omega.{arith}
 use lib.ListN.{length, drop}
-use Rattle.console.specs.Words.{spaceAt, space-here, space-on, space-end}
+use Rattle.console.specs.Words.{spaceAt}
+use Rattle.console.specs.WordsLaws.{space-here, space-on, space-end}
 use borrow.Author.Needs.{needs}
 use Rattle.console.proofs.requests.word_end.Statement.{statement}
 use Rattle.console.proofs.requests.word_end.Tie as tie

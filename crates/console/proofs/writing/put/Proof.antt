@@ -1,5 +1,5 @@
 -- By the definition's own test. Assumes nothing.
-use Rattle.console.specs.Texts.{written-one}
+use Rattle.console.specs.TextsLaws.{written-one}
 use borrow.Author.Tests.{le-ltb, lt-ltb}
 use borrow.Author.Needs.{needs}
 use Rattle.console.proofs.writing.put.Statement.{statement}

@@ -1,5 +1,5 @@
 -- The high digit and the low one. Assumes nothing.
-use Rattle.console.specs.Texts.{byte-written}
+use Rattle.console.specs.TextsLaws.{byte-written}
 use borrow.Author.Needs.{needs}
 use Rattle.console.proofs.writing.put_byte.Statement.{statement}
 use Rattle.console.proofs.writing.put_byte.Tie as tie

@@ -6,7 +6,8 @@ use native.Mathlib.Omega.{arith}
 use lib.ListN.{length, take}
 use lib.Seq.{take-length}
 use Rattle.frame.specs.Hex.{hexOf}
-use Rattle.console.specs.Texts.{written, bytes-begun, bytes-next}
+use Rattle.console.specs.Texts.{written}
+use Rattle.console.specs.TextsLaws.{bytes-begun, bytes-next}
 use borrow.Author.Needs.{needs}
 use Rattle.console.proofs.writing.put_bytes.Statement.{statement}
 use Rattle.console.proofs.writing.put_bytes.Tie as tie

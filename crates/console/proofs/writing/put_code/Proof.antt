@@ -3,7 +3,8 @@ use Prim.Native.Nat.{_≤_, _-_, _*_, _/_, _^_}
 use mathlib.Core.Path.{_≡_, refl, _∙_}
 use native.Mathlib.Omega.{arith}
 use Rattle.frame.specs.Hex.{digits}
-use Rattle.console.specs.Texts.{written, code-begun, code-next, code-done}
+use Rattle.console.specs.Texts.{written}
+use Rattle.console.specs.TextsLaws.{code-begun, code-next, code-done}
 use borrow.Author.Needs.{needs}
 use Rattle.console.proofs.writing.put_code.Statement.{statement}
 use Rattle.console.proofs.writing.put_code.Tie as tie

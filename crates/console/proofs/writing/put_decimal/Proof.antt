@@ -1,5 +1,5 @@
 -- One digit after the other. Assumes nothing.
-use Rattle.console.specs.Texts.{decimal-written}
+use Rattle.console.specs.TextsLaws.{decimal-written}
 use borrow.Author.Needs.{needs}
 use Rattle.console.proofs.writing.put_decimal.Statement.{statement}
 use Rattle.console.proofs.writing.put_decimal.Tie as tie

@@ -1,5 +1,5 @@
 -- By the definition's own test. Assumes nothing.
-use Rattle.console.specs.Texts.{written-none}
+use Rattle.console.specs.TextsLaws.{written-none}
 use borrow.Author.Tests.{le-leb, lt-leb}
 use borrow.Author.Needs.{needs}
 use Rattle.console.proofs.writing.put_digit.Statement.{statement}

@@ -1,6 +1,6 @@
 -- Byte 1 of the register, then byte 0. Assumes nothing.
 use mathlib.Core.List.{append-assoc}
-use Rattle.console.specs.Texts.{written-more}
+use Rattle.console.specs.TextsLaws.{written-more}
 use Rattle.console.specs.Texts.{written}
 use borrow.Author.Needs.{needs}
 use Rattle.console.proofs.writing.put_reading.Statement.{statement}

@@ -1,6 +1,6 @@
 -- One byte after the other. Assumes nothing.
 use mathlib.Core.List.{append-assoc}
-use Rattle.console.specs.Texts.{written-more}
+use Rattle.console.specs.TextsLaws.{written-more}
 use Rattle.console.specs.Texts.{written}
 use borrow.Author.Needs.{needs}
 use Rattle.console.proofs.writing.put_settings.Statement.{statement}

@@ -1,5 +1,5 @@
 -- Five ranges of characters, a law for each. Assumes nothing.
-use Rattle.frame.specs.Hex.{value-below, value-numeral, value-between, value-letter, value-above}
+use Rattle.frame.specs.HexLaws.{value-below, value-numeral, value-between, value-letter, value-above}
 use borrow.Author.Needs.{needs}
 use Rattle.frame.proofs.hex.value.Statement.{statement}
 use Rattle.frame.proofs.hex.value.Tie as tie

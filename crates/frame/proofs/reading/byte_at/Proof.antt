@@ -4,7 +4,7 @@ use borrow.Author.Tests.{ltb-true}
 use native.Mathlib.Omega.{arith}
 use denote.Ref.{now}
 use lib.ListN.{length, getD}
-use Rattle.frame.specs.Laws.{all-at}
+use Rattle.lists.specs.FoldLaws.{all-at}
 use Rattle.frame.specs.Hex.{valueOf, isDigit}
 use borrow.Author.Needs.{needs}
 use Rattle.frame.proofs.reading.byte_at.Statement.{statement}

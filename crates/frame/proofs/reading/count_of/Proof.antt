@@ -1,7 +1,7 @@
 -- The count's four digits are two bytes, the higher first. Assumes nothing.
 use native.Mathlib.Omega.{arith}
 use denote.Ref.{now}
-use Rattle.frame.specs.Reading.{count-in}
+use Rattle.frame.specs.ReadingLaws.{count-in}
 use borrow.Author.Needs.{needs}
 use Rattle.frame.proofs.reading.count_of.Statement.{statement}
 use Rattle.frame.proofs.reading.count_of.Tie as tie

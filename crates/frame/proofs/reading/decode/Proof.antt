@@ -1,13 +1,14 @@
 -- The loop's invariant: the first `i` of the bytes that the digits stand for are laid from place 0. The measure is what is left. Assumes nothing.
 use denote.Ref.{now}
 use lib.Seq.{take-all}
-use Rattle.frame.specs.Laws.{laid-next}
+use Rattle.lists.specs.LaidLaws.{laid-next, laid-none}
 use Prim.Native.Nat.{_+_, _*_, _≤_, _<_, _-_}
 use mathlib.Core.Path.{_≡_, _∙_}
 use native.Mathlib.Omega.{arith}
 use lib.ListN.{length, take}
-use Rattle.lists.specs.Laid.{laid, laid-none}
-use Rattle.frame.specs.Hex.{bytesOf, bytes-length, bytes-at}
+use Rattle.lists.specs.Laid.{laid}
+use Rattle.frame.specs.Hex.{bytesOf}
+use Rattle.frame.specs.HexLaws.{bytes-length, bytes-at}
 use borrow.Author.Needs.{needs}
 use Rattle.frame.proofs.reading.decode.Statement.{statement}
 use Rattle.frame.proofs.reading.decode.Tie as tie

@@ -3,7 +3,8 @@ use denote.Ref.{now}
 use Prim.Native.Nat.{_+_, _-_}
 use mathlib.Core.Path.{_≡_, refl, sym, _∙_}
 use lib.ListN.{length, drop}
-use Rattle.frame.specs.Lines.{feedAt, feed-here, feed-on, feed-end}
+use Rattle.frame.specs.Lines.{feedAt}
+use Rattle.frame.specs.LinesLaws.{feed-here, feed-on, feed-end}
 use borrow.Author.Needs.{needs}
 use Rattle.frame.proofs.reading.line_end.Statement.{statement}
 use Rattle.frame.proofs.reading.line_end.Tie as tie

@@ -9,10 +9,12 @@ use denote.Ref.{now}
 use lib.Dec.{eqb, leb}
 use lib.ListN.{length, take, drop, length-drop}
 use lib.Seq.{take-all}
-use Rattle.frame.specs.Laws.{and-left, all-drop}
+use Rattle.lists.specs.ChoiceLaws.{and-left}
+use Rattle.lists.specs.FoldLaws.{all-drop}
 use Rattle.frame.specs.Hex.{isDigit}
 use Rattle.frame.specs.Frames.{countAllowed, bytesFor}
-use Rattle.frame.specs.Reading.{answered, presenceIn, countIn, presence-in, wrong-length, wrong-presence, wrong-count, right-head}
+use Rattle.frame.specs.Reading.{answered, presenceIn, countIn}
+use Rattle.frame.specs.ReadingLaws.{presence-in, wrong-length, wrong-presence, wrong-count, right-head}
 use borrow.Author.Needs.{needs}
 use Rattle.frame.proofs.reading.read_digits.Statement.{statement}
 use Rattle.frame.proofs.reading.read_digits.Tie as tie

@@ -2,7 +2,8 @@
 use mathlib.Core.Path.{sym, ap, _∙_}
 use borrow.Author.Tests.{not-true, not-false}
 use denote.Ref.{now}
-use Rattle.frame.specs.Reading.{answered, read-long, read-open, read-other, read-fed}
+use Rattle.frame.specs.Reading.{answered}
+use Rattle.frame.specs.ReadingLaws.{read-long, read-open, read-other, read-fed}
 use borrow.Author.Needs.{needs}
 use Rattle.frame.proofs.reading.read_line.Statement.{statement}
 use Rattle.frame.proofs.reading.read_line.Tie as tie

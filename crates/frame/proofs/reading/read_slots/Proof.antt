@@ -5,10 +5,13 @@ use mathlib.Core.Path.{_≡_, sym, ap, _∙_}
 use native.Mathlib.Omega.{arith}
 use denote.Ref.{now}
 use lib.ListN.{length, take}
-use Rattle.lists.specs.Laid.{laid, laid-read}
+use Rattle.lists.specs.Laid.{laid}
+use Rattle.lists.specs.LaidLaws.{laid-read}
 use Rattle.frame.specs.Hex.{bytesOf}
-use Rattle.frame.specs.Frames.{noBits, bytesFor, clearFrom, pad-length}
-use Rattle.frame.specs.Reading.{answered, body-length, slots-clear, slots-spare}
+use Rattle.frame.specs.Frames.{noBits, bytesFor, clearFrom}
+use Rattle.frame.specs.FramesLaws.{pad-length}
+use Rattle.frame.specs.Reading.{answered}
+use Rattle.frame.specs.ReadingLaws.{body-length, slots-clear, slots-spare}
 use borrow.Author.Needs.{needs}
 use Rattle.frame.proofs.reading.read_slots.Statement.{statement}
 use Rattle.frame.proofs.reading.read_slots.Tie as tie

@@ -5,7 +5,8 @@ use native.Mathlib.Omega.{arith}
 use borrow.Author.Needs.{needs}
 use Rattle.bits.specs.Bits.{numberOf}
 use Rattle.search_law.specs.Wire.{slots}
-use Rattle.master.specs.Access.{byteReadOf, readSlots, afterSlots, byteShown, byte-more, slots-more, byte-small}
+use Rattle.master.specs.Access.{byteReadOf, readSlots, afterSlots, byteShown}
+use Rattle.master.specs.AccessLaws.{byte-more, slots-more, byte-small}
 use Rattle.master.specs.Wire.{shown}
 use Rattle.master.proofs.at_code.read_byte.Statement.{statement}
 use Rattle.master.proofs.at_code.read_byte.Tie as tie

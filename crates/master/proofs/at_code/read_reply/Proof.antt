@@ -4,9 +4,11 @@ use mathlib.Core.Path.{_≡_, refl}
 use native.Mathlib.Omega.{arith}
 use borrow.Author.Needs.{needs}
 use lib.ListN.{length, replicate}
-use Rattle.lists.specs.Laid.{laid, laid-none}
+use Rattle.lists.specs.Laid.{laid}
+use Rattle.lists.specs.LaidLaws.{laid-none}
 use Rattle.search_law.specs.Wire.{slots}
-use Rattle.master.specs.Access.{byteReadOf, replied, afterSlots, bytesShown, bytes-bench, bytes-more, bytes-all}
+use Rattle.master.specs.Access.{byteReadOf, replied, afterSlots, bytesShown}
+use Rattle.master.specs.AccessLaws.{bytes-bench, bytes-more, bytes-all}
 use Rattle.master.proofs.at_code.read_reply.Statement.{statement}
 use Rattle.master.proofs.at_code.read_reply.Tie as tie
 

@@ -6,7 +6,8 @@ use native.Mathlib.Omega.{arith}
 use denote.Ref.{now}
 use lib.ListN.{length}
 use Rattle.lists.specs.Laid.{laid}
-use Rattle.frame.specs.Frames.{blankFrame, blank-lineable}
+use Rattle.frame.specs.Frames.{blankFrame}
+use Rattle.frame.specs.FramesLaws.{blank-lineable}
 use Rattle.frame.specs.Writing.{fedLine}
 use Rattle.master.specs.Sweep.{frame-written, blank-line, absence-is, lonely-recording}
 use borrow.Author.Needs.{needs}

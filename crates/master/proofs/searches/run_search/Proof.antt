@@ -2,7 +2,7 @@
 use mathlib.Core.Bool.{true, false}
 use mathlib.Core.Path.{_≡_, ap, sym, _∙_}
 use borrow.Author.Tests.{not-true, not-false}
-use Rattle.lists.specs.Laid.{laid-none}
+use Rattle.lists.specs.LaidLaws.{laid-none}
 use Rattle.bench.specs.Slot.{resetDone}
 use Rattle.master.specs.Search.{answerOf, lonelyOutcome}
 use Rattle.master.specs.Sweep.{unrecorded, few-places, few-bytes, wire-held, nobody-there, passes-made, answerBy, found-answer, found-list, found-recording}

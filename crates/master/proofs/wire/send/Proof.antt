@@ -3,7 +3,8 @@ use Prim.Native.Nat.{_≤_, _-_}
 use mathlib.Core.Path.{_≡_, _∙_, sym}
 use native.Mathlib.Omega.{arith}
 use borrow.Author.Needs.{needs}
-use Rattle.master.specs.Wire.{sent, sent-turn, sent-end}
+use Rattle.master.specs.Wire.{sent}
+use Rattle.master.specs.WireLaws.{sent-turn, sent-end}
 use Rattle.master.proofs.wire.send.Statement.{statement}
 use Rattle.master.proofs.wire.send.Tie as tie
 

@@ -1,0 +1,67 @@
+-- The first element that passes a test, and whether all pass, as a loop with an early return finds it: what is left to look at from place i on.
+--     onward i n l             what is left to look at from place i, of the first n
+--     first-hit, first-miss, first-skip, first-end           one turn of a loop that looks for the first
+--     all-onward, all-stopped, all-skip, all-passed          one turn of a loop that returns at the first that fails
+-- Assumes nothing.
+use Prim.Native.Nat.{ℕ, suc, _+_, _<_, _≤_}
+use mathlib.Core.Path.{_≡_, sym, ap, _∙_}
+use mathlib.Core.Bool.{Bool, true, false}
+use mathlib.Core.List.{List, _∷_}
+use native.Mathlib.Omega.{arith}
+use native.Mathlib.Numerals.{add-one}
+use lib.ListN.{length, take, drop, getD, length-take, drop-of-length-le}
+use lib.Seq.{drop-cons, getD-take}
+use Rattle.lists.specs.Fold.{all}
+use Rattle.lists.specs.FoldLaws.{all-passes, all-fails, all-end}
+use Rattle.lists.specs.First.{firstWith}
+
+abbrev pub onward : {A : Type 0} → ℕ → ℕ → List A → List A
+onward i n l = drop i (take n l)
+
+module _ {A R : Type 0} (p : A → Bool) (f : ℕ → R) (z : R) (i n : ℕ) (l : List A) where
+  looked : (d : A) → i < n → i < length l → onward i n l ≡ getD l i d ∷ drop (suc i) (take n l)
+  looked d h k =
+      let b : i < length (take n l) = simp length-take (omega arith) in
+      drop-cons (take n l) i d b ∙ ap (λ (x : A). x ∷ drop (suc i) (take n l)) (getD-take n l i d h)
+
+  pub first-hit : (d : A) → i < n → i < length l → p (getD l i d) ≡ true → firstWith p f z i (onward i n l) ≡ f i
+  unfolding firstWith
+  first-hit d h k t = rw (looked d h k, t)
+
+  pub first-miss : (d : A) → i < n → i < length l → p (getD l i d) ≡ false
+      → firstWith p f z i (onward i n l) ≡ firstWith p f z (i + 1) (onward (i + 1) n l)
+  unfolding firstWith
+  first-miss d h k t = rw (looked d h k, t, add-one i)
+
+  pub first-end : length (take n l) ≤ i → firstWith p f z i (onward i n l) ≡ z
+  unfolding firstWith
+  first-end h = rw (drop-of-length-le (take n l) h)
+
+pub first-skip : {A R : Type 0} (p : A → Bool) (f : ℕ → R) (z : R) (i n : ℕ) (l : List A) → n ≤ i
+    → firstWith p f z i (onward i n l) ≡ firstWith p f z (i + 1) (onward (i + 1) n l)
+first-skip p f z i n l h =
+    let a : length (take n l) ≤ i = simp length-take (omega arith) in
+    let b : length (take n l) ≤ i + 1 = omega arith in
+    first-end p f z i n l a ∙ sym (first-end p f z (i + 1) n l b)
+
+-- ## Whether all of the first n pass, as a loop that returns at the first that fails tells it
+
+module _ {A : Type 0} (p : A → Bool) (i n : ℕ) (l : List A) where
+  pub all-onward : (d : A) → i < n → i < length l → p (getD l i d) ≡ true → all p (onward i n l) ≡ all p (onward (i + 1) n l)
+  all-onward d h k t =
+      let b : i < length (take n l) = simp length-take (omega arith) in
+      all-passes p (take n l) i d b (ap p (getD-take n l i d h) ∙ t)
+
+  pub all-stopped : (d : A) → i < n → i < length l → p (getD l i d) ≡ false → all p (onward i n l) ≡ false
+  all-stopped d h k t =
+      let b : i < length (take n l) = simp length-take (omega arith) in
+      all-fails p (take n l) i d b (ap p (getD-take n l i d h) ∙ t)
+
+  pub all-skip : n ≤ i → all p (onward i n l) ≡ all p (onward (i + 1) n l)
+  all-skip h =
+      let a : length (take n l) ≤ i = simp length-take (omega arith) in
+      let b : length (take n l) ≤ i + 1 = omega arith in
+      all-end p (take n l) i a ∙ sym (all-end p (take n l) (i + 1) b)
+
+  pub all-passed : length l ≤ i → all p (onward i n l) ≡ true
+  all-passed h = let a : length (take n l) ≤ i = simp length-take (omega arith) in all-end p (take n l) i a
