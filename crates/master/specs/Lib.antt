@@ -1,14 +1,1 @@
-pub mod Wire
-pub mod WireLaws
-pub mod Access
-pub mod AccessLaws
-pub mod Search
-pub mod Pass
 pub mod Sweep
-pub mod History
-pub mod Demand
-pub mod Kept
-pub mod Reached
-pub mod Counted
-pub mod Theorem
-pub mod Corollaries

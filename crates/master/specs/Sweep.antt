@@ -1,16 +1,16 @@
 -- The passes of a search with the list and the recording that they fill (the scope, "The master"): the sweep of the search's laws over the bench's own
 -- calls, with the numbers that the program counts.
 --     sweepOf t                 the sweep t, as the program keeps it: how many codes, passes, slots and bytes
---     nextPass command s        the pass that a sweep makes next
+--     passFrom command s b      the pass that a sweep makes next, on a bench b that its reset has restarted
+--     nextPass command s        the same with that reset
 --     swept s w                 a sweep after the pass w
---     listedAfter list s w      the list after it: the code in the next place, nothing where nobody has answered
+--     listedAfter list n w      the list of n codes after it: the code in the next place, nothing where nobody has answered
 --     sweptAll command b        the sweep after its last pass
 use Prim.Native.Nat.{ℕ, zero, suc, _+_, _*_, _-_, _<_, _≤_}
 use mathlib.Core.Path.{_≡_, refl, sym, ap, _∙_}
-use mathlib.Core.Bool.{Bool, true, false, _&&_, or-true}
+use mathlib.Core.Bool.{Bool, true, false, _&&_}
 use mathlib.Core.List.{List, [], _∷_, _++_, map, append-assoc, append-nil}
 use native.Mathlib.Omega.{arith}
-use borrow.Author.Tests.{lt-ltb, le-ltb}
 use lib.Dec.{ltb}
 use lib.ListN.{length, set, length-append}
 use Rattle.lists.specs.Choice.{if_then_else_}
@@ -20,7 +20,7 @@ use Rattle.lists.specs.Laid.{laid}
 use Rattle.lists.specs.LaidLaws.{laid-none, laid-length, laid-more, laid-store}
 use Rattle.bits.specs.Bits.{bitsOf}
 use Rattle.bits.specs.BitsLaws.{bits-length}
-use Rattle.refusals.specs.Refusals.{accepted, noRoom, wireBusy}
+use Rattle.refusals.specs.Refusals.{accepted}
 use Rattle.frame.specs.Frames.{blankFrame, lineable}
 use Rattle.frame.specs.FramesLaws.{recorded-all, blank-held, blank-lineable}
 use Rattle.frame.specs.Recording.{writeAll}
@@ -32,25 +32,24 @@ use Rattle.search_law.specs.Issued.{slots-length}
 use Rattle.search_law.specs.Pass.{triple, choice}
 use Rattle.search_law.specs.PassLaws.{on-some}
 use Rattle.search_law.specs.Departure.{takes}
-use Rattle.search_law.specs.PassLoop.{Walk as PassWalk, walk, walkOn, walkEnds, onward, bitStep, steps, loopPass}
+use Rattle.search_law.specs.PassLoop.{Walk as PassWalk, walk, walkOn, walkEnds, onward, bitStep, steps, startedPass, loopPass}
 use Rattle.search_law.specs.SearchLoop.{Sweep as SearchSweep, sweep, withPass, turns, turns-turn, turns-end, turns-over, turn-pass, loopSearch, SameSearch, loop-search}
 use Rattle.search_law.specs.Wire.{Bus, slots}
-use Rattle.bench.specs.Bench.{free}
 use Rattle.bench.specs.Slot.{resetDone}
 use Rattle.bench.specs.declared.Bench.{Bench}
-use Rattle.master.specs.declared.Searched.{Searched}
+use Rattle.master_rules.specs.declared.Searched.{Searched}
 use Rattle.master.specs.declared.Sweep.{Sweep}
-use Rattle.master.specs.declared.Walk.{Walk}
-use Rattle.master.specs.Pass.{walkOf}
-use Rattle.master.specs.Search.{codeLength, mostPasses, fewestPlaces, fewestBytes, frameOf, refusedOutcome, lonelyOutcome, foundOutcome, searchRun, searchOutcome, countPass, passesIn, slotsIn, answerOf, listAfter, recordingAfter}
-use Rattle.master.specs.Wire.{calls}
+use Rattle.search_pass.specs.declared.Walk.{Walk}
+use Rattle.search_pass.specs.Pass.{walkOf}
+use Rattle.master_rules.specs.Search.{codeLength, mostPasses, fewestPlaces, fewestBytes, frameOf, refusedOutcome, lonelyOutcome, foundOutcome, searchRun, countPass, passesIn, slotsIn, answerOf, listAfter, recordingAfter}
+use Rattle.searching.specs.Buses.{calls}
 
 -- the most slots of a pass, and the bytes of its line
-abbrev pub passSlots : ℕ
-passSlots = 200
+abbrev pub mostPassSlots : ℕ
+mostPassSlots = 200
 
-abbrev pub passBytes : ℕ
-passBytes = 57
+abbrev pub mostPassBytes : ℕ
+mostPassBytes = 57
 
 abbrev pub framesOf : SearchSweep Bench → List Frame
 framesOf t = map frameOf (t .lines)
@@ -67,12 +66,15 @@ sweepOf t = record {
   bench = t .devices;
 }
 
-unfoldable pub nextPass : ℕ → Sweep → Walk
-nextPass command s = walkOf (loopPass calls (bitsOf 8 command) codeLength (s .previous) (s .departure) (s .bench))
+unfoldable pub passFrom : ℕ → Sweep → Bench → Walk
+passFrom command s b = walkOf (startedPass calls (bitsOf 8 command) codeLength (s .previous) (s .departure) b)
+
+abbrev pub nextPass : ℕ → Sweep → Walk
+nextPass command s = passFrom command s (resetDone (s .bench) .bench)
 
 -- the number of codes after a pass
-abbrev pub codesAfter : Bool → ℕ → ℕ
-codesAfter answered n = if answered then n + 1 else n
+abbrev pub codesWith : Bool → ℕ → ℕ
+codesWith answered n = if answered then n + 1 else n
 
 abbrev pub goesOn : Bool → ℕ → Bool
 goesOn answered last = answered && ltb last codeLength
@@ -82,15 +84,19 @@ swept s w = record {
   going = goesOn (w .answered) (w .last);
   previous = w .code;
   departure = w .last;
-  codes = codesAfter (w .answered) (s .codes);
+  codes = codesWith (w .answered) (s .codes);
   passes = s .passes + 1;
   slots = s .slots + w .shown .count;
   bytes = s .bytes + length (fedLine (w .shown));
   bench = w .bench;
 }
 
-abbrev pub listedAfter : List ℕ → ℕ → Bool → ℕ → List ℕ
-listedAfter list place answered code = if answered then set list place code else list
+-- the code in a place of the list; nothing where nobody has answered
+abbrev pub enteredAt : List ℕ → ℕ → Bool → ℕ → List ℕ
+enteredAt list place answered code = if answered then set list place code else list
+
+abbrev pub listedAfter : List ℕ → ℕ → Walk → List ℕ
+listedAfter list n w = enteredAt list n (w .answered) (w .code)
 
 unfoldable pub sweptAll : ℕ → Bench → SearchSweep Bench
 sweptAll command b = loopSearch calls (bitsOf 8 command) mostPasses codeLength b
@@ -98,8 +104,8 @@ sweptAll command b = loopSearch calls (bitsOf 8 command) mostPasses codeLength b
 -- the counts of a sweep are those of at most so many passes
 pub record Counted (s : Sweep) : Type 0 where
   pub codes-few : s .codes ≤ s .passes
-  pub slots-few : s .slots ≤ passSlots * s .passes
-  pub bytes-few : s .bytes ≤ passBytes * s .passes
+  pub slots-few : s .slots ≤ mostPassSlots * s .passes
+  pub bytes-few : s .bytes ≤ mostPassBytes * s .passes
 
 -- ## How many slots a pass shows, on any bus
 
@@ -127,41 +133,41 @@ module _ (B : Bus) (prev D : ℕ) where
       let k = step-lines j w in
       omega arith
 
-  pub pass-lines : (command : List Bool) (n : ℕ) (ds : B .Devices) → length (loopPass B command n prev D ds .lines) ≤ length command + 3 * n
+  pub pass-lines : (command : List Bool) (n : ℕ) (ds : B .Devices) → length (startedPass B command n prev D ds .lines) ≤ length command + 3 * n
   pass-lines command n ds =
-      let s = slots B command (B .reset ds) in
-      rw (← slots-length B command (B .reset ds)) (steps-lines n 0 (walk true 0 n (s .lines) (s .devices)))
+      let s = slots B command ds in
+      rw (← slots-length B command ds) (steps-lines n 0 (walk true 0 n (s .lines) (s .devices)))
 
 -- ## The frame of a pass
 
 pub record PassFrame (f : Frame) : Type 0 where
   pub shown : f .presence ≡ true
   pub carried : lineable f ≡ true
-  pub slots-few : f .count ≤ passSlots
-  pub bytes-few : length (fedLine f) ≤ passBytes
+  pub slots-few : f .count ≤ mostPassSlots
+  pub bytes-few : length (fedLine f) ≤ mostPassBytes
 
-pub pass-frame : (lines : List Bool) → length lines ≤ passSlots → PassFrame (frameOf lines)
+pub pass-frame : (lines : List Bool) → length lines ≤ mostPassSlots → PassFrame (frameOf lines)
 pass-frame lines h =
     let r = recorded-all lines (omega arith) in
     let n = r .total in
-    let few : frameOf lines .count ≤ passSlots = rw n h in
+    let few : frameOf lines .count ≤ mostPassSlots = rw n h in
     let l = fed-length (frameOf lines) (r .held .size) (r .carried) in
     record { shown = r .shown; carried = r .carried; slots-few = few; bytes-few = omega arith }
 
 pub next-pass : (command : ℕ) (t : SearchSweep Bench)
     → nextPass command (sweepOf t) ≡ walkOf (loopPass calls (bitsOf 8 command) codeLength (t .previous) (t .departure) (t .devices))
-unfolding nextPass
+unfolding passFrom
 next-pass command t = refl
 
-pub next-frame : (command : ℕ) (s : Sweep) → PassFrame (nextPass command s .shown)
-unfolding nextPass
-next-frame command s =
-    let h = pass-lines calls (s .previous) (s .departure) (bitsOf 8 command) codeLength (s .bench) in
+pub next-frame : (command : ℕ) (s : Sweep) (b : Bench) → PassFrame (passFrom command s b .shown)
+unfolding passFrom
+next-frame command s b =
+    let h = pass-lines calls (s .previous) (s .departure) (bitsOf 8 command) codeLength b in
     let l = bits-length 8 command in
     pass-frame _ (omega arith)
 
 -- a frame that has room is written
-pub frame-written : (recording : List ℕ) (at : ℕ) (f : Frame) → lineable f ≡ true → length (fedLine f) ≤ passBytes → at + passBytes ≤ length recording
+pub frame-written : (recording : List ℕ) (at : ℕ) (f : Frame) → lineable f ≡ true → length (fedLine f) ≤ mostPassBytes → at + mostPassBytes ≤ length recording
     → (writeAnswer recording at f .next ≡ at + length (fedLine f)) × (writeLeaves recording at f ≡ laid recording at (fedLine f))
 frame-written recording at f p b h =
     let r = write-done recording at f (length (fedLine f)) p refl (omega arith) in
@@ -188,12 +194,12 @@ written-more (g ∷ fs) f = ap (λ (l : List ℕ). fedLine g ++ l) (written-more
 
 -- ## A pass more
 
-codes-more : (answered : Bool) (codes : List ℕ) (code : ℕ) → codesAfter answered (length codes) ≡ length (if answered then codes ++ code ∷ [] else codes)
+codes-more : (answered : Bool) (codes : List ℕ) (code : ℕ) → codesWith answered (length codes) ≡ length (if answered then codes ++ code ∷ [] else codes)
 codes-more true codes code = sym (length-append codes (code ∷ []))
 codes-more false codes code = refl
 
 listed-more : (list : List ℕ) (answered : Bool) (codes : List ℕ) (code : ℕ) → length codes < length list
-    → listedAfter (laid list 0 codes) (length codes) answered code ≡ laid list 0 (if answered then codes ++ code ∷ [] else codes)
+    → enteredAt (laid list 0 codes) (length codes) answered code ≡ laid list 0 (if answered then codes ++ code ∷ [] else codes)
 listed-more list true codes code h = laid-store list 0 codes code (length codes) (omega arith) h
 listed-more list false codes code h = refl
 
@@ -205,7 +211,7 @@ recorded-more recording fs f h =
     ∙ ap (laid recording 0) (sym (written-more fs f))
 
 pub swept-is : (s : Sweep) (w : Walk) (going : Bool) (codes bytes : ℕ) → going ≡ goesOn (w .answered) (w .last)
-    → codes ≡ codesAfter (w .answered) (s .codes) → bytes ≡ s .bytes + length (fedLine (w .shown))
+    → codes ≡ codesWith (w .answered) (s .codes) → bytes ≡ s .bytes + length (fedLine (w .shown))
     → record {
       going = going;
       previous = w .code;
@@ -253,7 +259,7 @@ counted-more s w c p =
     let more-bytes = p .bytes-few in
     record { codes-few = by-answer (w .answered); slots-few = omega arith; bytes-few = omega arith }
   where
-    by-answer : (t : Bool) → codesAfter t (s .codes) ≤ s .passes + 1
+    by-answer : (t : Bool) → codesWith t (s .codes) ≤ s .passes + 1
     by-answer true = let few = c .codes-few in omega arith
     by-answer false = let few = c .codes-few in omega arith
 
@@ -270,16 +276,21 @@ module _ (command : ℕ) (b : Bench) (list₀ recording₀ : List ℕ) where
     few = omega arith;
   }
 
+  -- of a sweep, a list and a recording that are known by equations
+  pub sweeping-as : (i : ℕ) {s s' : Sweep} {list list' recording recording' : List ℕ} → s ≡ s' → list ≡ list' → recording ≡ recording'
+      → Sweeping command b list₀ recording₀ i s' list' recording' → Sweeping command b list₀ recording₀ i s list recording
+  sweeping-as i e f g k = rw (e, f, g) k
+
   module _ (i : ℕ) (s : Sweep) (list recording : List ℕ) (k : Sweeping command b list₀ recording₀ i s list recording) where
-    pub sweeping-turn : i < mostPasses → s .going ≡ true → fewestPlaces ≤ length list₀ → fewestBytes ≤ length recording₀
+    sweeping-turn : i < mostPasses → s .going ≡ true → fewestPlaces ≤ length list₀ → fewestBytes ≤ length recording₀
         → Sweeping command b list₀ recording₀ (i + 1) (swept s (nextPass command s))
-        (listedAfter list (s .codes) (nextPass command s .answered) (nextPass command s .code))
+        (listedAfter list (s .codes) (nextPass command s))
         (laid recording (s .bytes) (fedLine (nextPass command s .shown)))
     sweeping-turn h g places room =
         let t = k .made in
         let w = loopPass calls (bitsOf 8 command) codeLength (t .previous) (t .departure) (t .devices) in
         let e : nextPass command s ≡ walkOf w = ap (nextPass command) (k .is) ∙ next-pass command t in
-        let p : PassFrame (frameOf (w .lines)) = rw e at (next-frame command s) in
+        let p : PassFrame (frameOf (w .lines)) = rw e at (next-frame command s (resetDone (s .bench) .bench)) in
         let goes : t .going ≡ true = sym (ap (λ (u : Sweep). u .going) (k .is)) ∙ g in
         let codes : s .codes ≡ length (t .codes) = ap (λ (u : Sweep). u .codes) (k .is) in
         let bytes : s .bytes ≡ length (writeAll (framesOf t)) = ap (λ (u : Sweep). u .bytes) (k .is) in
@@ -295,9 +306,16 @@ module _ (command : ℕ) (b : Bench) (list₀ recording₀ : List ℕ) where
           recording-is =
               rw (e, k .recording-is, bytes, frames-more (t .lines) (w .lines)) (recorded-more recording₀ (framesOf t) (frameOf (w .lines)) behind);
           comes = rw (← turn-pass calls (bitsOf 8 command) codeLength t goes, ← turns-turn calls (bitsOf 8 command) codeLength mostPasses i t h) (k .comes);
-          counted = counted-more s (nextPass command s) (k .counted) (next-frame command s);
+          counted = counted-more s (nextPass command s) (k .counted) (next-frame command s (resetDone (s .bench) .bench));
           few = omega arith;
         }
+
+    -- the same with the bench that the reset has restarted known by an equation
+    pub sweeping-pass : (restarted : Bench) → restarted ≡ resetDone (s .bench) .bench → i < mostPasses → s .going ≡ true → fewestPlaces ≤ length list₀
+        → fewestBytes ≤ length recording₀
+        → let w = passFrom command s restarted in
+        Sweeping command b list₀ recording₀ (i + 1) (swept s w) (listedAfter list (s .codes) w) (laid recording (s .bytes) (fedLine (w .shown)))
+    sweeping-pass restarted e h g places room = rw e (sweeping-turn h g places room)
 
     pub sweeping-over : s .going ≡ false → Sweeping command b list₀ recording₀ (i + 1) s list recording
     sweeping-over g =
@@ -376,27 +394,3 @@ module _ (command : ℕ) (b : Bench) where
 pub unrecorded : (recording : List ℕ) → recording ≡ laid recording 0 (writeAll [])
 unfolding writeAll
 unrecorded recording = laid-none recording 0
-
--- ## The ways a search can end
-
-module _ (command : ℕ) (b : Bench) (places room : ℕ) where
-  pub few-places : places < fewestPlaces → searchOutcome command b places room ≡ refusedOutcome noRoom b
-  unfolding searchOutcome
-  few-places h = rw (lt-ltb places fewestPlaces h)
-
-  pub few-bytes : room < fewestBytes → searchOutcome command b places room ≡ refusedOutcome noRoom b
-  unfolding searchOutcome
-  few-bytes h = rw (lt-ltb room fewestBytes h, or-true (ltb places fewestPlaces))
-
-  module _ (wide : fewestPlaces ≤ places) (long : fewestBytes ≤ room) where
-    pub wire-held : free b ≡ false → searchOutcome command b places room ≡ refusedOutcome wireBusy b
-    unfolding searchOutcome
-    wire-held h = rw (le-ltb places fewestPlaces wide, le-ltb room fewestBytes long, h)
-
-    pub nobody-there : free b ≡ true → resetDone b .presence ≡ false → searchOutcome command b places room ≡ lonelyOutcome (resetDone b .bench)
-    unfolding searchOutcome
-    nobody-there h p = rw (le-ltb places fewestPlaces wide, le-ltb room fewestBytes long, h, p)
-
-    pub passes-made : free b ≡ true → resetDone b .presence ≡ true → searchOutcome command b places room ≡ foundOutcome (searchRun command b)
-    unfolding searchOutcome
-    passes-made h p = rw (le-ltb places fewestPlaces wide, le-ltb room fewestBytes long, h, p)

@@ -19,8 +19,8 @@ use Rattle.search_law.specs.Wire.{Bus, run, passed, searched, passOffers
 use Rattle.search_law.specs.Issued.{longer, slots-append, pass-issued, passes-count, passes-slots}
 use Rattle.search_law.specs.Searchers.{Model, Carries, Searchers}
 use Rattle.search_law.specs.Holds.{search-holds}
-use Rattle.search_law.specs.Sits.{joined, joined-after, joined-reset}
-use Rattle.search_law.specs.OnTheWire.{pass-on-wire, pass-lines, joined-pass, command-shown, nobody-reads}
+use Rattle.search_law.specs.Sits.{onBus, on-bus-after, on-bus-reset}
+use Rattle.search_law.specs.OnTheWire.{pass-on-wire, pass-lines, on-bus-pass, command-shown, nobody-reads}
 use Rattle.search_law.specs.Complete.{allowed, PassShown, Complete, swept}
 
 -- Each triple of a pass is allowed.
@@ -47,42 +47,42 @@ pass-allowed (suc n) plan S ts e =
 
 module _ {B : Bus} {M : Model} (C : Carries B M) {command : List Bool} {n : ℕ} (Z : Searchers M command n) where
   -- A pass that finds a code is a run of its slots, and shows what it is to show.
-  pass-run : (plan : Plan) (ds : B .Devices) (ts : List Triple) → pass n plan (joined C Z ds) ≡ some ts
+  pass-run : (plan : Plan) (ds : B .Devices) (ts : List Triple) → pass n plan (onBus C Z ds) ≡ some ts
       → run (wirePass B command n plan ds .lines) (wirePass B command n plan ds .devices) ≡ slots B (passOffers command (found ts)) (B .reset ds)
   pass-run plan ds ts e = pass-issued B command n plan ds ts (pass-on-wire C Z plan ds ∙ e)
 
-  pass-shown : (plan : Plan) (ds : B .Devices) (ts : List Triple) → pass n plan (joined C Z ds) ≡ some ts
+  pass-shown : (plan : Plan) (ds : B .Devices) (ts : List Triple) → pass n plan (onBus C Z ds) ≡ some ts
       → PassShown command (found ts) (wirePass B command n plan ds .lines)
   pass-shown plan ds ts e =
-      record { triples = ts; lines-are = pass-lines C Z plan ds ts e; code-is = refl; all-allowed = pass-allowed n plan (joined C Z ds) ts e }
+      record { triples = ts; lines-are = pass-lines C Z plan ds ts e; code-is = refl; all-allowed = pass-allowed n plan (onBus C Z ds) ts e }
 
   -- A search that is to list cs lists cs.
-  search-lists : (fuel : ℕ) {o : Option Plan} {cs : List Code} (S : List Code) (ds : B .Devices) → joined C Z ds ≡ S → Lists n S o cs → length cs ≤ fuel
+  search-lists : (fuel : ℕ) {o : Option Plan} {cs : List Code} (S : List Code) (ds : B .Devices) → onBus C Z ds ≡ S → Lists n S o cs → length cs ≤ fuel
       → (searchFrom B command fuel n o ds ≡ swept B command cs ds) × Along (PassShown command) cs (passes B command cs ds .lines)
   unfolding searchFrom passes
   search-lists zero S ds e end h = (refl, tt)
   search-lists (suc fuel) S ds e end h = (refl, tt)
   search-lists zero S ds e (more plan ts f r) h = absurd (omega arith)
   search-lists (suc fuel) S ds e (more plan ts f r) h =
-      let g : pass n plan (joined C Z ds) ≡ some ts = ap (pass n plan) e ∙ f in
+      let g : pass n plan (onBus C Z ds) ≡ some ts = ap (pass n plan) e ∙ f in
       let w = pass-on-wire C Z plan ds ∙ g in
       let u = pass-run plan ds ts g in
       let es = wirePass B command n plan ds .devices in
-      let i = search-lists fuel S es (joined-pass C Z plan ds ∙ e) r (omega arith) in
+      let i = search-lists fuel S es (on-bus-pass C Z plan ds ∙ e) r (omega arith) in
       rw (w, ← u) (rw (i .0), (pass-shown plan ds ts g, i .1))
 
   -- A search is the passes of the listing, where somebody takes part.
-  pub search-is : (fuel : ℕ) (ds : B .Devices) → Sized n (joined C Z ds) → Distinct (joined C Z ds) → nobody (joined C Z ds) ≡ false
-      → length (joined C Z ds) ≤ fuel → wireSearch B command fuel n ds ≡ swept B command (inOrder n (joined C Z ds)) ds
+  pub search-is : (fuel : ℕ) (ds : B .Devices) → Sized n (onBus C Z ds) → Distinct (onBus C Z ds) → nobody (onBus C Z ds) ≡ false
+      → length (onBus C Z ds) ≤ fuel → wireSearch B command fuel n ds ≡ swept B command (inOrder n (onBus C Z ds)) ds
   search-is fuel ds s d h f =
-      let l = order-length n (joined C Z ds) s d in
-      search-lists fuel (joined C Z ds) ds refl (lists n (joined C Z ds) h) (omega arith) .0
+      let l = order-length n (onBus C Z ds) s d in
+      search-lists fuel (onBus C Z ds) ds refl (lists n (onBus C Z ds) h) (omega arith) .0
 
   -- Where somebody takes part.
-  pub search-complete : (fuel : ℕ) (ds : B .Devices) → Sized n (joined C Z ds) → Distinct (joined C Z ds) → nobody (joined C Z ds) ≡ false
-      → length (joined C Z ds) ≤ fuel → Complete B command n (joined C Z ds) ds (wireSearch B command fuel n ds)
+  pub search-complete : (fuel : ℕ) (ds : B .Devices) → Sized n (onBus C Z ds) → Distinct (onBus C Z ds) → nobody (onBus C Z ds) ≡ false
+      → length (onBus C Z ds) ≤ fuel → Complete B command n (onBus C Z ds) ds (wireSearch B command fuel n ds)
   search-complete fuel ds s d h f =
-      let S = joined C Z ds in
+      let S = onBus C Z ds in
       let l = order-length n S s d in
       let r = search-lists fuel S ds refl (lists n S h) (omega arith) in
       rw (r .0) (record {
@@ -101,7 +101,7 @@ module _ {B : Bus} {M : Model} (C : Carries B M) {command : List Bool} {n : ℕ}
   triplets-nobody zero plan ds h a b = absurd (omega arith)
   triplets-nobody (suc m) plan ds h a b = rw (a, b)
 
-  pub search-nobody : (fuel : ℕ) (ds : B .Devices) → 0 < n → joined C Z ds ≡ []
+  pub search-nobody : (fuel : ℕ) (ds : B .Devices) → 0 < n → onBus C Z ds ≡ []
       → wireSearch B command (suc fuel) n ds
       ≡ searched [] ((command ++ true ∷ true ∷ []) ∷ []) (slots B (command ++ true ∷ true ∷ []) (B .reset ds) .devices)
   unfolding searchFrom slots
@@ -113,16 +113,16 @@ module _ {B : Bus} {M : Model} (C : Carries B M) {command : List Bool} {n : ℕ}
       simp (t, l, slots-append B command (true ∷ true ∷ []) (B .reset ds))
 
   -- Who takes part stays the same, so that a search may follow a search.
-  pub search-joined : (fuel : ℕ) (ds : B .Devices) → joined C Z (wireSearch B command fuel n ds .devices) ≡ joined C Z ds
-  search-joined fuel ds =
-      search-holds B (λ es. joined C Z es ≡ joined C Z ds) (λ x es e. joined-after C Z x es ∙ e) (λ es e. joined-reset C Z es ∙ e) command n fuel ds refl
+  pub search-on-bus : (fuel : ℕ) (ds : B .Devices) → onBus C Z (wireSearch B command fuel n ds .devices) ≡ onBus C Z ds
+  search-on-bus fuel ds =
+      search-holds B (λ es. onBus C Z es ≡ onBus C Z ds) (λ x es e. on-bus-after C Z x es ∙ e) (λ es e. on-bus-reset C Z es ∙ e) command n fuel ds refl
 
   -- A second search lists the same.
-  pub search-again : (fuel : ℕ) (ds : B .Devices) → Sized n (joined C Z ds) → Distinct (joined C Z ds) → nobody (joined C Z ds) ≡ false
-      → length (joined C Z ds) ≤ fuel
+  pub search-again : (fuel : ℕ) (ds : B .Devices) → Sized n (onBus C Z ds) → Distinct (onBus C Z ds) → nobody (onBus C Z ds) ≡ false
+      → length (onBus C Z ds) ≤ fuel
       → wireSearch B command fuel n (wireSearch B command fuel n ds .devices) .codes ≡ wireSearch B command fuel n ds .codes
   search-again fuel ds s d h f =
-      let e = search-joined fuel ds in
+      let e = search-on-bus fuel ds in
       let a = search-is fuel ds s d h f in
       let b = search-is fuel (wireSearch B command fuel n ds .devices) (rw e s) (rw e d) (rw e h) (rw e f) in
       ap (λ r. r .codes) b ∙ ap (inOrder n) e ∙ sym (ap (λ r. r .codes) a)

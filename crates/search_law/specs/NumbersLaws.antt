@@ -16,7 +16,7 @@ use Rattle.lists.specs.EachLaws.{each-perm}
 use Rattle.search_law.specs.Wire.{Bus, wireSearch}
 use Rattle.search_law.specs.DepartureLaws.{bit-of-code}
 use Rattle.search_law.specs.Searchers.{Model, Carries, Searchers}
-use Rattle.search_law.specs.Sits.{joined}
+use Rattle.search_law.specs.Sits.{onBus}
 use Rattle.search_law.specs.Complete.{Complete}
 use Rattle.search_law.specs.CompleteLaws.{search-complete}
 use Rattle.search_law.specs.Numbers.{Sooner, Below, Numbered}
@@ -89,7 +89,7 @@ somebody n (x ∷ l) h = refl
 
 -- The search, where the codes of those that take part are given as numbers.
 module _ {B : Bus} {M : Model} (C : Carries B M) {command : List Bool} {n : ℕ} (Z : Searchers M command n) (fuel : ℕ) (ds : B .Devices)
-    (ns : List ℕ) (e : joined C Z ds ≡ map (bitsOf n) ns) (b : Below n ns) (d : Distinct ns) (h : 0 < length ns) (f : length ns ≤ fuel)
+    (ns : List ℕ) (e : onBus C Z ds ≡ map (bitsOf n) ns) (b : Below n ns) (d : Distinct ns) (h : 0 < length ns) (f : length ns ≤ fuel)
   where
     pub numbers-complete : Complete B command n (map (bitsOf n) ns) ds (wireSearch B command fuel n ds)
     numbers-complete =

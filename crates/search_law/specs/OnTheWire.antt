@@ -21,7 +21,7 @@ use Rattle.search_law.specs.Wire.{Bus, Pass, passed, withTriple, slots, 
 use Rattle.search_law.specs.Issued.{longer}
 use Rattle.search_law.specs.Holds.{slots-hold, pass-holds}
 use Rattle.search_law.specs.Searchers.{Model, Carries, Takes, Searchers}
-use Rattle.search_law.specs.Sits.{Sits, each-restart, take-bit, joined, joined-after, joined-reset, twice, read-bit, read-co-bit, write-bit, sits-on}
+use Rattle.search_law.specs.Sits.{Sits, each-restart, take-bit, onBus, on-bus-after, on-bus-reset, twice, read-bit, read-co-bit, write-bit, sits-on}
 
 unfoldable pub shown : List Triple → List Bool
 shown [] = []
@@ -50,18 +50,18 @@ length-snoc p d = omega (arith, length-append p (d ∷ []))
 
 module _ {B : Bus} {M : Model} (C : Carries B M) {command : List Bool} {n : ℕ} (Z : Searchers M command n) where
   triplets-walk : (m : ℕ) (plan : Plan) (p : List Bool) (ds : B .Devices) → length p + m ≡ n → Each (Sits Z p (Z .Own (length p))) (C .live ds)
-      → Walks (pass m plan (onPath p (joined C Z ds))) (triplets B m plan ds)
+      → Walks (pass m plan (onPath p (onBus C Z ds))) (triplets B m plan ds)
   unfolding triplets pass shown
   triplets-walk zero plan p ds e s = record { triples-are = refl; lines-are = λ ts f. let g : ts ≡ [] = cc in rw g }
   triplets-walk (suc m) plan p ds e s =
       let l : length p < n = omega arith in
-      let S = onPath p (joined C Z ds) in
+      let S = onPath p (onBus C Z ds) in
       let two = twice C Z p l ds s in
       let i : (d : Bool) → Walks (pass m (rest plan) (follow d S)) (triplets B m (rest plan) (B .after d two)) =
       λ d.
       let k : length (p ++ d ∷ []) + m ≡ n = omega (arith, length-snoc p d) in
       let t : Each (Sits Z (p ++ d ∷ []) (Z .Own (length (p ++ d ∷ [])))) (C .live (B .after d two)) = rw length-snoc (sits-on C Z p l ds s d) in
-      simp (path-snoc, joined-after) at (triplets-walk m (rest plan) (p ++ d ∷ []) (B .after d two) k t) in
+      simp (path-snoc, on-bus-after) at (triplets-walk m (rest plan) (p ++ d ∷ []) (B .after d two) k t) in
       rw (read-bit C Z p l ds s, read-co-bit C Z p l ds s)
       (on-both Walks (choice (line S) (coLine S) (first plan)) none (λ d. Option·map (λ ts. triple (line S) (coLine S) d ∷ ts) (pass m (rest plan) (follow d S)))
       (passed none (line S ∷ coLine S ∷ []) two) (λ d. withTriple (triple (line S) (coLine S) d) (B .line d two) (triplets B m (rest plan) (B .after d two)))
@@ -100,34 +100,34 @@ module _ {B : Bus} {M : Model} (C : Carries B M) {command : List Bool} {n : ℕ}
 
   -- ## Who takes part stays the same
 
-  joined-started : (ds : B .Devices) → joined C Z (slots B command (B .reset ds) .devices) ≡ joined C Z ds
-  joined-started ds =
-      slots-hold B (λ es. joined C Z es ≡ joined C Z ds) (λ x es e. joined-after C Z x es ∙ e) command (B .reset ds) (joined-reset C Z ds)
+  on-bus-started : (ds : B .Devices) → onBus C Z (slots B command (B .reset ds) .devices) ≡ onBus C Z ds
+  on-bus-started ds =
+      slots-hold B (λ es. onBus C Z es ≡ onBus C Z ds) (λ x es e. on-bus-after C Z x es ∙ e) command (B .reset ds) (on-bus-reset C Z ds)
 
-  pub joined-pass : (plan : Plan) (ds : B .Devices) → joined C Z (wirePass B command n plan ds .devices) ≡ joined C Z ds
-  joined-pass plan ds =
-      pass-holds B (λ es. joined C Z es ≡ joined C Z ds) (λ x es e. joined-after C Z x es ∙ e) (λ es e. joined-reset C Z es ∙ e) command n plan ds refl
+  pub on-bus-pass : (plan : Plan) (ds : B .Devices) → onBus C Z (wirePass B command n plan ds .devices) ≡ onBus C Z ds
+  on-bus-pass plan ds =
+      pass-holds B (λ es. onBus C Z es ≡ onBus C Z ds) (λ x es e. on-bus-after C Z x es ∙ e) (λ es e. on-bus-reset C Z es ∙ e) command n plan ds refl
 
   -- ## A pass
 
-  walked : (plan : Plan) (ds : B .Devices) → Walks (pass n plan (joined C Z ds)) (triplets B n plan (slots B command (B .reset ds) .devices))
+  walked : (plan : Plan) (ds : B .Devices) → Walks (pass n plan (onBus C Z ds)) (triplets B n plan (slots B command (B .reset ds) .devices))
   walked plan ds =
-      simp (path-nil, joined-started) at (triplets-walk n plan [] (slots B command (B .reset ds) .devices) (omega arith) (sits-started ds))
+      simp (path-nil, on-bus-started) at (triplets-walk n plan [] (slots B command (B .reset ds) .devices) (omega arith) (sits-started ds))
 
-  pub pass-on-wire : (plan : Plan) (ds : B .Devices) → wirePass B command n plan ds .triples ≡ pass n plan (joined C Z ds)
+  pub pass-on-wire : (plan : Plan) (ds : B .Devices) → wirePass B command n plan ds .triples ≡ pass n plan (onBus C Z ds)
   pass-on-wire plan ds = walked plan ds .triples-are
 
-  pub pass-lines : (plan : Plan) (ds : B .Devices) (ts : List Triple) → pass n plan (joined C Z ds) ≡ some ts
+  pub pass-lines : (plan : Plan) (ds : B .Devices) (ts : List Triple) → pass n plan (onBus C Z ds) ≡ some ts
       → wirePass B command n plan ds .lines ≡ command ++ shown ts
   pass-lines plan ds ts e = let i = walked plan ds .lines-are ts e in rw (command-shown ds, i)
 
   -- Where nobody takes part, the first two reads show 1 and 1.
-  pub nobody-reads : 0 < n → (ds : B .Devices) → joined C Z ds ≡ []
+  pub nobody-reads : 0 < n → (ds : B .Devices) → onBus C Z ds ≡ []
       → (B .line true (slots B command (B .reset ds) .devices) ≡ true)
       × (B .line true (B .after true (slots B command (B .reset ds) .devices)) ≡ true)
   unfolding all
   nobody-reads l ds e =
       let es = slots B command (B .reset ds) .devices in
       let s = sits-started ds in
-      let f : onPath [] (joined C Z es) ≡ [] = path-nil _ ∙ joined-started ds ∙ e in
+      let f : onPath [] (onBus C Z es) ≡ [] = path-nil _ ∙ on-bus-started ds ∙ e in
       (read-bit C Z [] l es s ∙ ap line f, read-co-bit C Z [] l es s ∙ ap coLine f)

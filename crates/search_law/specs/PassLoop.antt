@@ -3,7 +3,8 @@
 --     Walk                            what the loop carries
 --     bitStep B prev D j w            one turn, at place j: nothing more once nobody has answered
 --     steps B prev D m j w            m turns from place j on
---     loopPass B command n prev D ds  a pass: a reset, the command, and a turn at each of n places
+--     startedPass B command n prev D ds    a pass after its reset: the command, and a turn at each of n places
+--     loopPass B command n prev D ds       a pass: a reset, and the pass after it
 -- Assumes nothing.
 use mathlib.Core.Path.{_≡_, refl, sym, ap, _∙_}
 use mathlib.Core.Bool.{Bool, true, false, true≢false, false≢true}
@@ -90,10 +91,14 @@ module _ (B : Bus) (prev D : ℕ) where
   steps-over zero j w h = refl
   steps-over (suc m) j w h = ap (steps m (suc j)) (if-false (w .answered) _ w h) ∙ steps-over m (suc j) w h
 
-abbrev pub loopPass : (B : Bus) → List Bool → ℕ → ℕ → ℕ → B .Devices → Walk (B .Devices)
-loopPass B command n prev D ds =
-    let s = slots B command (B .reset ds) in
+-- A pass on devices that its reset has restarted.
+abbrev pub startedPass : (B : Bus) → List Bool → ℕ → ℕ → ℕ → B .Devices → Walk (B .Devices)
+startedPass B command n prev D ds =
+    let s = slots B command ds in
     steps B prev D n 0 (walk true 0 n (s .lines) (s .devices))
+
+abbrev pub loopPass : (B : Bus) → List Bool → ℕ → ℕ → ℕ → B .Devices → Walk (B .Devices)
+loopPass B command n prev D ds = startedPass B command n prev D (B .reset ds)
 
 -- ## It is the pass by a plan
 

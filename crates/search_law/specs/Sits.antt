@@ -2,7 +2,7 @@
 -- bit after p, and every other is quiet. The three slots of a bit show the line, its complement and the master's bit, and take that from p to
 -- p with this bit.
 --     Sits Z p P d      P holds of d where it takes part and its code begins with p; else d is quiet
---     joined C Z ds     the codes of those on the bus that take part
+--     onBus C Z ds     the codes of those on the bus that take part
 -- Assumes nothing.
 use mathlib.Core.Path.{_≡_, refl, sym, _∙_}
 use mathlib.Core.Bool.{Bool, true, false, not, _&&_, cond, Bool·beq, and-true}
@@ -88,14 +88,14 @@ module _ {M : Model} {command : List Bool} {n : ℕ} (Z : Searchers M command n)
 
 module _ {B : Bus} {M : Model} (C : Carries B M) {command : List Bool} {n : ℕ} (Z : Searchers M command n) where
   -- The codes of those on the bus that take part.
-  abbrev pub joined : B .Devices → List Code
-  joined ds = participants Z (C .live ds)
+  abbrev pub onBus : B .Devices → List Code
+  onBus ds = participants Z (C .live ds)
 
-  pub joined-after : (x : Bool) (ds : B .Devices) → joined (B .after x ds) ≡ joined ds
-  joined-after x ds = rw (C .after-is x ds) (participants-hear Z (B .line x ds) (C .live ds))
+  pub on-bus-after : (x : Bool) (ds : B .Devices) → onBus (B .after x ds) ≡ onBus ds
+  on-bus-after x ds = rw (C .after-is x ds) (participants-hear Z (B .line x ds) (C .live ds))
 
-  pub joined-reset : (ds : B .Devices) → joined (B .reset ds) ≡ joined ds
-  joined-reset ds = rw (C .reset-is ds) (participants-restart Z (C .live ds))
+  pub on-bus-reset : (ds : B .Devices) → onBus (B .reset ds) ≡ onBus ds
+  on-bus-reset ds = rw (C .reset-is ds) (participants-restart Z (C .live ds))
 
   -- Where P holds of each device, Q holds of each after a slot.
   pub each-after : (P Q : M .Dev → Type 0) (x : Bool) (ds : B .Devices) → ((d : M .Dev) → P d → Q (M .hear (B .line x ds) d)) → Each P (C .live ds)
@@ -110,20 +110,20 @@ module _ {B : Bus} {M : Model} (C : Carries B M) {command : List Bool} {n : ℕ}
     abbrev pub twice : B .Devices
     twice = B .after true once
 
-    pub read-bit : B .line true ds ≡ line (onPath p (joined ds))
+    pub read-bit : B .line true ds ≡ line (onPath p (onBus ds))
     read-bit =
         C .line-is true ds
         ∙ offers-sit Z p (Z .Own (length p)) (λ c. getD c (length p) false) (Z .own-offer (length p) l) (C .live ds) s
-        ∙ sym (line-path p (joined ds))
+        ∙ sym (line-path p (onBus ds))
 
     pub sits-co : Each (Sits Z p (Z .Co (length p))) (C .live once)
     sits-co = each-after _ _ true ds (sits-hear Z p (Z .Own (length p)) (Z .Co (length p)) (B .line true ds) (Z .own-hear (length p) l (B .line true ds))) s
 
-    pub read-co-bit : B .line true once ≡ coLine (onPath p (joined ds))
+    pub read-co-bit : B .line true once ≡ coLine (onPath p (onBus ds))
     read-co-bit =
         C .line-is true once
         ∙ offers-sit Z p (Z .Co (length p)) (λ c. not (getD c (length p) false)) (Z .co-offer (length p) l) (C .live once) sits-co
-        ∙ simp (joined-after, co-line-path)
+        ∙ simp (on-bus-after, co-line-path)
 
     pub sits-way-next : Each (Sits Z p (Z .Way (length p))) (C .live twice)
     sits-way-next =

@@ -37,11 +37,12 @@ use Rattle.bench.specs.declared.Bench.{Bench}
 use Rattle.searching.specs.OnTheBench as bench
 use Rattle.searching.specs.OnTheBench.{flaggedCodes}
 use Rattle.bench.specs.Slot.{resetDone}
-use Rattle.master.specs.Search.{fewestPlaces, fewestBytes, mostPasses, frameOf, foundOutcome, searchRun, searchOutcome}
-use Rattle.master.specs.History.{Call, Typed, after, added}
-use Rattle.master.specs.Demand.{alarms}
-use Rattle.master.specs.Corollaries.{bench-is-sound, codes-are-added}
-use Rattle.master.specs.Theorem.{outcome-found, presence-is, codes-fit, flagged-are-alarms}
+use Rattle.master_rules.specs.Search.{fewestPlaces, fewestBytes, mostPasses, frameOf, foundOutcome, searchRun, searchOutcome}
+use Rattle.history.specs.History.{Call, Typed, after, added}
+use Rattle.history.specs.Demand.{alarms}
+use Rattle.history.specs.Corollaries.{bench-is-sound, codes-are-added}
+use Rattle.history.specs.Theorem.{presence-is, presence-shown, codes-fit, flagged-are-alarms}
+use Rattle.master_rules.specs.SearchLaws.{passes-made}
 
 pub record Fits (c : Code) : Type 0 where
   pub long : length c ≡ 64
@@ -139,14 +140,14 @@ module _ (b : Bench) (s : BenchSound b) (f : free b ≡ true) (l : Below 64 (cod
 
 module _ (h : List Call) (t : Each Typed h) (f : free (after h) ≡ true) (places room : ℕ) (p : fewestPlaces ≤ places) (q : fewestBytes ≤ room) where
   somebody-there : 0 < length (codesOf (after h)) → resetDone (after h) .presence ≡ true
-  somebody-there some = presence-is (after h) (bench-is-sound h t) f ∙ lt-ltb 0 (length (codesOf (after h))) some
+  somebody-there some = presence-shown (after h) f ∙ presence-is (after h) (bench-is-sound h t) ∙ lt-ltb 0 (length (codesOf (after h))) some
 
   -- with a device on the bench
   pub search-names : 0 < length (added h)
       → let o = searchOutcome searchRom (after h) places room in map named (o .frames) ≡ map (lists Search) (o .listed)
   search-names n =
       let some : 0 < length (codesOf (after h)) = rw (codes-are-added h t) n in
-      rw (outcome-found searchRom (after h) places room f p q (somebody-there some))
+      rw (passes-made searchRom (after h) places room p q f (somebody-there some))
       (run-search-names (after h) (bench-is-sound h t) f (codes-fit h t) some)
 
   -- with a device whose page has the verdict
@@ -156,5 +157,5 @@ module _ (h : List Call) (t : Each Typed h) (f : free (after h) ≡ true) (place
       let flagged : 0 < length (flaggedCodes (after h)) = rw (flagged-are-alarms h t) k in
       let few = bench.flagged-few (after h) in
       let some : 0 < length (codesOf (after h)) = omega arith in
-      rw (outcome-found alarmSearch (after h) places room f p q (somebody-there some))
+      rw (passes-made alarmSearch (after h) places room p q f (somebody-there some))
       (run-alarm-names (after h) (bench-is-sound h t) f (codes-fit h t) flagged)

@@ -3,6 +3,7 @@
 -- is never held, if nothing in the course of a search holds it.
 --     AtEach M P bs d     P holds of d, which offers 1, at each of the bits bs that it hears
 --     Course Z P          P holds of every device at every slot of a search
+--     Throughout B Q offers ds     Q holds of the bus at every slot of a run; `pass-runs` and `unheard-runs` say it of the runs that a search makes
 -- Assumes nothing.
 use mathlib.Core.Path.{_≡_, refl, _∙_}
 use mathlib.Core.Bool.{Bool, true, false, _&&_, cond, and-true}
@@ -12,13 +13,14 @@ use Prim.Native.Nat.{ℕ, zero, suc, _+_, _<_}
 use native.Mathlib.Omega.{arith}
 use lib.ListN.{length}
 use Rattle.lists.specs.Fold.{all}
-use Rattle.search_law.specs.Codes.{first, rest}
+use Rattle.search_law.specs.Codes.{Code, first, rest}
 use Rattle.lists.specs.Each.{Each}
 use Rattle.search_law.specs.Pass.{Triple, triple, Plan, choice, onSome, found, next}
 use Rattle.search_law.specs.Paths.{agrees}
-use Rattle.search_law.specs.Wire.{Bus, Pass, passed, withTriple, unanswered, withCode, slots, triplets, wirePass, searchFrom, wireSearch}
+use Rattle.search_law.specs.Wire.{Bus, Pass, passed, withTriple, unanswered, withCode, tripleOffers, passOffers, slots, triplets, wirePass, searchFrom, wireSearch}
 use Rattle.search_law.specs.Searchers.{Model, Carries, Searchers}
 use Rattle.search_law.specs.Sits.{Sits, each-restart, sits-co, sits-way-next, sits-on}
+use Rattle.search_law.specs.Issued.{slots-append}
 use Rattle.search_law.specs.OnTheWire.{length-snoc, sits-started}
 
 abbrev pub AtEach : (M : Model) → (M .Dev → Type 0) → List Bool → M .Dev → Type 0
@@ -148,3 +150,79 @@ module _ {B : Bus} {M : Model} (C : Carries B M) {command : List Bool} {n : ℕ}
     -- what every slot of a search keeps, the search keeps
     pub course-holds : (fuel : ℕ) (ds : B .Devices) → Q ds → Q (wireSearch B command fuel n ds .devices)
     course-holds fuel ds q = search-from-same fuel (some []) ds q .1
+
+-- ## What holds at every slot of a run
+
+-- Q holds of the devices at each slot in which the master offers these
+abbrev pub Throughout : (B : Bus) → (B .Devices → Type 0) → List Bool → B .Devices → Type 0
+Throughout B Q [] ds = Unit
+Throughout B Q (x ∷ xs) ds = Q ds × Throughout B Q xs (B .after x ds)
+
+-- Q holds at each slot of a run, and after it
+pub record Runs (B : Bus) (Q : B .Devices → Type 0) (offers : List Bool) (ds : B .Devices) : Type 0 where
+  pub throughout : Throughout B Q offers ds
+  pub after-it : Q (slots B offers ds .devices)
+
+-- one run after another
+pub runs-append : (B : Bus) (Q : B .Devices → Type 0) (xs ys : List Bool) (ds : B .Devices) → Runs B Q xs ds → Runs B Q ys (slots B xs ds .devices)
+    → Runs B Q (xs ++ ys) ds
+unfolding slots
+runs-append B Q xs ys ds r s = record { throughout = both xs ds (r .throughout) (s .throughout); after-it = rw (slots-append B xs ys ds) (s .after-it) }
+  where
+    both : (xs : List Bool) (ds : B .Devices) → Throughout B Q xs ds → Throughout B Q ys (slots B xs ds .devices) → Throughout B Q (xs ++ ys) ds
+    both [] ds t u = u
+    both (x ∷ xs) ds t u = (t .0, both xs (B .after x ds) (t .1) u)
+
+module _ {B : Bus} {M : Model} (C : Carries B M) (P : M .Dev → Type 0) (Q : B .Devices → Type 0)
+    (by-slot : (x : Bool) (ds : B .Devices) → Each P (C .live ds) → Q ds → Q (B .after x ds))
+  where
+    -- bits that every device hears as the master offers them
+    pub heard-runs : (bs : List Bool) (ds : B .Devices) → Each (AtEach M P bs) (C .live ds) → Q ds → Runs B Q bs ds
+    unfolding slots
+    heard-runs [] ds h q = record { throughout = tt; after-it = q }
+    heard-runs (b ∷ bs) ds h q =
+        let t = bit-heard M P b bs (C .live ds) h in
+        let e : B .line b ds ≡ b = C .line-is b ds ∙ rw (t .ones) (and-true b) in
+        let u : C .live (B .after b ds) ≡ map (M .hear b) (C .live ds) = C .after-is b ds ∙ rw e in
+        let i = heard-runs bs (B .after b ds) (rw u (t .others)) (by-slot b ds (t .held) q) in
+        record { throughout = (q, i .throughout); after-it = i .after-it }
+
+    module _ (by-reset : (ds : B .Devices) → Q ds → Q (B .reset ds)) {command : List Bool} {n : ℕ} (Z : Searchers M command n) (K : Course Z P) where
+      -- the slots of some bits, once the path p has been sent
+      triple-runs : (c : Code) (p : List Bool) (ds : B .Devices) → length p + length c ≡ n → Each (Sits Z p (Z .Own (length p))) (C .live ds) → Q ds
+          → Runs B Q (tripleOffers c) ds
+      unfolding tripleOffers slots
+      triple-runs [] p ds e s q = record { throughout = tt; after-it = q }
+      triple-runs (d ∷ c) p ds e s q =
+          let l : length p < n = omega arith in
+          let once = B .after true ds in
+          let two = B .after true once in
+          let q1 = by-slot true ds (each-sits Z P (Z .Own (length p)) (K .at-own (length p) l) (K .at-out) p (C .live ds) s) q in
+          let q2 = by-slot true once (each-sits Z P (Z .Co (length p)) (K .at-co (length p) l) (K .at-out) p (C .live once) (sits-co C Z p l ds s)) q1 in
+          let q3 = by-slot d two (each-sits Z P (Z .Way (length p)) (K .at-way (length p) l) (K .at-out) p (C .live two) (sits-way-next C Z p l ds s)) q2 in
+          let i = triple-runs c (p ++ d ∷ []) (B .after d two) (omega (arith, length-snoc p d)) (rw length-snoc (sits-on C Z p l ds s d)) q3 in
+          record { throughout = (q, (q1, (q2, i .throughout))); after-it = i .after-it }
+
+      command-runs : (ds : B .Devices) → Q ds → Runs B Q command (B .reset ds)
+      command-runs ds q =
+          let h : Each (AtEach M P command) (C .live (B .reset ds)) = rw (C .reset-is ds) (each-restart Z (AtEach M P command) (K .at-command) (C .live ds)) in
+          heard-runs command (B .reset ds) h (by-reset ds q)
+
+      -- the slots of a pass for any code
+      pub pass-runs : (c : Code) (ds : B .Devices) → length c ≡ n → Q ds → Runs B Q (passOffers command c) (B .reset ds)
+      pass-runs c ds e q =
+          let r = command-runs ds q in
+          let t = triple-runs c [] (slots B command (B .reset ds) .devices) (omega arith) (sits-started C Z ds) (r .after-it) in
+          runs-append B Q command (tripleOffers c) (B .reset ds) r t
+
+      -- the command and two reads
+      pub unheard-runs : (ds : B .Devices) → 0 < n → Q ds → Runs B Q (command ++ true ∷ true ∷ []) (B .reset ds)
+      unfolding slots
+      unheard-runs ds l q =
+          let r = command-runs ds q in
+          let es = slots B command (B .reset ds) .devices in
+          let once = B .after true es in
+          let s = sits-started C Z ds in
+          let q1 = by-slot true es (each-sits Z P (Z .Own 0) (K .at-own 0 l) (K .at-out) [] (C .live es) s) (r .after-it) in
+          let q2 = by-slot true once (each-sits Z P (Z .Co 0) (K .at-co 0 l) (K .at-out) [] (C .live once) (sits-co C Z [] l es s)) q1 in
+          runs-append B Q command (true ∷ true ∷ []) (B .reset ds) r (record { throughout = (r .after-it, (q1, tt)); after-it = q2 })

@@ -1,3 +1,4 @@
+pub mod Buses
 pub mod Course
 pub mod Thermometers
 pub mod OnTheBench

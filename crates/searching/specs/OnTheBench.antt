@@ -1,8 +1,8 @@
 -- A search on the bench (the scope, "The master" and demand 3), by F0h for all devices and by ECh for those whose flag is set. Its slots and resets
 -- are the bench's calls, which are refused while a line-powered device is busy; on a bench where none is, none of them is refused in the whole
 -- search, `search-calls`, so that the laws of a wire that is never held apply.
---     onWire             the bench as a bus: each slot and reset as it goes where it is not refused
---     byCalls            the same by the calls themselves, which may refuse
+--     slotRule             the bench as a bus: each slot and reset as it goes where it is not refused
+--     calls            the same by the calls themselves, which may refuse
 --     searchOn fuel b, alarmSearchOn fuel b     the two searches
 --     flaggedCodes b     the codes of the devices whose flag is set, in the order of the devices
 -- Laws `search-..` are of F0h, laws `alarm-..` of ECh:
@@ -26,10 +26,10 @@ use lib.ListN.{length, length-map}
 use Rattle.lists.specs.Choice.{if_then_else_}
 use Rattle.lists.specs.Fold.{all}
 use Rattle.bits.specs.Bits.{bitsOf}
-use Rattle.search_law.specs.Codes.{nobody}
+use Rattle.search_law.specs.Codes.{Code, nobody}
 use Rattle.lists.specs.Each.{Each, Distinct, those}
 use Rattle.search_law.specs.Listing.{inOrder}
-use Rattle.search_law.specs.Wire.{Bus, Search, searched, slots, wireSearch}
+use Rattle.search_law.specs.Wire.{Search, searched, passOffers, slots, wireSearch}
 use Rattle.search_law.specs.Searchers.{Carries, Searchers, participants}
 use Rattle.search_law.specs.Complete.{Complete, swept}
 use Rattle.search_law.specs.CompleteLaws.{search-is, search-nobody}
@@ -48,24 +48,19 @@ use Rattle.bench.specs.Slot.{lineOf, heard, slotted, restarted, resetDone}
 use Rattle.bench.specs.Sound.{codesOf, BenchSound}
 use Rattle.bench.specs.SoundLaws.{heard-sound, restarted-sound}
 use Rattle.bench.specs.declared.Bench.{Bench}
-use Rattle.searching.specs.Course.{Course, search-same}
+use Rattle.searching.specs.Course.{Course, search-same, Runs, pass-runs, unheard-runs}
 use Rattle.searching.specs.Thermometers.{thermometers, searchBits, alarmBits, unstaged, Moving, numbersOf, everybody, everybody-keeps, everybody-course, everybody-codes, flagged, flagged-keeps, flagged-course, flagged-codes}
+use Rattle.searching.specs.Buses.{slotRule, calls}
 
-abbrev pub onWire : Bus
-onWire = record { Devices = Bench; line = λ m b. lineOf b m; after = λ m b. heard b (lineOf b m); reset = restarted }
-
-abbrev pub byCalls : Bus
-byCalls = record { Devices = Bench; line = λ m b. slotted b m .line; after = λ m b. slotted b m .bench; reset = λ b. resetDone b .bench }
-
-abbrev pub onBench : Carries onWire thermometers
+abbrev pub onBench : Carries slotRule thermometers
 onBench = record { live = live; line-is = λ m b. line-live b m; after-is = λ m b. heard-live b (lineOf b m); reset-is = restarted-live }
 
 -- the searches, of at most `fuel` passes
 abbrev pub searchOn : ℕ → Bench → Search Bench
-searchOn fuel b = wireSearch onWire searchBits fuel 64 b
+searchOn fuel b = wireSearch slotRule searchBits fuel 64 b
 
 abbrev pub alarmSearchOn : ℕ → Bench → Search Bench
-alarmSearchOn fuel b = wireSearch onWire alarmBits fuel 64 b
+alarmSearchOn fuel b = wireSearch slotRule alarmBits fuel 64 b
 
 abbrev pub flaggedCodes : Bench → List ℕ
 flaggedCodes b = numbersOf (those (λ d. d .alarm) (live b))
@@ -91,6 +86,17 @@ free-heard b l h = free-live (heard b l) ∙ rw (heard-live b l) (wire-heard l (
 pub free-restarted : (b : Bench) → free (restarted b) ≡ free b
 free-restarted b = free-live (restarted b) ∙ rw (restarted-live b) (wire-reset (live b)) ∙ sym (free-live b)
 
+abbrev pub Free : Bench → Type 0
+Free b = free b ≡ true
+
+module _ {command : List Bool} (Z : Searchers thermometers command 64) (R : Course Z Moving) (b : Bench) (f : Free b) where
+  -- no slot of a pass is refused
+  pub free-pass : (c : Code) → length c ≡ 64 → Runs slotRule Free (passOffers command c) (restarted b)
+  free-pass c e = pass-runs onBench Moving Free (λ m c s f. free-heard c (lineOf c m) s ∙ f) (λ c f. free-restarted c ∙ f) Z R c b e f
+
+  pub free-unheard : Runs slotRule Free (command ++ true ∷ true ∷ []) (restarted b)
+  free-unheard = unheard-runs onBench Moving Free (λ m c s f. free-heard c (lineOf c m) s ∙ f) (λ c f. free-restarted c ∙ f) Z R b (lit< tt) f
+
 -- ## Either command
 
 some-bits : (ns : List ℕ) → 0 < length ns → nobody (map (bitsOf 64) ns) ≡ false
@@ -98,27 +104,27 @@ some-bits [] h = absurd (omega arith)
 some-bits (n ∷ ns) h = refl
 
 module _ {command : List Bool} (Z : Searchers thermometers command 64) (K : Keeps Z unstaged) (R : Course Z Moving) (fuel : ℕ) (b : Bench) where
-  calls-search : free b ≡ true → wireSearch byCalls command fuel 64 b ≡ wireSearch onWire command fuel 64 b
+  calls-search : free b ≡ true → wireSearch calls command fuel 64 b ≡ wireSearch slotRule command fuel 64 b
   calls-search h =
       search-same onBench Z Moving R (λ c. free c ≡ true) (λ m c s f. free-heard c (lineOf c m) s ∙ f) (λ c f. free-restarted c ∙ f)
       (λ m c. slotted c m .line) (λ m c. slotted c m .bench) (λ c. resetDone c .bench)
       (λ m c f. ap (λ r. r .line) (slot-accepted c m f)) (λ m c f. ap (λ r. r .bench) (slot-accepted c m f)) (λ c f. ap (λ r. r .bench) (reset-accepted c f)) fuel b h
 
-  kept : map unstaged (live (wireSearch onWire command fuel 64 b .devices)) ≡ map unstaged (live b)
+  kept : map unstaged (live (wireSearch slotRule command fuel 64 b .devices)) ≡ map unstaged (live b)
   kept = keeps-search onBench Z unstaged K fuel b
 
-  counted : wireSearch onWire command fuel 64 b .devices .count ≡ b .count
+  counted : wireSearch slotRule command fuel 64 b .devices .count ≡ b .count
   counted =
-      search-holds onWire (λ c. c .count ≡ b .count) (λ m c e. heard-count c (lineOf c m) ∙ e) (λ c e. restarted-count c ∙ e) command 64 fuel b refl
+      search-holds slotRule (λ c. c .count ≡ b .count) (λ m c e. heard-count c (lineOf c m) ∙ e) (λ c e. restarted-count c ∙ e) command 64 fuel b refl
 
   module _ (ns : List ℕ) (e : participants Z (live b) ≡ map (bitsOf 64) ns) (l : Below 64 ns) (d : Distinct ns) (h : 0 < length ns) (f : length ns ≤ fuel) where
-    listed : Numbered 64 ns (wireSearch onWire command fuel 64 b .codes)
+    listed : Numbered 64 ns (wireSearch slotRule command fuel 64 b .codes)
     listed = numbers-listed onBench Z fuel b ns e l d h f
 
-    complete : Complete onWire command 64 (map (bitsOf 64) ns) b (wireSearch onWire command fuel 64 b)
+    complete : Complete slotRule command 64 (map (bitsOf 64) ns) b (wireSearch slotRule command fuel 64 b)
     complete = numbers-complete onBench Z fuel b ns e l d h f
 
-    in-passes : wireSearch onWire command fuel 64 b ≡ swept onWire command (inOrder 64 (map (bitsOf 64) ns)) b
+    in-passes : wireSearch slotRule command fuel 64 b ≡ swept slotRule command (inOrder 64 (map (bitsOf 64) ns)) b
     in-passes =
         rw e at
         (search-is onBench Z fuel b (rw e (bits-sized 64 ns)) (rw e (bits-distinct 64 ns l d)) (rw e (some-bits ns h)) (rw (e, length-map ns (bitsOf 64)) f))
@@ -201,12 +207,12 @@ flagged-few b = some-few (λ d. d .alarm) (live b)
 -- ## F0h
 
 module _ (fuel : ℕ) (b : Bench) where
-  pub search-calls : free b ≡ true → wireSearch byCalls searchBits fuel 64 b ≡ searchOn fuel b
+  pub search-calls : free b ≡ true → wireSearch calls searchBits fuel 64 b ≡ searchOn fuel b
   search-calls = calls-search everybody everybody-keeps everybody-course fuel b
 
   -- as a loop over the passes makes it
-  pub search-loop : free b ≡ true → SameSearch (searchOn fuel b) (loopSearch byCalls searchBits fuel 64 b)
-  search-loop h = rw (search-calls h) at (loop-search byCalls searchBits 64 fuel b)
+  pub search-loop : free b ≡ true → SameSearch (searchOn fuel b) (loopSearch calls searchBits fuel 64 b)
+  search-loop h = rw (search-calls h) at (loop-search calls searchBits 64 fuel b)
 
   pub search-keeps : map unstaged (live (searchOn fuel b .devices)) ≡ map unstaged (live b)
   search-keeps = kept everybody everybody-keeps everybody-course fuel b
@@ -218,7 +224,7 @@ module _ (fuel : ℕ) (b : Bench) where
   search-free = same-free (searchOn fuel b .devices) b search-keeps
 
   pub search-sound : BenchSound b → BenchSound (searchOn fuel b .devices)
-  search-sound = search-holds onWire BenchSound (λ m c. heard-sound c (lineOf c m)) restarted-sound searchBits 64 fuel b
+  search-sound = search-holds slotRule BenchSound (λ m c. heard-sound c (lineOf c m)) restarted-sound searchBits 64 fuel b
 
   pub search-codes : codesOf (searchOn fuel b .devices) ≡ codesOf b
   search-codes = same-but-stage (λ d. d .code) (λ d. refl) (live (searchOn fuel b .devices)) (live b) search-keeps
@@ -227,25 +233,25 @@ module _ (fuel : ℕ) (b : Bench) where
     pub search-listed : Numbered 64 (codesOf b) (searchOn fuel b .codes)
     search-listed = listed everybody everybody-keeps everybody-course fuel b (codesOf b) (everybody-codes (live b)) l d h f
 
-    pub search-complete : Complete onWire searchBits 64 (map (bitsOf 64) (codesOf b)) b (searchOn fuel b)
+    pub search-complete : Complete slotRule searchBits 64 (map (bitsOf 64) (codesOf b)) b (searchOn fuel b)
     search-complete = complete everybody everybody-keeps everybody-course fuel b (codesOf b) (everybody-codes (live b)) l d h f
 
-    pub search-passes : searchOn fuel b ≡ swept onWire searchBits (inOrder 64 (map (bitsOf 64) (codesOf b))) b
+    pub search-passes : searchOn fuel b ≡ swept slotRule searchBits (inOrder 64 (map (bitsOf 64) (codesOf b))) b
     search-passes = in-passes everybody everybody-keeps everybody-course fuel b (codesOf b) (everybody-codes (live b)) l d h f
 
   pub search-none : codesOf b ≡ []
       → searchOn (suc fuel) b
-      ≡ searched [] ((searchBits ++ true ∷ true ∷ []) ∷ []) (slots onWire (searchBits ++ true ∷ true ∷ []) (restarted b) .devices)
+      ≡ searched [] ((searchBits ++ true ∷ true ∷ []) ∷ []) (slots slotRule (searchBits ++ true ∷ true ∷ []) (restarted b) .devices)
   search-none e = search-nobody onBench everybody fuel b (lit< tt) (everybody-codes (live b) ∙ rw e)
 
 -- ## ECh
 
 module _ (fuel : ℕ) (b : Bench) where
-  pub alarm-calls : free b ≡ true → wireSearch byCalls alarmBits fuel 64 b ≡ alarmSearchOn fuel b
+  pub alarm-calls : free b ≡ true → wireSearch calls alarmBits fuel 64 b ≡ alarmSearchOn fuel b
   alarm-calls = calls-search flagged flagged-keeps flagged-course fuel b
 
-  pub alarm-loop : free b ≡ true → SameSearch (alarmSearchOn fuel b) (loopSearch byCalls alarmBits fuel 64 b)
-  alarm-loop h = rw (alarm-calls h) at (loop-search byCalls alarmBits 64 fuel b)
+  pub alarm-loop : free b ≡ true → SameSearch (alarmSearchOn fuel b) (loopSearch calls alarmBits fuel 64 b)
+  alarm-loop h = rw (alarm-calls h) at (loop-search calls alarmBits 64 fuel b)
 
   pub alarm-keeps : map unstaged (live (alarmSearchOn fuel b .devices)) ≡ map unstaged (live b)
   alarm-keeps = kept flagged flagged-keeps flagged-course fuel b
@@ -257,7 +263,7 @@ module _ (fuel : ℕ) (b : Bench) where
   alarm-free = same-free (alarmSearchOn fuel b .devices) b alarm-keeps
 
   pub alarm-sound : BenchSound b → BenchSound (alarmSearchOn fuel b .devices)
-  alarm-sound = search-holds onWire BenchSound (λ m c. heard-sound c (lineOf c m)) restarted-sound alarmBits 64 fuel b
+  alarm-sound = search-holds slotRule BenchSound (λ m c. heard-sound c (lineOf c m)) restarted-sound alarmBits 64 fuel b
 
   pub alarm-codes : flaggedCodes (alarmSearchOn fuel b .devices) ≡ flaggedCodes b
   alarm-codes = same-flagged (alarmSearchOn fuel b .devices) b alarm-keeps
@@ -267,15 +273,15 @@ module _ (fuel : ℕ) (b : Bench) where
     alarm-listed =
         listed flagged flagged-keeps flagged-course fuel b (flaggedCodes b) (flagged-codes (live b)) (flagged-below b l) (flagged-distinct b d) h f
 
-    pub alarm-complete : Complete onWire alarmBits 64 (map (bitsOf 64) (flaggedCodes b)) b (alarmSearchOn fuel b)
+    pub alarm-complete : Complete slotRule alarmBits 64 (map (bitsOf 64) (flaggedCodes b)) b (alarmSearchOn fuel b)
     alarm-complete =
         complete flagged flagged-keeps flagged-course fuel b (flaggedCodes b) (flagged-codes (live b)) (flagged-below b l) (flagged-distinct b d) h f
 
-    pub alarm-passes : alarmSearchOn fuel b ≡ swept onWire alarmBits (inOrder 64 (map (bitsOf 64) (flaggedCodes b))) b
+    pub alarm-passes : alarmSearchOn fuel b ≡ swept slotRule alarmBits (inOrder 64 (map (bitsOf 64) (flaggedCodes b))) b
     alarm-passes =
         in-passes flagged flagged-keeps flagged-course fuel b (flaggedCodes b) (flagged-codes (live b)) (flagged-below b l) (flagged-distinct b d) h f
 
   pub alarm-none : flaggedCodes b ≡ []
       → alarmSearchOn (suc fuel) b
-      ≡ searched [] ((alarmBits ++ true ∷ true ∷ []) ∷ []) (slots onWire (alarmBits ++ true ∷ true ∷ []) (restarted b) .devices)
+      ≡ searched [] ((alarmBits ++ true ∷ true ∷ []) ∷ []) (slots slotRule (alarmBits ++ true ∷ true ∷ []) (restarted b) .devices)
   alarm-none e = search-nobody onBench flagged fuel b (lit< tt) (flagged-codes (live b) ∙ rw e)

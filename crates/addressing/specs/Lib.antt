@@ -1,0 +1,3 @@
+pub mod Unrefused
+pub mod Course
+pub mod Laws

@@ -1,0 +1,26 @@
+use Rattle.master_rules.specs.Access.{readAt}
+use borrow.Author.Tests.{eq-eqb, ne-eqb}
+use borrow.Author.Needs.{needs}
+use Rattle.at_code.proofs.read_at.Statement.{statement}
+use Rattle.at_code.proofs.read_at.Tie as tie
+
+admit-requires : tie.Need-admit-requires
+admit-requires c κs = search needs
+
+refuse-requires : tie.Need-refuse-requires
+refuse-requires c κs = search needs
+
+returns : tie.Need-returns
+unfolding readAt
+returns c = simp (← c .before .before .admit .ensures, ne-eqb _ _ (c .before .if1 .taken), c .refuse .ensures)
+
+read-back-requires : tie.Need-read-back-requires
+read-back-requires c κs = search needs
+
+returns-2 : tie.Need-returns-2
+unfolding readAt
+returns-2 c = simp (← c .before .before .admit .ensures, eq-eqb _ _ (c .before .if1 .left), c .read-back .ensures)
+
+pub read-at-spec : {M : Type 1} → statement M
+read-at-spec =
+    tie.close (tie.spec admit-requires refuse-requires returns read-back-requires returns-2)

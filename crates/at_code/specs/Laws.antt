@@ -1,0 +1,99 @@
+-- The slots of a number as a loop of halvings makes them, and read slots and the bytes they show as the loops make them.
+-- Assumes nothing.
+use Prim.Native.Nat.{ℕ, suc, _+_, _-_, _/_, _<_, _≤_, zero, _*_, _^_}
+use mathlib.Core.Path.{_≡_, refl, ap, _∙_, sym}
+use native.Mathlib.Omega.{arith}
+use Rattle.bits.specs.Bits.{odd, bitsOf, bitNumber, numberOf}
+use Rattle.search_law.specs.Wire.{slots, run}
+use Rattle.bench.specs.Slot.{slotted}
+use Rattle.bench.specs.declared.Bench.{Bench}
+use Rattle.commands.specs.Commands.{readScratchpad}
+use Rattle.rom.specs.Code.{familyOf}
+use Rattle.scratchpad.specs.Judgement.{judged}
+use Rattle.at_code.specs.Replies.{replied}
+use Rattle.searching.specs.Buses.{calls}
+use Rattle.master_rules.specs.Wire.{sent, shown}
+use mathlib.Core.Bool.{Bool, true}
+use mathlib.Core.List.{List, [], _∷_, _++_}
+use native.Mathlib.Numerals.{add-one}
+use lib.ListN.{length, set, replicate, replicate-append-replicate, length-replicate}
+use Rattle.lists.specs.Laid.{laid}
+use Rattle.lists.specs.LaidLaws.{laid-store}
+use Rattle.bits.specs.BitsLaws.{number-snoc, number-lt}
+use Rattle.search_law.specs.Issued.{slots-append, slots-length}
+use Rattle.master_rules.specs.Access.{readSlots, byteShown, afterSlots, bytesShown, addressed, judgedReply, fetched}
+
+-- ## The slots of a number, as a loop of halvings makes them
+
+pub sent-turn : (n i x : ℕ) (b : Bench) → i < n → sent (n - i) x b ≡ sent (n - (i + 1)) (x / 2) (slotted b (odd x) .bench)
+unfolding bitsOf slots
+sent-turn n i x b h = let e : n - i ≡ suc (n - (i + 1)) = omega arith in rw e
+
+pub sent-end : (n i x : ℕ) (b : Bench) → n ≤ i → sent (n - i) x b ≡ b
+unfolding bitsOf slots
+sent-end n i x b h = let e : n - i ≡ 0 = omega arith in rw e
+
+-- ## Read slots, as the loops make them
+
+reads-more : (n : ℕ) (b : Bench) → slots calls (readSlots (n + 1)) b
+    ≡ run (shown (readSlots n) b ++ (slotted (afterSlots n b) true .line ∷ [])) (slotted (afterSlots n b) true .bench)
+unfolding slots
+reads-more n b =
+    rw (← replicate-append-replicate n 1 true) (slots-append calls (readSlots n) (true ∷ []) b)
+
+pub byte-more : (n : ℕ) (b : Bench) → numberOf (shown (readSlots n) b) + bitNumber (slotted (afterSlots n b) true .line) * 2 ^ n ≡ numberOf (shown (readSlots (n + 1)) b)
+byte-more n b =
+    let long : length (shown (readSlots n) b) ≡ n = slots-length calls (readSlots n) b ∙ length-replicate n true in
+    let line = slotted (afterSlots n b) true .line in
+    sym (ap (λ r. numberOf (r .lines)) (reads-more n b) ∙ number-snoc (shown (readSlots n) b) line ∙ ap (λ (k : ℕ). numberOf (shown (readSlots n) b) + bitNumber line * 2 ^ k) long)
+
+pub slots-more : (n : ℕ) (b : Bench) → slotted (afterSlots n b) true .bench ≡ afterSlots (n + 1) b
+slots-more n b = sym (ap (λ r. r .devices) (reads-more n b))
+
+-- n bits make a number below 2 ^ n
+pub byte-small : (n : ℕ) (b : Bench) → numberOf (shown (readSlots n) b) < 2 ^ n
+byte-small n b =
+    let long : length (shown (readSlots n) b) ≡ n = slots-length calls (readSlots n) b ∙ length-replicate n true in
+    rw long at (number-lt (shown (readSlots n) b))
+
+-- ## Bytes, as the loop over them makes them
+
+slots-then : (m n : ℕ) (b : Bench) → afterSlots n (afterSlots m b) ≡ afterSlots (m + n) b
+slots-then m n b =
+    sym (ap (λ r. r .devices) (slots-append calls (readSlots m) (readSlots n) b)) ∙ ap (λ (l : List Bool). slots calls l b .devices) (replicate-append-replicate m n true)
+
+pub bytes-bench : (n : ℕ) (b : Bench) → afterSlots 8 (afterSlots (8 * n) b) ≡ afterSlots (8 * (n + 1)) b
+bytes-bench n b = let e : 8 * n + 8 ≡ 8 * (n + 1) = omega arith in slots-then (8 * n) 8 b ∙ ap (λ (k : ℕ). afterSlots k b) e
+
+pub bytes-length : (n : ℕ) (b : Bench) → length (bytesShown n b) ≡ n
+unfolding bytesShown
+bytes-length zero b = refl
+bytes-length (suc n) b = ap suc (bytes-length n (afterSlots 8 b))
+
+bytes-snoc : (n : ℕ) (b : Bench) → bytesShown (suc n) b ≡ bytesShown n b ++ (byteShown (afterSlots (8 * n) b) ∷ [])
+unfolding bytesShown slots
+bytes-snoc zero b = refl
+bytes-snoc (suc n) b =
+    let e : 8 + 8 * n ≡ 8 * suc n = omega arith in
+    ap (λ (l : List ℕ). byteShown b ∷ l) (bytes-snoc n (afterSlots 8 b))
+    ∙ ap (λ (c : Bench). byteShown b ∷ (bytesShown n (afterSlots 8 b) ++ (byteShown c ∷ []))) (slots-then 8 (8 * n) b ∙ ap (λ (k : ℕ). afterSlots k b) e)
+
+-- one byte more stored
+pub bytes-more : (n : ℕ) (b : Bench) (pad : List ℕ) → n < length pad
+    → set (laid pad 0 (bytesShown n b)) n (byteShown (afterSlots (8 * n) b)) ≡ laid pad 0 (bytesShown (n + 1) b)
+bytes-more n b pad h =
+    let e : 0 + length (bytesShown n b) ≡ n = omega (arith, bytes-length n b) in
+    laid-store pad 0 (bytesShown n b) (byteShown (afterSlots (8 * n) b)) n e h
+    ∙ ap (laid pad 0) (sym (ap (λ (k : ℕ). bytesShown k b) (add-one n) ∙ bytes-snoc n b))
+
+-- nine bytes over nine places
+pub bytes-all : (b : Bench) → laid (replicate 9 0) 0 (bytesShown 9 b) ≡ bytesShown 9 b
+unfolding laid bytesShown
+bytes-all b = refl
+
+-- ## A read by its reply
+
+pub fetched-by : (code : ℕ) (b : Bench)
+    → let r = replied (addressed code readScratchpad b) in fetched code b ≡ judgedReply (r .pad) (r .bench) (judged (familyOf code) (r .pad))
+unfolding fetched replied
+fetched-by code b = refl

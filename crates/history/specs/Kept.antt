@@ -1,0 +1,95 @@
+-- What every slot and every reset keeps, the master's calls keep: they make resets and slots, and nothing else, whether they are refused or not.
+--     read-keeps, write-keeps, outcome-keeps
+-- Assumes nothing.
+use Prim.Native.Nat.{ℕ}
+use mathlib.Core.Bool.{Bool, true, false, not, _&&_, _||_}
+use mathlib.Core.List.{List, []}
+use mathlib.Core.Path.{_≡_}
+use lib.Dec.{eqb, ltb}
+use Rattle.lists.specs.Choice.{if_then_else_}
+use Rattle.bits.specs.Bits.{bitsOf}
+use Rattle.commands.specs.Commands.{readScratchpad, writeScratchpad}
+use Rattle.refusals.specs.Refusals.{accepted, noRoom, noPresence, wireBusy, mismatch}
+use Rattle.family.specs.Families.{propertiesOf}
+use Rattle.family.specs.declared.Properties.{Properties}
+use Rattle.rom.specs.Code.{familyOf}
+use Rattle.scratchpad.specs.Judgement.{judged}
+use Rattle.scratchpad.specs.declared.Judged.{Judged}
+use Rattle.search_law.specs.Holds.{slots-hold, search-holds}
+use Rattle.search_law.specs.Wire.{slots, wireSearch}
+use Rattle.device.specs.declared.Settings.{Settings}
+use Rattle.bench.specs.Bench.{free}
+use Rattle.bench.specs.Slot.{slotted, resetDone}
+use Rattle.bench.specs.declared.Bench.{Bench}
+use Rattle.master_rules.specs.declared.Access.{Access}
+use Rattle.searching.specs.Buses.{calls}
+use Rattle.master_rules.specs.Wire.{sent}
+use Rattle.master_rules.specs.Access.{refusedAt, addressed, readSlots, bytesShown, afterSlots, judgedReply, fetched, onPresence, readBack, admission, readAt, settingsSent, asAsked, compared, writtenAndRead, writeAt}
+use Rattle.master_rules.specs.Search.{fewestPlaces, fewestBytes, codeLength, mostPasses, Outcome, refusedOutcome, lonelyOutcome, foundOutcome, searchRun, searchOutcome}
+
+module _ (Q : Bench → Type 0) (by-slot : (m : Bool) (b : Bench) → Q b → Q (slotted b m .bench)) (by-reset : (b : Bench) → Q b → Q (resetDone b .bench)) where
+  sent-keeps : (n x : ℕ) (b : Bench) → Q b → Q (sent n x b)
+  sent-keeps n x b q = slots-hold calls Q by-slot (bitsOf n x) b q
+
+  addressed-keeps : (code command : ℕ) (b : Bench) → Q b → Q (addressed code command b)
+  unfolding addressed
+  addressed-keeps code command b q = sent-keeps 8 command _ (sent-keeps 64 code _ (sent-keeps 8 _ b q))
+
+  replied-keeps : (b : Bench) → Q b → Q (afterSlots 72 b)
+  replied-keeps b q = slots-hold calls Q by-slot (readSlots 72) b q
+
+  -- a choice between two answers with the same bench
+  either : (t : Bool) (x y : Access) → Q (x .bench) → Q (y .bench) → Q ((if t then x else y) .bench)
+  either true x y p q = p
+  either false x y p q = q
+
+  fetched-keeps : (code : ℕ) (b : Bench) → Q b → Q (fetched code b .bench)
+  unfolding fetched
+  fetched-keeps code b q =
+      let r = replied-keeps _ (addressed-keeps code readScratchpad b q) in
+      either (eqb (judged (familyOf code) (bytesShown 9 (addressed code readScratchpad b)) .refusal) accepted) _ _ r r
+
+  presence-keeps : (go : Bench → Access) → ((b : Bench) → Q b → Q (go b .bench)) → (b : Bench) → Q b → Q (onPresence (resetDone b) go .bench)
+  presence-keeps go h b q = either (resetDone b .presence) _ _ (h _ (by-reset b q)) (by-reset b q)
+
+  read-back-keeps : (code : ℕ) (b : Bench) → Q b → Q (readBack code b .bench)
+  unfolding readBack
+  read-back-keeps code b q = presence-keeps (fetched code) (fetched-keeps code) b q
+
+  pub read-keeps : (code : ℕ) (b : Bench) → Q b → Q (readAt b code .bench)
+  unfolding readAt
+  read-keeps code b q = either (not (eqb (admission b code) accepted)) _ _ q (read-back-keeps code b q)
+
+  chosen : (t : Bool) (a b : Bench) → Q a → Q b → Q (if t then a else b)
+  chosen true a b p q = p
+  chosen false a b p q = q
+
+  written-keeps : (row : Properties) (code : ℕ) (s : Settings) (b : Bench) → Q b → Q (settingsSent row code s b)
+  unfolding settingsSent
+  written-keeps row code s b q =
+      let l = sent-keeps 8 (s .low) _ (sent-keeps 8 (s .high) _ (addressed-keeps code writeScratchpad b q)) in
+      chosen (row .configurable) _ _ (sent-keeps 8 (s .configuration) _ l) l
+
+  written-and-read-keeps : (code : ℕ) (s : Settings) (b : Bench) → Q b → Q (writtenAndRead code s b .bench)
+  unfolding writtenAndRead
+  written-and-read-keeps code s b q =
+      let row = propertiesOf (familyOf code) in
+      let r = read-back-keeps code _ (written-keeps row code s b q) in
+      either (eqb (readBack code (settingsSent row code s b) .refusal) accepted && not (asAsked row s (readBack code (settingsSent row code s b) .pad))) _ _ r r
+
+  pub write-keeps : (code : ℕ) (s : Settings) (b : Bench) → Q b → Q (writeAt b code s .bench)
+  unfolding writeAt
+  write-keeps code s b q =
+      either (not (eqb (admission b code) accepted)) _ _ q (presence-keeps (writtenAndRead code s) (written-and-read-keeps code s) b q)
+
+  pub outcome-keeps : (command : ℕ) (b : Bench) (places room : ℕ) → Q b → Q (searchOutcome command b places room .bench)
+  unfolding searchOutcome
+  outcome-keeps command b places room q =
+      by-tests (ltb places fewestPlaces || ltb room fewestBytes) (not (free b)) (not (resetDone b .presence))
+    where
+      by-tests : (t u v : Bool)
+          → Q ((if t then refusedOutcome noRoom b else if u then refusedOutcome wireBusy b else if v then lonelyOutcome (resetDone b .bench) else foundOutcome (searchRun command b)) .bench)
+      by-tests true u v = q
+      by-tests false true v = q
+      by-tests false false true = by-reset b q
+      by-tests false false false = search-holds calls Q by-slot by-reset (bitsOf 8 command) codeLength mostPasses b q

@@ -1,0 +1,23 @@
+// What the master's calls answer. The rules that the answers follow are in specs/.
+use bench::Bench;
+use temperature::Reading;
+
+// The answer of a read or a write at a code: the nine bytes of the scratchpad and the reading, or a
+// refusal with zeros; and the bench as the reset and the slots sent left it.
+pub struct Access {
+    pub refusal: u8,
+    pub pad: [u8; 9],
+    pub reading: Reading,
+    pub bench: Bench,
+}
+
+// The answer of a search: how many codes it listed, passes and slots it made, and bytes it recorded,
+// or a refusal with zeros; and the bench as the last slot left it.
+pub struct Searched {
+    pub refusal: u8,
+    pub codes: u8,
+    pub passes: u8,
+    pub slots: u16,
+    pub bytes: u16,
+    pub bench: Bench,
+}
