@@ -1,6 +1,6 @@
 //! A second implementation of the CRC, the temperature registers, code soundness and the naming of
 //! recorded lines, written from the scope and the data sheets in plain Rust and sharing nothing with
-//! the proved crates. `compare` runs both on the same input.
+//! the proved crates. `tests/second_program` runs both on the same input.
 //!
 //!     second tables            the registers of every count from -880 to 2000
 //!     second name              names the recording on standard input
