@@ -14,27 +14,14 @@ pub fn answer(bench: &mut Bench, line: &[u8]) -> Vec<String> {
 fn call(bench: &mut Bench, text: &str) -> Option<Vec<String>> {
     let words: Vec<&str> = text.split(' ').collect();
     let line = match words[..] {
-        ["search"] => return Some(found(master::search(bench, SEARCH, PLACES, BYTES))),
-        ["alarm"] => return Some(found(master::search(bench, ALARM, PLACES, BYTES))),
-        ["search", places, bytes] => {
-            let (places, bytes) = lengths(places, bytes)?;
-            return Some(found(master::search(bench, SEARCH, places, bytes)));
-        }
-        ["alarm", places, bytes] => {
-            let (places, bytes) = lengths(places, bytes)?;
-            return Some(found(master::search(bench, ALARM, places, bytes)));
-        }
+        ["search", ref lent @ ..] => return searched(bench, SEARCH, lent),
+        ["alarm", ref lent @ ..] => return searched(bench, ALARM, lent),
         ["reset"] => bit(bench.reset()),
         ["slot", "0"] => bit(bench.slot(false)),
         ["slot", "1"] => bit(bench.slot(true)),
         ["add", code, power, high, low, configuration] => {
-            let power = match power {
-                "line" => Power::Line,
-                "external" => Power::External,
-                _ => return None,
-            };
             let eeprom = settings(high, low, configuration)?;
-            refusal(bench.add(hex(code, 16)?, power, eeprom))
+            refusal(bench.add(hex(code, 16)?, power_kind(power)?, eeprom))
         }
         ["converted", code, count] => refusal(bench.converted(hex(code, 16)?, signed(count)?)),
         ["copied", code] => refusal(bench.copied(hex(code, 16)?)),
@@ -48,6 +35,24 @@ fn call(bench: &mut Bench, text: &str) -> Option<Vec<String>> {
         _ => return None,
     };
     Some(vec![line])
+}
+
+/// A search with the lengths lent, or with what it needs where none are given.
+fn searched(bench: &mut Bench, command: u8, lent: &[&str]) -> Option<Vec<String>> {
+    let (places, bytes) = match lent {
+        [] => (PLACES, BYTES),
+        [places, bytes] => lengths(places, bytes)?,
+        _ => return None,
+    };
+    Some(found(master::search(bench, command, places, bytes)))
+}
+
+fn power_kind(word: &str) -> Option<Power> {
+    match word {
+        "line" => Some(Power::Line),
+        "external" => Some(Power::External),
+        _ => None,
+    }
 }
 
 /// So many hexadecimal digits, in upper case.
