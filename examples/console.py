@@ -1,19 +1,29 @@
 #!/usr/bin/env python3
 """Drives the bench console through a pipe: two probes, a conversion, an alarm search, and a write that shows
-the bytes beside the ones written. Start it from anywhere; `./run` builds the console where that is needed."""
+the bytes beside the ones written. Start it from anywhere. It prints
+
+    on the wire: FB00000000000010 1E00000000000028
+    alarming: 1E00000000000028
+    scratchpad after the write: 910120F01FFF0C1008 reading: 0191
+    limits and configuration: 20F01F between 9101 and FF0C1008
+
+`./run bench_console` builds the console where that is needed; `examples/console.py target/bin/bench_console` takes
+the one that is built.
+"""
 import pathlib
 import subprocess
+import sys
 
 ROOT = pathlib.Path(__file__).resolve().parent.parent
 BATHROOM = "1E00000000000028"  # a DS18B20
 CELLAR = "FB00000000000010"  # a DS18S20
+PROGRAM = sys.argv[1:] or ["./run", "bench_console"]
 
 
 class Console:
     def __init__(self):
         self.process = subprocess.Popen(
-            ["./run", "bench_console"], cwd=ROOT, text=True, bufsize=1,
-            stdin=subprocess.PIPE, stdout=subprocess.PIPE)
+            PROGRAM, cwd=ROOT, text=True, bufsize=1, stdin=subprocess.PIPE, stdout=subprocess.PIPE)
 
     def line(self):
         return self.process.stdout.readline().rstrip("\n")

@@ -1,8 +1,8 @@
 //! A second implementation of the CRC, the temperature registers, code soundness and the naming of
 //! recorded lines, written from the scope and the data sheets in plain Rust and sharing nothing with
-//! the proved crates. `compare` runs both on the same input.
+//! the proved crates. `tests/second_program` runs both on the same input.
 //!
-//!     second tables            the registers of every count from -880 to 2000
+//!     second tables            the registers of every count from -880 to 2000, and their numbers
 //!     second name              names the recording on standard input
 //!     second lines SEED N      N generated lines, sound and damaged
 
@@ -32,9 +32,10 @@ fn register_b(count: i32, resolution: u32) -> i16 {
 
 fn tables(out: &mut impl Write) -> io::Result<()> {
     for count in -880..=2000 {
-        write!(out, "{} {:04x}", count, register_s(count) as u16)?;
-        for resolution in 0..4 {
-            write!(out, " {:04x}", register_b(count, resolution) as u16)?;
+        let registers = [register_s(count), register_b(count, 0), register_b(count, 1), register_b(count, 2), register_b(count, 3)];
+        write!(out, "{count}")?;
+        for register in registers {
+            write!(out, " {:04x} {register}", register as u16)?;
         }
         writeln!(out)?;
     }

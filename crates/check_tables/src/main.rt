@@ -1,9 +1,11 @@
-// Prints the register that each count of sixteenths from -880 to 2000 is stored as: by a family that
-// counts half degrees, then by one that counts sixteenths at 9, 10, 11 and 12 bits. The stored output
-// is that of the second implementation under tests/.
+// Prints, for each count of sixteenths from -880 to 2000, the register that it is stored as and the
+// number that this register reads back as: by a family that counts half degrees, then by one that
+// counts sixteenths at 9, 10, 11 and 12 bits. The stored output is that of the second implementation
+// under tests/.
 use family::Unit;
 use libc::STDOUT_FILENO;
 use temperature::Reading;
+use temperature::Register;
 use temperature::Sixteenths;
 
 // The configurations of 9 to 12 bits.
@@ -33,30 +35,39 @@ fn count_of(above: u16) -> Sixteenths {
     }
 }
 
-fn say_register(unit: Unit, count: Sixteenths, configuration: u8) {
-    let register = temperature::register_of(temperature::measured(unit, count, configuration));
-    say(b" ");
-    io::print_hex(STDOUT_FILENO, register.high as u64, 2);
-    io::print_hex(STDOUT_FILENO, register.low as u64, 2);
+fn bits_of(register: Register) -> u16 {
+    (register.low as u16) + 256 * (register.high as u16)
 }
 
-fn say_count(above: u16) {
-    if above < 880 {
-        say(b"-");
-        io::print_decimal(STDOUT_FILENO, (880 - above) as u64);
+fn say_number(z: i16) {
+    let bits = bits_of(temperature::register_of(Reading::InSixteenths(Sixteenths(z)))) as u64;
+    if bits < 32768 {
+        io::print_decimal(STDOUT_FILENO, bits);
     } else {
-        io::print_decimal(STDOUT_FILENO, (above - 880) as u64);
+        say(b"-");
+        io::print_decimal(STDOUT_FILENO, 65536 - bits);
+    }
+}
+
+fn say_stored(unit: Unit, count: Sixteenths, configuration: u8) {
+    let register = temperature::register_of(temperature::measured(unit, count, configuration));
+    say(b" ");
+    io::print_hex(STDOUT_FILENO, bits_of(register) as u64, 4);
+    say(b" ");
+    match temperature::reading_of(unit, register.low, register.high) {
+        Reading::InSixteenths(c) => say_number(c.0),
+        Reading::InHalves(h) => say_number(h.0),
     }
 }
 
 fn say_line(above: u16) {
     let count = count_of(above);
-    say_count(above);
-    say_register(Unit::HalfDegrees, count, 0);
-    say_register(Unit::Sixteenths, count, BITS_9);
-    say_register(Unit::Sixteenths, count, BITS_10);
-    say_register(Unit::Sixteenths, count, BITS_11);
-    say_register(Unit::Sixteenths, count, BITS_12);
+    say_number(count.0);
+    say_stored(Unit::HalfDegrees, count, 0);
+    say_stored(Unit::Sixteenths, count, BITS_9);
+    say_stored(Unit::Sixteenths, count, BITS_10);
+    say_stored(Unit::Sixteenths, count, BITS_11);
+    say_stored(Unit::Sixteenths, count, BITS_12);
     say(b"\n");
 }
 

@@ -1,0 +1,82 @@
+//! The bench: up to 32 devices on one wire, and the calls that change it.
+
+use crate::code::family_of;
+use crate::device::{Device, Power, Work};
+
+#[derive(Default)]
+pub struct Bench {
+    pub devices: Vec<Device>,
+}
+
+/// Refusals by number; `Ok` is 0.
+pub type Answer<T> = Result<T, u8>;
+
+impl Bench {
+    pub fn look(&self, code: u64) -> Answer<&Device> {
+        self.devices.iter().find(|d| d.code == code).ok_or(12)
+    }
+
+    fn find(&mut self, code: u64) -> Answer<&mut Device> {
+        self.devices.iter_mut().find(|d| d.code == code).ok_or(12)
+    }
+
+    pub fn add(&mut self, code: u64, power: Power, eeprom: [u8; 3]) -> Answer<()> {
+        let family = family_of(code)?;
+        if self.look(code).is_ok() {
+            return Err(8);
+        }
+        if self.devices.len() == 32 {
+            return Err(9);
+        }
+        self.devices.push(Device::new(code, family, power, eeprom));
+        Ok(())
+    }
+
+    /// A busy line-powered device holds the wire.
+    pub fn is_held(&self) -> bool {
+        self.devices.iter().any(|d| d.power == Power::Line && d.is_busy())
+    }
+
+    /// Whether a device shows its presence.
+    pub fn reset(&mut self) -> Answer<bool> {
+        if self.is_held() {
+            return Err(10);
+        }
+        self.devices.iter_mut().for_each(Device::reset);
+        Ok(!self.devices.is_empty())
+    }
+
+    /// The line's bit: the AND of the master's and of every device's.
+    pub fn slot(&mut self, bit: bool) -> Answer<bool> {
+        if self.is_held() {
+            return Err(10);
+        }
+        let line = bit && self.devices.iter().all(Device::offer);
+        self.devices.iter_mut().for_each(|d| d.hear(line));
+        Ok(line)
+    }
+
+    pub fn converted(&mut self, code: u64, count: i16) -> Answer<()> {
+        let device = self.find(code)?;
+        if device.work != Work::Converting {
+            return Err(13);
+        }
+        if !(-880..=2000).contains(&count) {
+            return Err(11);
+        }
+        device.conversion_done(count);
+        Ok(())
+    }
+
+    pub fn copied(&mut self, code: u64) -> Answer<()> {
+        let device = self.find(code)?;
+        match device.work {
+            Work::Copying(bytes) => Ok(device.copy_done(bytes)),
+            _ => Err(13),
+        }
+    }
+
+    pub fn cycle(&mut self, code: u64) -> Answer<()> {
+        Ok(self.find(code)?.power_up())
+    }
+}

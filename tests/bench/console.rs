@@ -1,0 +1,137 @@
+//! The console's text: a line to a call, the call's answer to lines.
+
+use crate::bench::{Answer, Bench};
+use crate::device::{Power, Work};
+use crate::master::{self, Found, ALARM, BYTES, PLACES, SEARCH};
+
+/// The lines that answer a line, without their feeds.
+pub fn answer(bench: &mut Bench, line: &[u8]) -> Vec<String> {
+    let text = std::str::from_utf8(line).unwrap_or("");
+    call(bench, text).unwrap_or_else(|| vec!["?".to_string()])
+}
+
+/// The answer, or nothing where the line is no call.
+fn call(bench: &mut Bench, text: &str) -> Option<Vec<String>> {
+    let words: Vec<&str> = text.split(' ').collect();
+    let line = match words[..] {
+        ["search", ref lent @ ..] => return searched(bench, SEARCH, lent),
+        ["alarm", ref lent @ ..] => return searched(bench, ALARM, lent),
+        ["reset"] => bit(bench.reset()),
+        ["slot", "0"] => bit(bench.slot(false)),
+        ["slot", "1"] => bit(bench.slot(true)),
+        ["add", code, power, high, low, configuration] => {
+            let eeprom = settings(high, low, configuration)?;
+            refusal(bench.add(hex(code, 16)?, power_kind(power)?, eeprom))
+        }
+        ["converted", code, count] => refusal(bench.converted(hex(code, 16)?, signed(count)?)),
+        ["copied", code] => refusal(bench.copied(hex(code, 16)?)),
+        ["cycle", code] => refusal(bench.cycle(hex(code, 16)?)),
+        ["read", code] => access(master::read(bench, hex(code, 16)?)),
+        ["write", code, high, low, configuration] => {
+            let asked = settings(high, low, configuration)?;
+            access(master::write(bench, hex(code, 16)?, asked))
+        }
+        ["show", code] => show(bench, hex(code, 16)?),
+        _ => return None,
+    };
+    Some(vec![line])
+}
+
+/// A search with the lengths lent, or with what it needs where none are given.
+fn searched(bench: &mut Bench, command: u8, lent: &[&str]) -> Option<Vec<String>> {
+    let (places, bytes) = match lent {
+        [] => (PLACES, BYTES),
+        [places, bytes] => lengths(places, bytes)?,
+        _ => return None,
+    };
+    Some(found(master::search(bench, command, places, bytes)))
+}
+
+fn power_kind(word: &str) -> Option<Power> {
+    match word {
+        "line" => Some(Power::Line),
+        "external" => Some(Power::External),
+        _ => None,
+    }
+}
+
+/// So many hexadecimal digits, in upper case.
+fn hex(word: &str, digits: usize) -> Option<u64> {
+    let is_digit = |c: u8| c.is_ascii_digit() || (b'A'..=b'F').contains(&c);
+    let right = word.len() == digits && word.bytes().all(is_digit);
+    right.then(|| u64::from_str_radix(word, 16).unwrap())
+}
+
+fn settings(high: &str, low: &str, configuration: &str) -> Option<[u8; 3]> {
+    Some([hex(high, 2)? as u8, hex(low, 2)? as u8, hex(configuration, 2)? as u8])
+}
+
+/// One to five decimal digits, leading zeros taken.
+fn decimal(word: &str) -> Option<i32> {
+    let right = (1..=5).contains(&word.len()) && word.bytes().all(|c| c.is_ascii_digit());
+    right.then(|| word.parse().unwrap())
+}
+
+/// A decimal number with or without a minus, of 16 bits.
+fn signed(word: &str) -> Option<i16> {
+    let value = match word.strip_prefix('-') {
+        Some(digits) => -decimal(digits)?,
+        None => decimal(word)?,
+    };
+    i16::try_from(value).ok()
+}
+
+/// The lengths lent to a search: no more than it needs.
+fn lengths(places: &str, bytes: &str) -> Option<(usize, usize)> {
+    let (places, bytes) = (decimal(places)? as usize, decimal(bytes)? as usize);
+    (places <= PLACES && bytes <= BYTES).then_some((places, bytes))
+}
+
+fn refusal(answer: Answer<()>) -> String {
+    answer.err().unwrap_or(0).to_string()
+}
+
+fn bit(answer: Answer<bool>) -> String {
+    match answer {
+        Ok(bit) => format!("0 {}", bit as u8),
+        Err(number) => format!("{number} 0"),
+    }
+}
+
+fn digits(bytes: &[u8]) -> String {
+    bytes.iter().map(|b| format!("{b:02X}")).collect()
+}
+
+fn access(answer: Answer<[u8; 9]>) -> String {
+    let (number, pad) = match answer {
+        Ok(pad) => (0, pad),
+        Err(number) => (number, [0; 9]),
+    };
+    format!("{number} {} {:02X}{:02X}", digits(&pad), pad[1], pad[0])
+}
+
+fn found(answer: Answer<Found>) -> Vec<String> {
+    let (number, found) = match answer {
+        Ok(found) => (0, found),
+        Err(number) => (number, Found::default()),
+    };
+    let Found { codes, passes, slots, recording } = found;
+    let mut lines = vec![format!("{number} {} {passes} {slots} {}", codes.len(), recording.len())];
+    lines.extend(codes.iter().map(|code| format!("{code:016X}")));
+    lines.extend(recording.lines().map(String::from));
+    lines
+}
+
+fn show(bench: &Bench, code: u64) -> String {
+    match bench.look(code) {
+        Err(number) => format!("{number} {} {} 0 0", digits(&[0; 8]), digits(&[0; 3])),
+        Ok(device) => {
+            let busy = match device.work {
+                Work::Idle => 0,
+                Work::Converting => 1,
+                Work::Copying(_) => 2,
+            };
+            format!("0 {} {} {} {busy}", digits(&device.pad), digits(&device.eeprom), device.flag as u8)
+        }
+    }
+}
