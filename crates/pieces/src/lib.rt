@@ -1,8 +1,25 @@
-// What of an unfinished line is kept between the pieces of a text.
+// A text in pieces: what came of one, and what of an unfinished line is kept for the next.
 ghost use mathlib.Core.Path.{_≡_};
 ghost use Prim.Native.Nat.{min};
 ghost use lib.ListN.{length, take, drop};
 ghost use Rattle.lists.specs.Laid.{laid};
+
+// What came of a piece.
+pub struct Fed {
+    pub refusal: u8,
+    // how many bytes of what is said stand at the front of its buffer
+    pub written: usize,
+    // how many bytes of an unfinished line stand at the front of the piece's buffer
+    pub held: usize,
+}
+
+// How far the whole lines of a piece go.
+pub struct Progress {
+    // how many bytes were said for them
+    pub written: usize,
+    // where the unfinished line begins
+    pub next: usize,
+}
 
 fn least(a: usize, b: usize) -> usize
     ensures { λ r. ⌜ r ≡ min a b ⌝ }
