@@ -13,7 +13,7 @@ use lib.ListN.{length, set, take, drop, getD, length-append, length-take, length
 use lib.Seq.{take-set-le, set-split, drop-at, length-take-le, append-snoc, drop-append-seam}
 use Rattle.lists.specs.Choice.{if_then_else_}
 use Rattle.lists.specs.Laid.{laid}
-use Rattle.lists.specs.LaidLaws.{laid-more}
+use Rattle.lists.specs.LaidLaws.{laid-more, laid-length, laid-then}
 use Rattle.refusals.specs.Refusals.{accepted, noRoom, notHex}
 use Rattle.laying.specs.declared.Written.{Written}
 use Rattle.text.specs.Digits.{digitOf, digits, hexDigits, hexOf, spells, bytesOf}
@@ -90,3 +90,13 @@ module _ (out cs : List ℕ) where
         let z : 0 + n ≡ n = omega arith in
         let d = lay-done out 0 (bytesOf cs) n count h in
         rw spelt (ap (λ (k : ℕ). record { refusal = accepted; next = k }) (sym z) ∙ d .0, d .1)
+
+-- ## One text behind another
+
+-- a text that fits, laid just behind one that is laid
+pub lay-behind : (d : List ℕ) (at : ℕ) (x y : List ℕ) (n : ℕ) → at + length x ≡ n → n + length y ≤ length d → layLeaves (laid d at x) n y ≡ laid d at (x ++ y)
+lay-behind d at x y n e h =
+    let room : at + length x ≤ length d = omega arith in
+    let size = laid-length d at x room in
+    let fits : n + length y ≤ length (laid d at x) = omega arith in
+    lay-fits (laid d at x) n y fits .1 ∙ laid-then d at x y n e (omega arith)

@@ -16,8 +16,8 @@ use Rattle.scratchpad.specs.Judgement.{judged}
 use Rattle.scratchpad.specs.declared.Judged.{Judged}
 use Rattle.frame.specs.declared.Frame.{Frame}
 use Rattle.frame.specs.Frames.{slotBit}
-use Rattle.frame.specs.Lines.{Line}
-use Rattle.frame.specs.Reading.{Reading, carries, refused, readLine}
+use Rattle.text.specs.Lines.{Line}
+use Rattle.frame.specs.ReadLine.{LineContent, carries, noFrame, readLine}
 use Rattle.naming.specs.declared.Name.{Name}
 use Rattle.naming.specs.declared.Name.the-variants.{Empty, Search, Alarm, Nobody, Pad, Other}
 use Rattle.naming.specs.declared.Named.{Named}
@@ -127,9 +127,9 @@ named f =
     else plain Other
 
 -- what a line is named: the refusal with which it is read, or the name of its frame
-abbrev pub readNamed : Reading → Named
+abbrev pub readNamed : LineContent → Named
 readNamed (carries f) = named f
-readNamed (refused n) = refusedName n
+readNamed (noFrame n) = refusedName n
 
 abbrev pub lineNamed : Line → Named
 lineNamed l = readNamed (readLine l)

@@ -5,11 +5,11 @@ use native.Mathlib.Omega.{arith}
 use borrow.Author.Tests.{lt-ltb, le-ltb}
 use denote.Ref.{now}
 use lib.ListN.{length, drop, length-drop}
-use Rattle.frame.specs.LinesLaws.{feed-within}
+use Rattle.text.specs.LinesLaws.{feed-within}
 use Rattle.frame.specs.RecordingLaws.{read-done, read-first}
 use borrow.Author.Needs.{needs}
-use Rattle.frame.proofs.read_at.Statement.{statement}
-use Rattle.frame.proofs.read_at.Tie as tie
+use Rattle.frame.proofs.read_line_at.Statement.{statement}
+use Rattle.frame.proofs.read_line_at.Tie as tie
 
 -- the end is within the data
 within : (c : tie.After-line-end) → c .line-end .result ≤ length (now (c .before .before .before .args .s))
@@ -73,8 +73,8 @@ returns-3 c =
     let r = read-first (now (a .s)) (a .at) (k .line-end .result) (k .before .if1 .left) (sym (k .line-end .ensures)) in
     c .read-line2 .ensures ∙ sym (rw (le-ltb _ _ (c .before .before .if2 .left)) at r)
 
-pub read-at-spec : {M : Type 1} → statement M
-read-at-spec =
+pub read-line-at-spec : {M : Type 1} → statement M
+read-line-at-spec =
     tie.close
     (tie.spec
     blank-requires

@@ -3,46 +3,45 @@
 use Prim.Native.Nat.{ℕ, _+_, _*_, _<_, _≤_}
 use mathlib.Core.Path.{_≡_, refl, _∙_}
 use mathlib.Core.Bool.{Bool, true, false, _&&_, _||_, and-false}
-use mathlib.Core.List.{List, [], _∷_}
+use mathlib.Core.List.{List}
 use native.Mathlib.Omega.{arith}
 use borrow.Author.Tests.{leb-true, lt-ltb, le-ltb, ltb-false, le-leb, lt-leb, eq-eqb, ne-eqb}
 use lib.Dec.{eqb, leb, ltb}
-use lib.ListN.{length, drop, getD, length-drop}
+use lib.ListN.{length, drop, length-drop}
 use Rattle.lists.specs.Choice.{if_then_else_}
-use Rattle.lists.specs.Fold.{fold, all}
 use Rattle.lists.specs.Laid.{laid}
 use Rattle.refusals.specs.Refusals.{notHex, malformed}
 use Rattle.frame.specs.declared.Frame.{Frame}
 use Rattle.lists.specs.ChoiceLaws.{and-left, and-right}
-use Rattle.frame.specs.Hex.{valueOf, isDigit, numberIn, bytesOf}
-use Rattle.frame.specs.HexLaws.{bytes-length}
+use Rattle.text.specs.Digits.{bytesOf, spells}
+use Rattle.text.specs.DigitsLaws.{bytes-length}
 use Rattle.frame.specs.Frames.{noBits, bytesFor, countAllowed, clearFrom, mostSlots}
 use Rattle.frame.specs.FramesLaws.{pad-clear}
-use Rattle.frame.specs.Lines.{Line}
-use Rattle.frame.specs.Reading.{longest, presenceIn, countIn, frameIn, wellFormed, Reading, carries, refused, readDigits, readLine, answered, readSlots}
+use Rattle.text.specs.Lines.{Line}
+use Rattle.frame.specs.ReadLine.{longest, presenceIn, countIn, frameIn, wellFormed, LineContent, carries, noFrame, readDigits, readLine, found, answerOf, readSlots}
 
 -- ## The answer's next place
 
-pub answered-next : (n : ℕ) (r : Reading) → answered n r .next ≡ n
-answered-next n (carries f) = refl
-answered-next n (refused k) = refl
+pub found-next : (n : ℕ) (r : LineContent) → answerOf (found r n) .next ≡ n
+found-next n (carries f) = refl
+found-next n (noFrame k) = refl
 
 -- ## Each way a line is refused before its digits are looked into
 
 module _ (l : Line) where
-  pub read-long : longest < length (l .chars) → readLine l ≡ refused malformed
+  pub read-long : longest < length (l .chars) → readLine l ≡ noFrame malformed
   unfolding readLine
   read-long h = rw (lt-ltb longest (length (l .chars)) h)
 
-  pub read-open : length (l .chars) ≤ longest → l .fed ≡ false → readLine l ≡ refused notHex
+  pub read-open : length (l .chars) ≤ longest → l .fed ≡ false → readLine l ≡ noFrame notHex
   unfolding readLine
-  read-open h e = rw (le-ltb longest (length (l .chars)) h, e, and-false (all isDigit (l .chars)))
+  read-open h e = rw (le-ltb longest (length (l .chars)) h, e, and-false (spells 16 (l .chars)))
 
-  pub read-other : length (l .chars) ≤ longest → all isDigit (l .chars) ≡ false → readLine l ≡ refused notHex
+  pub read-other : length (l .chars) ≤ longest → spells 16 (l .chars) ≡ false → readLine l ≡ noFrame notHex
   unfolding readLine
   read-other h e = rw (le-ltb longest (length (l .chars)) h, e)
 
-  pub read-fed : length (l .chars) ≤ longest → l .fed ≡ true → all isDigit (l .chars) ≡ true → readLine l ≡ readDigits (l .chars)
+  pub read-fed : length (l .chars) ≤ longest → l .fed ≡ true → spells 16 (l .chars) ≡ true → readLine l ≡ readDigits (l .chars)
   unfolding readLine
   read-fed h e d = rw (le-ltb longest (length (l .chars)) h, e, d)
 
@@ -50,25 +49,25 @@ module _ (l : Line) where
 
 pub record Accepted (l : Line) (f : Frame) : Type 0 where
   pub short : length (l .chars) ≤ longest
-  pub digital : all isDigit (l .chars) ≡ true
+  pub digital : spells 16 (l .chars) ≡ true
   pub ended : l .fed ≡ true
   pub formed : wellFormed (l .chars) ≡ true
   pub spelt : frameIn (l .chars) ≡ f
 
 pub read-accepted : (l : Line) (f : Frame) → readLine l ≡ carries f → Accepted l f
 unfolding readLine readDigits
-read-accepted l f h = by-test (ltb longest (length (l .chars))) refl (all isDigit (l .chars) && l .fed) refl (wellFormed (l .chars)) refl h
+read-accepted l f h = by-test (ltb longest (length (l .chars))) refl (spells 16 (l .chars) && l .fed) refl (wellFormed (l .chars)) refl h
   where
-    by-test : (t : Bool) → ltb longest (length (l .chars)) ≡ t → (u : Bool) → (all isDigit (l .chars) && l .fed) ≡ u → (v : Bool) → wellFormed (l .chars) ≡ v
-        → (if t then refused malformed else if u then (if v then carries (frameIn (l .chars)) else refused malformed) else refused notHex) ≡ carries f
+    by-test : (t : Bool) → ltb longest (length (l .chars)) ≡ t → (u : Bool) → (spells 16 (l .chars) && l .fed) ≡ u → (v : Bool) → wellFormed (l .chars) ≡ v
+        → (if t then noFrame malformed else if u then (if v then carries (frameIn (l .chars)) else noFrame malformed) else noFrame notHex) ≡ carries f
         → Accepted l f
     by-test true a u b v c h = let z : _≡_ {A = ℕ} 0 1 = cc in absurd (omega arith)
     by-test false a false b v c h = let z : _≡_ {A = ℕ} 0 1 = cc in absurd (omega arith)
     by-test false a true b false c h = let z : _≡_ {A = ℕ} 0 1 = cc in absurd (omega arith)
     by-test false a true b true c h = record {
       short = ltb-false longest (length (l .chars)) a;
-      digital = and-left (all isDigit (l .chars)) (l .fed) b;
-      ended = and-right (all isDigit (l .chars)) (l .fed) b;
+      digital = and-left (spells 16 (l .chars)) (l .fed) b;
+      ended = and-right (spells 16 (l .chars)) (l .fed) b;
       formed = c;
       spelt = cc;
     }
@@ -78,24 +77,7 @@ unfolding readLine readDigits
 accepted-read l f a =
     rw (le-ltb longest (length (l .chars)) (a .short), a .digital, a .ended, a .formed, a .spelt)
 
--- ## The head's numbers, digit by digit
-
-pub presence-in : (cs : List ℕ) → 6 ≤ length cs → presenceIn cs ≡ 16 * valueOf (getD cs 0 0) + valueOf (getD cs 1 0)
-unfolding numberIn fold
-presence-in [] h = absurd (omega arith)
-presence-in (a ∷ []) h = absurd (omega arith)
-presence-in (a ∷ b ∷ cs) h = omega arith
-
-pub count-in : (cs : List ℕ) → 6 ≤ length cs
-    → countIn cs ≡ 256 * (16 * valueOf (getD cs 2 0) + valueOf (getD cs 3 0)) + (16 * valueOf (getD cs 4 0) + valueOf (getD cs 5 0))
-unfolding numberIn fold
-count-in [] h = absurd (omega arith)
-count-in (a ∷ []) h = absurd (omega arith)
-count-in (a ∷ b ∷ []) h = absurd (omega arith)
-count-in (a ∷ b ∷ c ∷ []) h = absurd (omega arith)
-count-in (a ∷ b ∷ c ∷ d ∷ []) h = absurd (omega arith)
-count-in (a ∷ b ∷ c ∷ d ∷ e ∷ []) h = absurd (omega arith)
-count-in (a ∷ b ∷ c ∷ d ∷ e ∷ f ∷ cs) h = omega arith
+-- ## The slots' digits
 
 pub body-length : (cs : List ℕ) (n : ℕ) → length cs ≡ 2 * bytesFor n → length (bytesOf cs) ≡ bytesFor n
 body-length cs n e = bytes-length (bytesFor n) cs e
@@ -105,24 +87,24 @@ pub slots-clear : (p : Bool) (n : ℕ) (cs : List ℕ) → clearFrom n (bytesOf 
 unfolding readSlots
 slots-clear p n cs h = rw h
 
-pub slots-spare : (p : Bool) (n : ℕ) (cs : List ℕ) → clearFrom n (bytesOf cs) ≡ false → readSlots p n cs ≡ refused malformed
+pub slots-spare : (p : Bool) (n : ℕ) (cs : List ℕ) → clearFrom n (bytesOf cs) ≡ false → readSlots p n cs ≡ noFrame malformed
 unfolding readSlots
 slots-spare p n cs h = rw h
 
 -- ## Each way a line of digits is refused by its head
 
 module _ (cs : List ℕ) where
-  unformed : wellFormed cs ≡ false → readDigits cs ≡ refused malformed
+  unformed : wellFormed cs ≡ false → readDigits cs ≡ noFrame malformed
   unfolding readDigits
   unformed e = rw e
 
-  pub wrong-presence : 1 < presenceIn cs → readDigits cs ≡ refused malformed
+  pub wrong-presence : 1 < presenceIn cs → readDigits cs ≡ noFrame malformed
   wrong-presence h = unformed (rw (lt-leb (presenceIn cs) 1 h))
 
-  pub wrong-length : (length cs ≡ 6 + 2 * bytesFor (countIn cs) → ⊥) → readDigits cs ≡ refused malformed
+  pub wrong-length : (length cs ≡ 6 + 2 * bytesFor (countIn cs) → ⊥) → readDigits cs ≡ noFrame malformed
   wrong-length h = unformed (rw (ne-eqb (length cs) (6 + 2 * bytesFor (countIn cs)) h, and-false (leb (presenceIn cs) 1)))
 
-  pub wrong-count : countAllowed (eqb (presenceIn cs) 1) (countIn cs) ≡ false → readDigits cs ≡ refused malformed
+  pub wrong-count : countAllowed (eqb (presenceIn cs) 1) (countIn cs) ≡ false → readDigits cs ≡ noFrame malformed
   wrong-count h = unformed (rw (h, and-false (leb (presenceIn cs) 1 && eqb (length cs) (6 + 2 * bytesFor (countIn cs)))))
 
   -- behind a head that is in order the slots decide
