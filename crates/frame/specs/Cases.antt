@@ -9,10 +9,10 @@ use Rattle.lists.specs.Fold.{fold, all}
 use Rattle.lists.specs.Laid.{laid}
 use Rattle.bits.specs.Bits.{bitsOf, bytesBits}
 use Rattle.refusals.specs.Refusals.{malformed, notHex}
-use Rattle.frame.specs.Hex.{numberIn, bytesOf}
+use Rattle.text.specs.Digits.{numberIn, bytesOf}
 use Rattle.frame.specs.Frames.{noBits, blankFrame}
-use Rattle.frame.specs.Lines.{linesOf}
-use Rattle.frame.specs.Reading.{carries, refused, readDigits, readLine}
+use Rattle.text.specs.Lines.{linesOf}
+use Rattle.frame.specs.ReadLine.{carries, noFrame, readDigits, readLine}
 use Rattle.frame.specs.Recording.{readAll}
 
 -- 01000AEC03, 000000, an empty line, and 000000 without its feed
@@ -22,11 +22,11 @@ sample =
 
 pub sample-read : readAll sample
     ≡ carries record { presence = true; count = 10; bits = 0xEC ∷ 0x03 ∷ replicate 62 0 }
-    ∷ carries (blankFrame false) ∷ refused malformed ∷ refused notHex ∷ []
+    ∷ carries (blankFrame false) ∷ noFrame malformed ∷ noFrame notHex ∷ []
 unfolding linesOf readLine readDigits numberIn bytesOf fold all laid noBits bitsOf bytesBits
 sample-read = refl
 
 -- 135 characters that are no digits are over-long first; 134 are not
-pub long-read : readAll (replicate 135 0x7A ++ (0x0A ∷ []) ++ replicate 134 0x7A ++ (0x0A ∷ [])) ≡ refused malformed ∷ refused notHex ∷ []
+pub long-read : readAll (replicate 135 0x7A ++ (0x0A ∷ []) ++ replicate 134 0x7A ++ (0x0A ∷ [])) ≡ noFrame malformed ∷ noFrame notHex ∷ []
 unfolding linesOf readLine all
 long-read = refl

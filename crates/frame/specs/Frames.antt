@@ -1,15 +1,25 @@
--- A frame: one reset, whether any device showed presence, and the line's bit in each slot after it, at most 512.
--- The first slot is bit 0 of the first byte. A line can carry a frame that has no slot without presence and no bit set past its slots.
+-- A frame: one reset, whether any device showed presence, and the line's bit in each slot after it, at most 512. The first slot is bit 0 of the first
+-- byte. A line can carry a frame that has no slot without presence and no bit set past its slots.
+--     blankFrame p           a frame with no slot
+--     slotsOf f              the bits of its slots, in order
+--     slotBit f i            the bit of slot i, false at or past the count
+--     bytesFor n             how many bytes n slots take
+--     lineable f             whether a line can carry the frame
+--     pushed f b             the frame with one slot more; as it is when it has 512
+--     slotsPushed f b        the slots so far and the new one
+--     pushedAll f bs         the frame with several slots more
+--     Held f                 the frame is one that the program can hold
+--     Recorded bs f          the frame shows presence and just the slots bs, and a line can carry it
 -- Assumes nothing.
-use Prim.Native.Nat.{ℕ, _+_, _/_, _%_}
+use Prim.Native.Nat.{ℕ, zero, suc, _+_, _/_}
 use mathlib.Core.Path.{_≡_}
 use mathlib.Core.Bool.{Bool, true, false, not, _&&_, _||_}
-use mathlib.Core.List.{List}
+use mathlib.Core.List.{List, [], _∷_, _++_}
 use lib.Dec.{eqb, leb, ltb}
 use lib.ListN.{length, set, take, drop, getD, replicate}
 use Rattle.lists.specs.Choice.{if_then_else_}
 use Rattle.lists.specs.Fold.{fold, all}
-use Rattle.bits.specs.Bits.{bitsOf, numberOf, bytesBits}
+use Rattle.bits.specs.Bits.{numberOf, bytesBits}
 use Rattle.frame.specs.declared.Frame.{Frame}
 use Rattle.bits.specs.Bytes.{Bytes}
 
@@ -49,22 +59,24 @@ countAllowed p n = leb n mostSlots && (p || eqb n 0)
 abbrev pub lineable : Frame → Bool
 lineable f = countAllowed (f .presence) (f .count) && clearFrom (f .count) (f .bits)
 
--- a byte with bit i replaced
-abbrev pub withBit : ℕ → ℕ → Bool → ℕ
-withBit x i b = numberOf (set (bitsOf 8 x) i b)
+-- the n bytes that hold some bits, eight in each, the first in bit 0
+unfoldable pub packed : ℕ → List Bool → List ℕ
+packed zero bs = []
+packed (suc n) bs = numberOf (take 8 bs) ∷ packed n (drop 8 bs)
 
--- the bytes with the bit at place i replaced
-abbrev pub withSlot : List ℕ → ℕ → Bool → List ℕ
-withSlot l i b = set l (i / 8) (withBit (getD l (i / 8) 0) (i % 8) b)
-
--- the frame with one slot more; the frame as it is when it has 512
+-- the frame with one slot more: the bit whose number is the count is the new one, all others are as they were, and the count is one more; the frame
+-- as it is when it has 512
 abbrev pub pushed : Frame → Bool → Frame
 pushed f b =
     if ltb (f .count) mostSlots then record {
       presence = f .presence;
       count = f .count + 1;
-      bits = withSlot (f .bits) (f .count) b;
+      bits = packed 64 (set (bytesBits (f .bits)) (f .count) b);
     } else f
+
+-- the slots so far and the new one; the slots as they are when there are 512
+abbrev pub slotsPushed : Frame → Bool → List Bool
+slotsPushed f b = if ltb (f .count) mostSlots then slotsOf f ++ (b ∷ []) else slotsOf f
 
 -- the frame with several slots more, one after the other
 abbrev pub pushedAll : Frame → List Bool → Frame

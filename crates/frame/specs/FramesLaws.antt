@@ -8,10 +8,10 @@ use native.Mathlib.Omega.{arith}
 use native.Mathlib.Nat.{pow-suc}
 use lib.Pow.{shr-lt}
 use native.Mathlib.Numerals.{add-one}
-use borrow.Author.Tests.{eq-eqb, ne-eqb, eqb-true, eqb-false, lt-ltb, le-leb}
-use lib.Dec.{eqb, lit<}
+use borrow.Author.Tests.{eq-eqb, ne-eqb, eqb-true, eqb-false, lt-ltb, ltb-true, le-leb}
+use lib.Dec.{eqb, ltb, lit<}
 use lib.ListN.{length, set, take, drop, getD, replicate, length-set, length-replicate, length-take, length-drop, length-append, take-append-drop, List·getD-eq-default, drop-of-length-le}
-use lib.Seq.{drop-nil, drop-cons, drop-append-add, drop-append-le, drop-at, set-append-left, take-suc-set, drop-set-lt, length-take-le, drop-drop, getD-take}
+use lib.Seq.{drop-nil, drop-cons, drop-append-add, drop-append-le, take-at, drop-at, set-append-left, take-suc-set, drop-set-lt, length-take-le, drop-drop, getD-take}
 use Rattle.lists.specs.Fold.{fold, all}
 use Rattle.lists.specs.Laid.{laid}
 use Rattle.bits.specs.Bits.{odd, bitAt, bitNumber, bitsOf, numberOf, bytesBits}
@@ -22,7 +22,7 @@ use Rattle.lists.specs.FoldLaws.{all-append, all-drop}
 use Rattle.lists.specs.Places.{set-append-add, drop-replicate}
 use Rattle.lists.specs.ChoiceLaws.{and-left, and-right}
 use Rattle.bits.specs.BytesLaws.{bytes-set, bytes-drop, bytes-append-bytes}
-use Rattle.frame.specs.Frames.{mostSlots, noBits, blankFrame, slotsOf, slotBit, clearFrom, countAllowed, lineable, withBit, withSlot, pushed, pushedAll, Held, Recorded}
+use Rattle.frame.specs.Frames.{mostSlots, noBits, blankFrame, slotsOf, slotBit, clearFrom, countAllowed, lineable, packed, pushed, slotsPushed, pushedAll, Held, Recorded}
 
 -- ## Bits of bytes
 
@@ -136,7 +136,15 @@ pad-back l n c s h k w e =
     let m : length (drop n l) ≡ 64 - n = length-drop n l ∙ ap (λ (a : ℕ). a - n) s in
     pad-parts (take n l) few ∙ rw (t, ← m, ← zero-rest) (take-append-drop n l)
 
--- ## One bit replaced
+-- ## One bit replaced, as the code makes it in the byte that it stands in
+
+-- a byte with bit i replaced
+abbrev pub withBit : ℕ → ℕ → Bool → ℕ
+withBit x i b = numberOf (set (bitsOf 8 x) i b)
+
+-- the bytes with the bit at place i replaced
+abbrev pub withSlot : List ℕ → ℕ → Bool → List ℕ
+withSlot l i b = set l (i / 8) (withBit (getD l (i / 8) 0) (i % 8) b)
 
 with-bits : (x i : ℕ) (b : Bool) → bitsOf 8 (withBit x i b) ≡ set (bitsOf 8 x) i b
 with-bits x i b =
@@ -175,6 +183,21 @@ slot-set l i b h =
     let e : 8 * (i / 8) + i % 8 ≡ i = omega arith in
     bits-set l (i / 8) (i % 8) b (omega arith) (omega arith) ∙ ap (λ (k : ℕ). set (bytesBits l) k b) e
 
+-- bytes are held by their bits
+packed-bytes : (l : List ℕ) → Bytes l → packed (length l) (bytesBits l) ≡ l
+unfolding packed bytesBits
+packed-bytes [] h = refl
+packed-bytes (x ∷ l) h =
+    let size = bits-length 8 x in
+    rw (take-at (bitsOf 8 x) (bytesBits l) 8 size, drop-at (bitsOf 8 x) (bytesBits l) 8 size, number-bits 8 x (h 0), packed-bytes l (λ k. h (suc k)))
+
+slot-packed : (l : List ℕ) (i : ℕ) (b : Bool) → length l ≡ 64 → Bytes l → i < 8 * length l → withSlot l i b ≡ packed 64 (set (bytesBits l) i b)
+slot-packed l i b size h k =
+    let x = withBit (getD l (i / 8) 0) (i % 8) b in
+    let same : length (withSlot l i b) ≡ 64 = length-set l (i / 8) x ∙ size in
+    sym (packed-bytes (withSlot l i b) (bytes-set l (i / 8) x h (with-lt (getD l (i / 8) 0) (i % 8) b)))
+    ∙ ap (λ (n : ℕ). packed n (bytesBits (withSlot l i b))) same ∙ ap (packed 64) (slot-set l i b k)
+
 -- ## One slot by its place
 
 pub slot-here : (f : Frame) (i : ℕ) → length (f .bits) ≡ 64 → i < f .count → i < mostSlots
@@ -204,24 +227,26 @@ module _ (f : Frame) (b : Bool) (held : Held f) (room : f .count < mostSlots) wh
   places : bytesBits (withSlot (f .bits) (f .count) b) ≡ set (bytesBits (f .bits)) (f .count) b
   places = let s = held .size in slot-set (f .bits) (f .count) b (omega arith)
 
-  more : pushed f b ≡ record {
+  pub push-made : pushed f b ≡ record {
     presence = f .presence;
     count = f .count + 1;
     bits = withSlot (f .bits) (f .count) b;
   }
-  more = rw (lt-ltb (f .count) mostSlots room)
+  push-made =
+      let s = held .size in
+      rw (lt-ltb (f .count) mostSlots room, ← slot-packed (f .bits) (f .count) b s (held .bytes) (omega arith))
 
   pub push-count : pushed f b .count ≡ f .count + 1
-  push-count = rw more
+  push-count = rw push-made
 
   pub push-presence : pushed f b .presence ≡ f .presence
-  push-presence = rw more
+  push-presence = rw push-made
 
   pub push-slots : slotsOf (pushed f b) ≡ slotsOf f ++ (b ∷ [])
-  push-slots = rw (more, places, add-one (f .count)) (take-suc-set (bytesBits (f .bits)) (f .count) b wide)
+  push-slots = rw (push-made, places, add-one (f .count)) (take-suc-set (bytesBits (f .bits)) (f .count) b wide)
 
   pub push-held : Held (pushed f b)
-  push-held = rw more record {
+  push-held = rw push-made record {
     size = length-set (f .bits) (f .count / 8) (withBit (getD (f .bits) (f .count / 8) 0) (f .count % 8) b) ∙ held .size;
     bytes = bytes-set (f .bits) (f .count / 8) (withBit (getD (f .bits) (f .count / 8) 0) (f .count % 8) b) (held .bytes) (with-lt (getD (f .bits) (f .count / 8) 0) (f .count % 8) b);
   }
@@ -232,8 +257,16 @@ module _ (f : Frame) (b : Bool) (held : Held f) (room : f .count < mostSlots) wh
       let few : f .count + 1 ≤ mostSlots = omega arith in
       let past : f .count < f .count + 1 = omega arith in
       let clear : all not (drop (f .count) all-bits) ≡ true = and-right (countAllowed (f .presence) (f .count)) (clearFrom (f .count) (f .bits)) h in
-      rw (more, places, le-leb (f .count + 1) mostSlots few, p, drop-set-lt (f .count + 1) all-bits (f .count) b past, ← drop-drop 1 (f .count) all-bits)
+      rw (push-made, places, le-leb (f .count + 1) mostSlots few, p, drop-set-lt (f .count + 1) all-bits (f .count) b past, ← drop-drop 1 (f .count) all-bits)
       (all-drop not 1 (drop (f .count) all-bits) clear)
+
+-- the slots so far and the new one, whether there was room for it or not
+pub push-history : (f : Frame) (b : Bool) → Held f → slotsOf (pushed f b) ≡ slotsPushed f b
+push-history f b held = by-test (ltb (f .count) mostSlots) refl
+  where
+    by-test : (t : Bool) → ltb (f .count) mostSlots ≡ t → slotsOf (pushed f b) ≡ slotsPushed f b
+    by-test true e = push-slots f b held (ltb-true (f .count) mostSlots e) ∙ rw e
+    by-test false e = rw e
 
 -- ## A blank frame, and what is recorded on it
 

@@ -1,11 +1,7 @@
-pub mod Hex
-pub mod HexLaws
 pub mod Frames
 pub mod FramesLaws
-pub mod Lines
-pub mod LinesLaws
-pub mod Reading
-pub mod ReadingLaws
+pub mod ReadLine
+pub mod ReadLineLaws
 pub mod Writing
 pub mod WritingLaws
 pub mod Recording

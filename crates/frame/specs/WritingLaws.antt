@@ -1,33 +1,33 @@
 -- The shape of a frame's line, and the two round trips of one line: a written line is read as its frame, and an accepted line is written as it was.
 -- Assumes nothing.
-use Prim.Native.Nat.{ℕ, _+_, _*_, _/_, _%_, _^_, _<_, _≤_}
+use Prim.Native.Nat.{ℕ, _+_, _*_, _^_, _<_, _≤_}
 use mathlib.Core.Path.{_≡_, refl, sym, ap, _∙_}
 use mathlib.Core.Bool.{Bool, true, false, _&&_, _||_}
 use mathlib.Core.List.{List, _++_, append-assoc}
 use native.Mathlib.Omega.{arith}
-use borrow.Author.Tests.{leb-true, le-leb, lt-leb, eqb-true, eq-eqb}
+use borrow.Author.Tests.{leb-true, le-leb, eqb-true, eq-eqb}
 use lib.Dec.{eqb, leb, lit<, lit≤}
 use lib.ListN.{length, set, take, drop, length-append, length-take, length-drop, take-append-drop}
 use lib.Seq.{length-take-le, take-at, drop-at, take-add}
-use Rattle.lists.specs.Choice.{if_then_else_}
-use Rattle.lists.specs.Fold.{all}
 use Rattle.lists.specs.Laid.{laid}
-use Rattle.lists.specs.LaidLaws.{laid-read, laid-store, laid-then}
+use Rattle.lists.specs.LaidLaws.{laid-read, laid-store}
 use Rattle.bits.specs.Bits.{bitNumber}
 use Rattle.refusals.specs.Refusals.{accepted, noRoom, malformed}
+use Rattle.laying.specs.Laying.{hasRoom, layLeaves}
+use Rattle.laying.specs.LayingLaws.{lay-short, lay-done, lay-fits, lay-behind}
 use Rattle.frame.specs.declared.Frame.{Frame}
 use Rattle.lists.specs.ChoiceLaws.{and-left, and-right}
 use Rattle.lists.specs.FoldLaws.{all-append, all-take, all-drop}
 use Rattle.bits.specs.BitsLaws.{one-bit}
 use Rattle.bits.specs.BytesLaws.{bytes-take}
-use Rattle.frame.specs.Hex.{isDigit, digits, hexOf, bytesOf}
-use Rattle.frame.specs.HexLaws.{digits-length, digits-are, number-digits, digits-number, hex-length, hex-are, bytes-hex, hex-bytes, bytes-length, bytes-bytes}
+use Rattle.text.specs.Digits.{isDigit, hexDigits, hexOf, bytesOf, spells}
+use Rattle.text.specs.DigitsLaws.{digits-length, digits-are, number-digits, digits-number, hex-length, hex-are, bytes-hex, hex-bytes, bytes-length, bytes-bytes}
 use Rattle.frame.specs.Frames.{noBits, bytesFor, countAllowed, clearFrom, lineable, mostSlots, Held}
 use Rattle.frame.specs.FramesLaws.{pad-back, pad-length, pad-bytes}
-use Rattle.frame.specs.Lines.{Line, lineFeed}
-use Rattle.frame.specs.Reading.{presenceIn, countIn, frameIn, wellFormed, readLine, carries}
-use Rattle.frame.specs.ReadingLaws.{read-accepted, accepted-read}
-use Rattle.frame.specs.Writing.{headOf, slotBytes, lineOf, fedLine, fits, writeAnswer, writeLeaves}
+use Rattle.text.specs.Lines.{Line, lineFeed}
+use Rattle.frame.specs.ReadLine.{presenceIn, countIn, frameIn, wellFormed, readLine, carries}
+use Rattle.frame.specs.ReadLineLaws.{read-accepted, accepted-read}
+use Rattle.frame.specs.Writing.{headOf, slotBytes, charactersOf, fedLine, lineWriteAnswer, lineWriteLeaves}
 
 -- ## What being lineable tells
 
@@ -54,28 +54,28 @@ bit-le false = lit≤ tt
 
 -- ## The line's shape
 
-pub line-digits : (f : Frame) → all isDigit (lineOf f) ≡ true
-unfolding lineOf
+pub line-digits : (f : Frame) → spells 16 (charactersOf f) ≡ true
+unfolding charactersOf
 line-digits f =
     rw
-    (all-append isDigit (headOf (f .presence) (f .count)) (hexOf (slotBytes f)), all-append isDigit (digits 2 (bitNumber (f .presence))) (digits 4 (f .count)), digits-are 2 (bitNumber (f .presence)), digits-are 4 (f .count), hex-are (slotBytes f))
+    (all-append (isDigit 16) (headOf (f .presence) (f .count)) (hexOf (slotBytes f)), all-append (isDigit 16) (hexDigits 2 (bitNumber (f .presence))) (hexDigits 4 (f .count)), digits-are 16 (lit< tt) (lit≤ tt) 2 (bitNumber (f .presence)), digits-are 16 (lit< tt) (lit≤ tt) 4 (f .count), hex-are (slotBytes f))
 
-line-presence : (f : Frame) → take 2 (lineOf f) ≡ digits 2 (bitNumber (f .presence))
-unfolding lineOf
+line-presence : (f : Frame) → take 2 (charactersOf f) ≡ hexDigits 2 (bitNumber (f .presence))
+unfolding charactersOf
 line-presence f =
-    rw (append-assoc (digits 2 (bitNumber (f .presence))) (digits 4 (f .count)) (hexOf (slotBytes f)))
-    (take-at (digits 2 (bitNumber (f .presence))) (digits 4 (f .count) ++ hexOf (slotBytes f)) 2 (digits-length 2 (bitNumber (f .presence))))
+    rw (append-assoc (hexDigits 2 (bitNumber (f .presence))) (hexDigits 4 (f .count)) (hexOf (slotBytes f)))
+    (take-at (hexDigits 2 (bitNumber (f .presence))) (hexDigits 4 (f .count) ++ hexOf (slotBytes f)) 2 (digits-length 16 2 (bitNumber (f .presence))))
 
-line-count : (f : Frame) → take 4 (drop 2 (lineOf f)) ≡ digits 4 (f .count)
-unfolding lineOf
+line-count : (f : Frame) → take 4 (drop 2 (charactersOf f)) ≡ hexDigits 4 (f .count)
+unfolding charactersOf
 line-count f =
-    rw (append-assoc (digits 2 (bitNumber (f .presence))) (digits 4 (f .count)) (hexOf (slotBytes f)), drop-at (digits 2 (bitNumber (f .presence))) (digits 4 (f .count) ++ hexOf (slotBytes f)) 2 (digits-length 2 (bitNumber (f .presence))))
-    (take-at (digits 4 (f .count)) (hexOf (slotBytes f)) 4 (digits-length 4 (f .count)))
+    rw (append-assoc (hexDigits 2 (bitNumber (f .presence))) (hexDigits 4 (f .count)) (hexOf (slotBytes f)), drop-at (hexDigits 2 (bitNumber (f .presence))) (hexDigits 4 (f .count) ++ hexOf (slotBytes f)) 2 (digits-length 16 2 (bitNumber (f .presence))))
+    (take-at (hexDigits 4 (f .count)) (hexOf (slotBytes f)) 4 (digits-length 16 4 (f .count)))
 
-line-slots : (f : Frame) → drop 6 (lineOf f) ≡ hexOf (slotBytes f)
-unfolding lineOf
+line-slots : (f : Frame) → drop 6 (charactersOf f) ≡ hexOf (slotBytes f)
+unfolding charactersOf
 line-slots f =
-    let a = digits-length 2 (bitNumber (f .presence)) in let b = digits-length 4 (f .count) in
+    let a = digits-length 16 2 (bitNumber (f .presence)) in let b = digits-length 16 4 (f .count) in
     let l : length (headOf (f .presence) (f .count)) ≡ 6 = simp length-append (omega arith) in
     drop-at (headOf (f .presence) (f .count)) (hexOf (slotBytes f)) 6 l
 
@@ -83,11 +83,11 @@ module _ (f : Frame) (size : length (f .bits) ≡ 64) (h : lineable f ≡ true) 
   pub slot-bytes : length (slotBytes f) ≡ bytesFor (f .count)
   slot-bytes = let c = lineable-count f h in length-take-le (bytesFor (f .count)) (f .bits) (omega arith)
 
-  pub line-length : length (lineOf f) ≡ 6 + 2 * bytesFor (f .count)
-  unfolding lineOf
+  pub line-length : length (charactersOf f) ≡ 6 + 2 * bytesFor (f .count)
+  unfolding charactersOf
   line-length =
-      let a = digits-length 2 (bitNumber (f .presence)) in
-      let b = digits-length 4 (f .count) in
+      let a = digits-length 16 2 (bitNumber (f .presence)) in
+      let b = digits-length 16 4 (f .count) in
       let d = hex-length (slotBytes f) in
       let e = slot-bytes in
       simp length-append (omega arith)
@@ -98,33 +98,33 @@ module _ (f : Frame) (size : length (f .bits) ≡ 64) (h : lineable f ≡ true) 
 -- ## A written line is read as its frame
 
 module _ (f : Frame) (held : Held f) (h : lineable f ≡ true) where
-  spelt-presence : presenceIn (lineOf f) ≡ bitNumber (f .presence)
-  spelt-presence = rw (line-presence f) (number-digits 2 (bitNumber (f .presence)) (bit-small (f .presence)))
+  spelt-presence : presenceIn (charactersOf f) ≡ bitNumber (f .presence)
+  spelt-presence = rw (line-presence f) (number-digits 16 (lit< tt) (lit≤ tt) 2 (bitNumber (f .presence)) (bit-small (f .presence)))
 
-  spelt-count : countIn (lineOf f) ≡ f .count
+  spelt-count : countIn (charactersOf f) ≡ f .count
   spelt-count =
       let c = lineable-count f h in
-      rw (line-count f) (number-digits 4 (f .count) (omega arith))
+      rw (line-count f) (number-digits 16 (lit< tt) (lit≤ tt) 4 (f .count) (omega arith))
 
-  spelt-bits : laid noBits 0 (bytesOf (drop 6 (lineOf f))) ≡ f .bits
+  spelt-bits : laid noBits 0 (bytesOf (drop 6 (charactersOf f))) ≡ f .bits
   spelt-bits =
       let c = lineable-count f h in
       let n = bytesFor (f .count) in
       rw (line-slots f, bytes-hex (slotBytes f) (bytes-take n (f .bits) (held .bytes)))
       (pad-back (f .bits) n (f .count) (held .size) (held .bytes) (omega arith) (omega arith) (lineable-clear f h))
 
-  spelt : frameIn (lineOf f) ≡ f
+  spelt : frameIn (charactersOf f) ≡ f
   spelt = rw (spelt-presence, spelt-count, spelt-bits, bit-one (f .presence))
 
-  written-formed : wellFormed (lineOf f) ≡ true
+  written-formed : wellFormed (charactersOf f) ≡ true
   written-formed =
       rw
-      (spelt-presence, spelt-count, spelt-bits, bit-one (f .presence), le-leb (bitNumber (f .presence)) 1 (bit-le (f .presence)), eq-eqb (length (lineOf f)) (6 + 2 * bytesFor (f .count)) (line-length f (held .size) h))
+      (spelt-presence, spelt-count, spelt-bits, bit-one (f .presence), le-leb (bitNumber (f .presence)) 1 (bit-le (f .presence)), eq-eqb (length (charactersOf f)) (6 + 2 * bytesFor (f .count)) (line-length f (held .size) h))
       h
 
   -- a written line is read as its frame
-  pub read-written : readLine record { chars = lineOf f; fed = true } ≡ carries f
-  read-written = accepted-read record { chars = lineOf f; fed = true } f record {
+  pub read-written : readLine record { chars = charactersOf f; fed = true } ≡ carries f
+  read-written = accepted-read record { chars = charactersOf f; fed = true } f record {
     short = let c = lineable-count f h in let l = line-length f (held .size) h in omega arith;
     digital = line-digits f;
     ended = refl;
@@ -134,7 +134,7 @@ module _ (f : Frame) (held : Held f) (h : lineable f ≡ true) where
 
 -- ## An accepted line is written as it was, and its frame can be written
 
-module _ (cs : List ℕ) (digital : all isDigit cs ≡ true) (formed : wellFormed cs ≡ true) where
+module _ (cs : List ℕ) (digital : spells 16 cs ≡ true) (formed : wellFormed cs ≡ true) where
   head-formed : (leb (presenceIn cs) 1 && eqb (length cs) (6 + 2 * bytesFor (countIn cs))) ≡ true
   head-formed = and-left (leb (presenceIn cs) 1 && eqb (length cs) (6 + 2 * bytesFor (countIn cs))) (lineable (frameIn cs)) formed
 
@@ -159,32 +159,32 @@ module _ (cs : List ℕ) (digital : all isDigit cs ≡ true) (formed : wellForme
   formed-held : Held (frameIn cs)
   formed-held = record {
     size = pad-length (bytesOf (drop 6 cs)) body-few;
-    bytes = pad-bytes (bytesOf (drop 6 cs)) body-few (bytes-bytes (drop 6 cs) (all-drop isDigit 6 cs digital));
+    bytes = pad-bytes (bytesOf (drop 6 cs)) body-few (bytes-bytes (drop 6 cs) (all-drop (isDigit 16) 6 cs digital));
   }
 
-  back-presence : digits 2 (bitNumber (frameIn cs .presence)) ≡ take 2 cs
+  back-presence : hexDigits 2 (bitNumber (frameIn cs .presence)) ≡ take 2 cs
   back-presence =
       let l : length (take 2 cs) ≡ 2 = let f = formed-length in length-take-le 2 cs (omega arith) in
-      rw (one-bit (presenceIn cs) formed-presence) (ap (λ (k : ℕ). digits k (presenceIn cs)) (sym l) ∙ digits-number (take 2 cs) (all-take isDigit 2 cs digital))
+      rw (one-bit (presenceIn cs) formed-presence) (ap (λ (k : ℕ). hexDigits k (presenceIn cs)) (sym l) ∙ digits-number 16 (lit< tt) (lit≤ tt) (take 2 cs) (all-take (isDigit 16) 2 cs digital))
 
-  back-count : digits 4 (frameIn cs .count) ≡ take 4 (drop 2 cs)
+  back-count : hexDigits 4 (frameIn cs .count) ≡ take 4 (drop 2 cs)
   back-count =
       let l : length (take 4 (drop 2 cs)) ≡ 4 = let f = formed-length in simp (length-take, length-drop) (omega arith) in
-      ap (λ (k : ℕ). digits k (countIn cs)) (sym l) ∙ digits-number (take 4 (drop 2 cs)) (all-take isDigit 4 (drop 2 cs) (all-drop isDigit 2 cs digital))
+      ap (λ (k : ℕ). hexDigits k (countIn cs)) (sym l) ∙ digits-number 16 (lit< tt) (lit≤ tt) (take 4 (drop 2 cs)) (all-take (isDigit 16) 4 (drop 2 cs) (all-drop (isDigit 16) 2 cs digital))
 
   back-slots : hexOf (slotBytes (frameIn cs)) ≡ drop 6 cs
   back-slots =
       let b : slotBytes (frameIn cs) ≡ bytesOf (drop 6 cs) =
       ap (λ (k : ℕ). take k (laid noBits 0 (bytesOf (drop 6 cs)))) (sym body-length) ∙ laid-read noBits 0 (bytesOf (drop 6 cs)) (omega arith) in
-      ap hexOf b ∙ hex-bytes (bytesFor (countIn cs)) (drop 6 cs) rest-length (all-drop isDigit 6 cs digital)
+      ap hexOf b ∙ hex-bytes (bytesFor (countIn cs)) (drop 6 cs) rest-length (all-drop (isDigit 16) 6 cs digital)
 
-  written-back : lineOf (frameIn cs) ≡ cs
-  unfolding lineOf
+  written-back : charactersOf (frameIn cs) ≡ cs
+  unfolding charactersOf
   written-back = rw (back-presence, back-count, back-slots, ← take-add 2 4 cs) (take-append-drop 6 cs)
 
 -- what is known of the frame of an accepted line: it spells the same line, and is one that a line can carry
 pub record Carried (l : Line) (f : Frame) : Type 0 where
-  pub same : lineOf f ≡ l .chars
+  pub same : charactersOf f ≡ l .chars
   pub ended : l .fed ≡ true
   pub sound : lineable f ≡ true
   pub held : Held f
@@ -200,59 +200,35 @@ written-read l f h =
       held = formed-held (l .chars) (a .digital) (a .formed);
     }
 
--- ## What a writer lays, part by part
+-- ## The line, laid in four parts
 
-pub digits-four : (x : ℕ) → digits 4 x ≡ digits 2 (x / 256) ++ digits 2 (x % 256)
-unfolding digits
-digits-four x =
-    let a : x / 16 / 16 / 16 % 16 ≡ x / 256 / 16 % 16 = omega arith in
-    let b : x / 16 / 16 % 16 ≡ x / 256 % 16 = omega arith in
-    let c : x / 16 % 16 ≡ x % 256 / 16 % 16 = omega arith in
-    let d : x % 16 ≡ x % 256 % 16 = omega arith in
-    rw (a, b, c, d)
+pub line-laid : (d : List ℕ) (at : ℕ) (f : Frame) (n : ℕ) → length (slotBytes f) ≡ n → at + (7 + 2 * n) ≤ length d
+    → set (layLeaves (layLeaves (layLeaves d at (hexDigits 2 (bitNumber (f .presence)))) (at + 2) (hexDigits 4 (f .count))) (at + 6) (hexOf (slotBytes f))) (at + 6 + 2 * n) lineFeed
+    ≡ laid d at (fedLine f)
+unfolding charactersOf
+line-laid d at f n e h =
+    let x = hexDigits 2 (bitNumber (f .presence)) in
+    let y = hexDigits 4 (f .count) in
+    let z = hexOf (slotBytes f) in
+    let a = digits-length 16 2 (bitNumber (f .presence)) in
+    let b = digits-length 16 4 (f .count) in
+    let c = hex-length (slotBytes f) in
+    let head = length-append x y in
+    let line = length-append (x ++ y) z in
+    let first = lay-fits d at x (omega arith) .1 in
+    let second = lay-behind d at x y (at + 2) (omega arith) (omega arith) in
+    let third = lay-behind d at (x ++ y) z (at + 6) (omega arith) (omega arith) in
+    rw (first, second, third) (laid-store d at (x ++ y ++ z) lineFeed (at + 6 + 2 * n) (omega arith) (omega arith))
 
-module _ (d : List ℕ) (at : ℕ) where
-  pub head-laid : (p : Bool) (n : ℕ) → at + 6 ≤ length d
-      → laid (laid (laid d at (digits 2 (bitNumber p))) (at + 2) (digits 2 (n / 256))) (at + 4) (digits 2 (n % 256)) ≡ laid d at (headOf p n)
-  head-laid p n h =
-      let x = digits 2 (bitNumber p) in
-      let y = digits 2 (n / 256) in
-      let z = digits 2 (n % 256) in
-      let a = digits-length 2 (bitNumber p) in
-      let b = digits-length 2 (n / 256) in
-      let k : at + length x ≡ at + 2 = omega arith in
-      let l : at + length (x ++ y) ≡ at + 4 = rw (length-append x y) (omega arith) in
-      rw (laid-then d at x y (at + 2) k (omega arith), laid-then d at (x ++ y) z (at + 4) l (omega arith), append-assoc x y z, digits-four n)
-
-  pub line-laid : (f : Frame) (n : ℕ) → length (slotBytes f) ≡ n → at + (7 + 2 * n) ≤ length d
-      → set (laid (laid d at (headOf (f .presence) (f .count))) (at + 6) (hexOf (slotBytes f))) (at + 6 + 2 * n) lineFeed ≡ laid d at (fedLine f)
-  unfolding lineOf
-  line-laid f n e h =
-      let x = headOf (f .presence) (f .count) in
-      let y = hexOf (slotBytes f) in
-      let a = digits-length 2 (bitNumber (f .presence)) in
-      let b = digits-length 4 (f .count) in
-      let c = hex-length (slotBytes f) in
-      let k : at + length x ≡ at + 6 = simp length-append (omega arith) in
-      let l : at + length (x ++ y) ≡ at + 6 + 2 * n = rw (length-append x y) (omega arith) in
-      rw (laid-then d at x y (at + 6) k (omega arith)) (laid-store d at (x ++ y) lineFeed (at + 6 + 2 * n) l (omega arith))
-
--- ## The four ways a write can end
+-- ## The three ways a write can end
 
 module _ (s : List ℕ) (at : ℕ) (f : Frame) where
-  pub write-unsound : lineable f ≡ false → (record { refusal = malformed; next = 0 } ≡ writeAnswer s at f) × (s ≡ writeLeaves s at f)
-  write-unsound e = (rw e, rw e)
+  pub write-unsound : lineable f ≡ false → (record { refusal = malformed; next = 0 } ≡ lineWriteAnswer s at f) × (s ≡ lineWriteLeaves s at f)
+  write-unsound e = rw e (refl, refl)
 
-  pub write-short : lineable f ≡ true → length s < at + length (fedLine f)
-      → (record { refusal = noRoom; next = 0 } ≡ writeAnswer s at f) × (s ≡ writeLeaves s at f)
-  write-short e h =
-      let g = lt-leb (at + length (fedLine f)) (length s) h in
-      let none : (lineable f && fits s at f) ≡ false = rw (e, g) in
-      (rw (e, g), ap (λ (t : Bool). if t then laid s at (fedLine f) else s) (sym none))
+  module _ (sound : lineable f ≡ true) (n : ℕ) (width : n ≡ length (fedLine f)) where
+    pub write-short : hasRoom s at n ≡ false → (record { refusal = noRoom; next = 0 } ≡ lineWriteAnswer s at f) × (s ≡ lineWriteLeaves s at f)
+    write-short h = rw sound (lay-short s at (fedLine f) n width h)
 
-  pub write-done : (n : ℕ) → lineable f ≡ true → length (fedLine f) ≡ n → at + n ≤ length s
-      → (record { refusal = accepted; next = at + n } ≡ writeAnswer s at f) × (laid s at (fedLine f) ≡ writeLeaves s at f)
-  write-done n e l h =
-      let k : at + length (fedLine f) ≤ length s = omega arith in
-      let g = le-leb (at + length (fedLine f)) (length s) k in
-      (rw (e, g, l), rw (e, g))
+    pub write-done : at + n ≤ length s → (record { refusal = accepted; next = at + n } ≡ lineWriteAnswer s at f) × (laid s at (fedLine f) ≡ lineWriteLeaves s at f)
+    write-done h = rw sound (lay-done s at (fedLine f) n width h)

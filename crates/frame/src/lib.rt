@@ -4,20 +4,15 @@ ghost use Prim.Native.Nat.{_+_, _*_, _<_, _≤_};
 ghost use lib.ListN.{length};
 ghost use Rattle.lists.specs.Laid.{laid};
 ghost use Rattle.bits.specs.Bits.{bitNumber};
-ghost use Rattle.frame.specs.Frames.{blankFrame, slotBit, pushed, withBit, clearFrom, countAllowed, lineable, bytesFor, mostSlots};
-ghost use Rattle.frame.specs.Hex.{digits, hexOf};
-ghost use Rattle.frame.specs.Reading.{readAt};
-ghost use Rattle.frame.specs.Writing.{headOf, fedLine, writeAnswer, writeLeaves};
+ghost use Rattle.frame.specs.Frames.{blankFrame, slotBit, slotsOf, pushed, slotsPushed, clearFrom, countAllowed, lineable, bytesFor, mostSlots};
+ghost use Rattle.frame.specs.FramesLaws.{withBit};
+ghost use Rattle.frame.specs.ReadLine.{lineReadAt};
+ghost use Rattle.frame.specs.Writing.{fedLine, lineWriteAnswer, lineWriteLeaves};
+use laying::Written;
 
-mod hex;
 mod reading;
 
-pub use hex::digit;
-pub use reading::line_end;
 pub use reading::read_line;
-
-// The character that ends a line.
-pub const LINE_FEED: u8 = 0x0A;
 
 // The most slots that a frame has.
 pub const MOST_SLOTS: u16 = 512;
@@ -41,13 +36,6 @@ pub struct LineRead {
     pub next: usize,
     // the frame, blank when there is none
     pub frame: Frame,
-}
-
-// What came of writing a frame.
-pub struct Written {
-    pub refusal: u8,
-    // the place behind the line
-    pub next: usize,
 }
 
 // A frame with no slot yet.
@@ -91,6 +79,7 @@ fn with_bit(byte: u8, i: u16, bit: bool) -> u8
 // The frame with one slot more; at the most slots it stays as it is.
 pub fn push(f: Frame, bit: bool) -> Frame
     ensures answer { λ r. ⌜ r ≡ pushed f bit ⌝ }
+    ensures history { λ r. ⌜ slotsOf r ≡ slotsPushed f bit ⌝ }
 {
     let count = f.count;
     let mut bits = f.bits;
@@ -158,8 +147,8 @@ fn bytes_for(count: u16) -> usize
 }
 
 // The line that starts at a place, and the place of the next; done at or past the end.
-pub fn read_at(s: &[u8], at: usize) -> LineRead
-    ensures answer { λ r. ⌜ r ≡ readAt (now (s .entry)) at ⌝ }
+pub fn read_line_at(s: &[u8], at: usize) -> LineRead
+    ensures answer { λ r. ⌜ r ≡ lineReadAt (now (s .entry)) at ⌝ }
 {
     if s.len() <= at {
         return LineRead {
@@ -169,92 +158,56 @@ pub fn read_at(s: &[u8], at: usize) -> LineRead
             frame: blank(false),
         };
     }
-    let end = line_end(s, at);
+    let end = text::line_end(s, at);
     if end < s.len() {
         return read_line(&s[at..end], true, end + 1);
     }
     read_line(&s[at..end], false, end)
 }
 
-// The two digits of a byte, laid at a place.
-fn put_byte(s: &mut [u8], at: usize, byte: u8)
-    requires { ⌜ at + 2 ≤ length (now s) ⌝ }
-    ensures { λ r. ⌜ now (s .exit) ≡ laid (now (s .entry)) at (digits 2 byte) ⌝ }
-{
-    s[at] = hex::digit(byte / 16);
-    s[at + 1] = hex::digit(byte % 16);
-}
-
-// The digits of each byte in turn, laid at a place.
-fn put_bytes(s: &mut [u8], at: usize, bytes: &[u8])
-    requires { ⌜ at + 2 * length (now bytes) ≤ length (now s) ⌝ }
-    ensures { λ r. ⌜ now (s .exit) ≡ laid (now (s .entry)) at (hexOf (now (bytes .entry))) ⌝ }
-{
-    let mut i: usize = 0;
-    while i < bytes.len() {
-        let byte = bytes[i];
-        put_byte(s, at + 2 * i, byte);
-        i += 1;
-    }
-}
-
-// The byte that says whether there was presence.
-fn presence_byte(presence: bool) -> u8
+// The number that says whether there was presence.
+fn presence_number(presence: bool) -> u64
     ensures { λ r. ⌜ r ≡ bitNumber presence ⌝ }
 {
     if presence { 1 } else { 0 }
 }
 
-// The six digits of presence and count.
-fn put_head(s: &mut [u8], at: usize, presence: bool, count: u16)
-    requires { ⌜ at + 6 ≤ length (now s) ⌝ }
-    ensures { λ r. ⌜ now (s .exit) ≡ laid (now (s .entry)) at (headOf presence count) ⌝ }
-{
-    let shown = presence_byte(presence);
-    put_byte(s, at, shown);
-    put_byte(s, at + 2, (count / 256) as u8);
-    put_byte(s, at + 4, (count % 256) as u8);
-}
-
-// The whole line with its feed, where there is room for it.
+// The whole line with its feed, where there is room for it: two digits presence, four digits count,
+// the slots' bytes.
 fn put_line(s: &mut [u8], at: usize, f: Frame)
     requires { ⌜ (f .count ≤ mostSlots) × (at + (7 + 2 * bytesFor (f .count)) ≤ length (now s)) ⌝ }
     ensures { λ r. ⌜ now (s .exit) ≡ laid (now (s .entry)) at (fedLine f) ⌝ }
 {
     let count = f.count;
     let bits = f.bits;
+    let shown = presence_number(f.presence);
     let n = bytes_for(count);
-    put_head(s, at, f.presence, count);
-    put_bytes(s, at + 6, &bits[0..n]);
+    laying::lay_hex(s, at, 2, shown);
+    laying::lay_hex(s, at + 2, 4, count as u64);
+    laying::lay_hex_bytes(s, at + 6, &bits[0..n]);
     let end = at + 6 + 2 * n;
-    s[end] = LINE_FEED;
+    s[end] = text::LINE_FEED;
+}
+
+fn refuse_write(refusal: u8) -> Written
+    ensures { λ r. ⌜ r ≡ record { refusal = refusal; next = 0 } ⌝ }
+{
+    Written { refusal, next: 0 }
 }
 
 // The frame's line with its feed, written at a place. A frame that no line can carry is refused before a lack of room.
-pub fn write_at(s: &mut [u8], at: usize, f: Frame) -> Written
-    ensures answer { λ r. ⌜ r ≡ writeAnswer (now (s .entry)) at f ⌝ }
-    ensures left { λ r. ⌜ now (s .exit) ≡ writeLeaves (now (s .entry)) at f ⌝ }
+pub fn write_line_at(s: &mut [u8], at: usize, f: Frame) -> Written
+    ensures answer { λ r. ⌜ r ≡ lineWriteAnswer (now (s .entry)) at f ⌝ }
+    ensures written { λ r. ⌜ now (s .exit) ≡ lineWriteLeaves (now (s .entry)) at f ⌝ }
 {
     let sound = can_carry(f);
     if !sound {
-        return Written {
-            refusal: refusals::MALFORMED,
-            next: 0,
-        };
+        return refuse_write(refusals::MALFORMED);
     }
-    let count = f.count;
-    let width = 7 + 2 * bytes_for(count);
-    if s.len() < at {
-        return Written {
-            refusal: refusals::NO_ROOM,
-            next: 0,
-        };
-    }
-    if s.len() - at < width {
-        return Written {
-            refusal: refusals::NO_ROOM,
-            next: 0,
-        };
+    let width = 7 + 2 * bytes_for(f.count);
+    let room = laying::has_room(s, at, width);
+    if !room {
+        return refuse_write(refusals::NO_ROOM);
     }
     put_line(s, at, f);
     Written {

@@ -1,5 +1,9 @@
 -- What a frame is named (the scope, "Frames"): EMPTY, SEARCH, ALARM, NOBODY, PAD or OTHER, with the code and the raw reading it shows, or the
 -- refusal 14, 5, 6, 7 or 11, the first of these that anything in the frame gives. EMPTY, NOBODY and OTHER give no refusal.
+--     nameNumber n           the number of a name, 1 to 6 in the scope's order
+--     named f                what a frame is named
+--     frameNumber f          the number of a frame's name
+--     lineNamed l            what a line is named: the refusal with which it is read, or the name of its frame
 -- Assumes nothing.
 use Prim.Native.Nat.{ℕ, _+_, _*_}
 use mathlib.Core.Bool.{Bool, true, false, not, _&&_, _||_}
@@ -16,12 +20,21 @@ use Rattle.scratchpad.specs.Judgement.{judged}
 use Rattle.scratchpad.specs.declared.Judged.{Judged}
 use Rattle.frame.specs.declared.Frame.{Frame}
 use Rattle.frame.specs.Frames.{slotBit}
-use Rattle.frame.specs.Lines.{Line}
-use Rattle.frame.specs.Reading.{Reading, carries, refused, readLine}
+use Rattle.text.specs.Lines.{Line}
+use Rattle.frame.specs.ReadLine.{LineContent, carries, noFrame, readLine}
 use Rattle.naming.specs.declared.Name.{Name}
 use Rattle.naming.specs.declared.Name.the-variants.{Empty, Search, Alarm, Nobody, Pad, Other}
 use Rattle.naming.specs.declared.Named.{Named}
 use Rattle.naming.specs.declared.PassRead.{PassRead}
+
+-- the number of a name, in the scope's order
+abbrev pub nameNumber : Name → ℕ
+nameNumber Empty = 1
+nameNumber Search = 2
+nameNumber Alarm = 3
+nameNumber Nobody = 4
+nameNumber Pad = 5
+nameNumber Other = 6
 
 -- a name with no code and no reading
 abbrev pub plain : Name → Named
@@ -126,10 +139,14 @@ named f =
     else if isPad f then namedPad (codeIn (f .bits)) (padIn (f .bits))
     else plain Other
 
+-- the number of a frame's name; that of OTHER on a refusal
+abbrev pub frameNumber : Frame → ℕ
+frameNumber f = nameNumber (named f .name)
+
 -- what a line is named: the refusal with which it is read, or the name of its frame
-abbrev pub readNamed : Reading → Named
+abbrev pub readNamed : LineContent → Named
 readNamed (carries f) = named f
-readNamed (refused n) = refusedName n
+readNamed (noFrame n) = refusedName n
 
 abbrev pub lineNamed : Line → Named
 lineNamed l = readNamed (readLine l)

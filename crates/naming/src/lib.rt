@@ -4,7 +4,7 @@ ghost use Prim.Native.Nat.{_+_, _*_, _<_};
 ghost use mathlib.Core.Bool.{false};
 ghost use lib.ListN.{length, getD};
 ghost use Rattle.bits.specs.Bits.{bytesBits, bitNumber};
-ghost use Rattle.naming.specs.Naming.{named, plain, refusedName, sends, coded, tripleAllowed, passRead, passSlots, namedPass, searches, isNobody, isPad, codeIn, padIn, namedPad, believed};
+ghost use Rattle.naming.specs.Naming.{nameNumber, named, frameNumber, plain, refusedName, sends, coded, tripleAllowed, passRead, passSlots, namedPass, searches, isNobody, isPad, codeIn, padIn, namedPad, believed};
 use frame::Frame;
 use scratchpad::Judged;
 use scratchpad::NineBytes;
@@ -25,6 +25,20 @@ pub enum Name {
     Nobody,
     Pad,
     Other,
+}
+
+// The number of a name, from 1 for EMPTY to 6 for OTHER.
+pub fn number_of(name: Name) -> u8
+    ensures answer { λ r. ⌜ r ≡ nameNumber name ⌝ }
+{
+    match name {
+        Name::Empty => 1,
+        Name::Search => 2,
+        Name::Alarm => 3,
+        Name::Nobody => 4,
+        Name::Pad => 5,
+        Name::Other => 6,
+    }
 }
 
 // A refusal, or 0 and what the frame shows.
@@ -259,7 +273,7 @@ fn is_pass(f: Frame, command: u8) -> bool
 
 // The name of a frame; any frame has one or is refused, also one that no line can carry.
 pub fn name_frame(f: Frame) -> Named
-    ensures answer { λ r. ⌜ r ≡ named f ⌝ }
+    ensures answer { λ r. ⌜ (r ≡ named f) × (nameNumber (r .name) ≡ frameNumber f) ⌝ }
 {
     if !f.presence {
         return plain_name(Name::Empty);

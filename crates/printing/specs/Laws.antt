@@ -16,49 +16,51 @@ use Rattle.lists.specs.Fold.{all}
 use Rattle.lists.specs.Laid.{laid}
 use Rattle.lists.specs.LaidLaws.{laid-length, laid-store, laid-read, laid-then}
 use Rattle.refusals.specs.Refusals.{accepted, noRoom, notHex, malformed}
-use Rattle.frame.specs.Hex.{isDigit, digitOf, digits}
-use Rattle.frame.specs.HexLaws.{digits-length}
-use Rattle.frame.specs.Lines.{Line, lineFeed}
-use Rattle.frame.specs.Reading.{longest, wellFormed, frameIn, carries, refused, readDigits, readLine, answered}
+use Rattle.text.specs.Digits.{isDigit, digitOf, hexDigits}
+use Rattle.text.specs.DigitsLaws.{digits-length}
+use Rattle.text.specs.Lines.{Line, lineFeed}
+use Rattle.frame.specs.ReadLine.{longest, wellFormed, frameIn, carries, noFrame, readDigits, readLine, answered}
 use Rattle.naming.specs.Naming.{readNamed, lineNamed}
 use Rattle.naming.specs.declared.Name.{Name}
 use Rattle.naming.specs.declared.Name.the-variants.{Empty, Search, Alarm, Nobody, Pad, Other}
 use Rattle.naming.specs.declared.Named.{Named}
 use Rattle.printing.specs.declared.Text.{Text}
-use Rattle.printing.specs.Printing.{space, word, refusedWord, decimal, detail, described, printedName, blankText, textOf, nameOfRead, layAnswer, layLeaves}
+use Rattle.printing.specs.Printing.{space, word, refusedWord, detail, described, printedName, blankText, printedText, nameOfRead}
+use Rattle.text.specs.Decimal.{decimal}
+use Rattle.laying.specs.Laying.{layAnswer, layLeaves}
 
 -- one digit by its place
-pub digit-at : (n x i : ℕ) → i < n → getD (digits n x) i 0 ≡ digitOf (x / 2 ^ (4 * (n - 1 - i)) % 16)
-unfolding digits
+pub digit-at : (n x i : ℕ) → i < n → getD (hexDigits n x) i 0 ≡ digitOf (x / 2 ^ (4 * (n - 1 - i)) % 16)
+unfolding hexDigits
 digit-at zero x i h = absurd (omega arith)
 digit-at (suc n) x i h = by-test (ltb i n) refl (digit-at n (x / 16) i)
   where
-    by-test : (t : Bool) → ltb i n ≡ t → (i < n → getD (digits n (x / 16)) i 0 ≡ digitOf (x / 16 / 2 ^ (4 * (n - 1 - i)) % 16))
-        → getD (digits n (x / 16) ++ (digitOf (x % 16) ∷ [])) i 0 ≡ digitOf (x / 2 ^ (4 * (suc n - 1 - i)) % 16)
+    by-test : (t : Bool) → ltb i n ≡ t → (i < n → getD (hexDigits n (x / 16)) i 0 ≡ digitOf (x / 16 / 2 ^ (4 * (n - 1 - i)) % 16))
+        → getD (hexDigits n (x / 16) ++ (digitOf (x % 16) ∷ [])) i 0 ≡ digitOf (x / 2 ^ (4 * (suc n - 1 - i)) % 16)
     by-test true e higher =
         let k : i < n = ltb-true i n e in
-        let l : i < length (digits n (x / 16)) = rw (digits-length n (x / 16)) k in
+        let l : i < length (hexDigits n (x / 16)) = rw (digits-length n (x / 16)) k in
         let m = 4 * (n - 1 - i) in
         let s : 4 * (suc n - 1 - i) ≡ 4 + m = omega arith in
         let d : x / 2 ^ (4 * (suc n - 1 - i)) ≡ x / 16 / 2 ^ m =
         ap (λ (j : ℕ). x / 2 ^ j) s ∙ ap (λ (j : ℕ). x / j) (pow-add 2 4 m) ∙ sym (div-div-eq-div-mul x 16 (2 ^ m)) in
-        List·getD-append (digits n (x / 16)) (digitOf (x % 16) ∷ []) 0 i l ∙ higher k ∙ ap (λ (j : ℕ). digitOf (j % 16)) (sym d)
+        List·getD-append (hexDigits n (x / 16)) (digitOf (x % 16) ∷ []) 0 i l ∙ higher k ∙ ap (λ (j : ℕ). digitOf (j % 16)) (sym d)
     by-test false e higher =
         let k = ltb-false i n e in
         let l = digits-length n (x / 16) in
-        let p : i ≡ length (digits n (x / 16)) + 0 = omega arith in
+        let p : i ≡ length (hexDigits n (x / 16)) + 0 = omega arith in
         let q : 4 * (suc n - 1 - i) ≡ 0 = omega arith in
         let d : x / 1 ≡ x = omega arith in
-        ap (λ (j : ℕ). getD (digits n (x / 16) ++ (digitOf (x % 16) ∷ [])) j 0) p ∙ getD-append-add (digits n (x / 16)) (digitOf (x % 16) ∷ []) 0 0
+        ap (λ (j : ℕ). getD (hexDigits n (x / 16) ++ (digitOf (x % 16) ∷ [])) j 0) p ∙ getD-append-add (hexDigits n (x / 16)) (digitOf (x % 16) ∷ []) 0 0
         ∙ ap (λ (j : ℕ). digitOf (j % 16)) (sym d) ∙ ap (λ (j : ℕ). digitOf (x / 2 ^ j % 16)) (sym q)
 
 -- ## How long the details are
 
-pub spaced-length : (n x : ℕ) → length (space ∷ digits n x) ≡ suc n
+pub spaced-length : (n x : ℕ) → length (space ∷ hexDigits n x) ≡ suc n
 spaced-length n x = ap suc (digits-length n x)
 
 pub pad-length : (code raw : ℕ) → length (detail Pad code raw) ≡ 22
-pad-length code raw = length-append (space ∷ digits 16 code) (space ∷ digits 4 raw) ∙ rw (digits-length 16 code, digits-length 4 raw)
+pad-length code raw = length-append (space ∷ hexDigits 16 code) (space ∷ hexDigits 4 raw) ∙ rw (digits-length 16 code, digits-length 4 raw)
 
 -- nothing laid, by the place behind it
 pub place-none : (at : ℕ) → at ≡ at + 0
@@ -114,7 +116,7 @@ module _ (s : List ℕ) (n : Named) (room : 28 ≤ length s) where
 -- ## A printed line in the front of 32 bytes
 
 pub text-made : (n : Named) (s : List ℕ) (e : ℕ) → e ≡ length (described n) → s ≡ laid blankText 0 (described n)
-    → _≡_ {A = Text} record { bytes = set s e lineFeed; count = e + 1 } (textOf n)
+    → _≡_ {A = Text} record { bytes = set s e lineFeed; count = e + 1 } (printedText n)
 unfolding printedName
 text-made n s e k h =
     let l = described-length n in
@@ -129,16 +131,16 @@ pub printed-length : (n : Named) → length (printedName n) ≤ 29
 unfolding printedName
 printed-length n = let l = described-length n in rw (length-append (described n) (lineFeed ∷ [])) (omega arith)
 
-pub text-fits : (n : Named) → textOf n .count ≤ length (textOf n .bytes)
+pub text-fits : (n : Named) → printedText n .count ≤ length (printedText n .bytes)
 text-fits n =
     let l = printed-length n in
     let r : 0 + length (printedName n) ≤ length blankText = omega arith in
     let k = laid-length blankText 0 (printedName n) r in
     omega arith
 
-pub text-read : (n : Named) → take (textOf n .count - 0) (drop 0 (textOf n .bytes)) ≡ printedName n
+pub text-read : (n : Named) → take (printedText n .count - 0) (drop 0 (printedText n .bytes)) ≡ printedName n
 text-read n =
-    let z : textOf n .count - 0 ≡ length (printedName n) = omega arith in
+    let z : printedText n .count - 0 ≡ length (printedName n) = omega arith in
     ap (λ (k : ℕ). take k (laid blankText 0 (printedName n))) z ∙ laid-read blankText 0 (printedName n) (omega arith)
 
 -- ## The three ways in which laying a text can end
@@ -160,7 +162,7 @@ unfolding readLine readDigits
 line-read next l = by-test (ltb longest (length (l .chars))) (all isDigit (l .chars) && l .fed) (wellFormed (l .chars))
   where
     by-test : (t u v : Bool) →
-        let r = if t then refused malformed else if u then (if v then carries (frameIn (l .chars)) else refused malformed) else refused notHex in
+        let r = if t then noFrame malformed else if u then (if v then carries (frameIn (l .chars)) else noFrame malformed) else noFrame notHex in
         nameOfRead (answered next r) ≡ readNamed r
     by-test true u v = refl
     by-test false true true = refl

@@ -10,9 +10,9 @@ use Rattle.lists.specs.Choice.{if_then_else_}
 use Rattle.lists.specs.Laid.{laid}
 use Rattle.refusals.specs.Refusals.{accepted, noRoom}
 use Rattle.frame.specs.declared.LineRead.{LineRead}
-use Rattle.frame.specs.declared.Written.{Written}
-use Rattle.frame.specs.Hex.{digitOf, digits}
-use Rattle.frame.specs.Lines.{Line, lineFeed}
+use Rattle.laying.specs.declared.Written.{Written}
+use Rattle.text.specs.Digits.{digitOf, hexDigits}
+use Rattle.text.specs.Lines.{Line, lineFeed}
 use Rattle.naming.specs.Naming.{named, refusedName, lineNamed}
 use Rattle.naming.specs.declared.Name.{Name}
 use Rattle.naming.specs.declared.Name.the-variants.{Empty, Search, Alarm, Nobody, Pad, Other}
@@ -42,10 +42,10 @@ decimal n = if ltb n 10 then digitOf (n % 10) ∷ [] else digitOf (n / 10 % 10) 
 -- what stands behind the word: the code of a pass, the code and the reading of a scratchpad, nothing for the others
 abbrev pub detail : Name → ℕ → ℕ → List ℕ
 detail Empty code raw = []
-detail Search code raw = space ∷ digits 16 code
-detail Alarm code raw = space ∷ digits 16 code
+detail Search code raw = space ∷ hexDigits 16 code
+detail Alarm code raw = space ∷ hexDigits 16 code
 detail Nobody code raw = []
-detail Pad code raw = (space ∷ digits 16 code) ++ (space ∷ digits 4 raw)
+detail Pad code raw = (space ∷ hexDigits 16 code) ++ (space ∷ hexDigits 4 raw)
 detail Other code raw = []
 
 -- the text of a name or a refusal

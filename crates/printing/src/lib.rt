@@ -4,8 +4,10 @@ ghost use Prim.Native.Nat.{_+_, _≤_, _<_};
 ghost use mathlib.Core.List.{_∷_};
 ghost use lib.ListN.{length};
 ghost use Rattle.lists.specs.Laid.{laid};
-ghost use Rattle.frame.specs.Hex.{digits};
-ghost use Rattle.printing.specs.Printing.{space, word, decimal, detail, described, printedName, printedLine, textOf, nameOfRead, layAnswer, layLeaves};
+ghost use Rattle.text.specs.Digits.{hexDigits};
+ghost use Rattle.printing.specs.Printing.{space, word, detail, described, printedName, printedLine, printedText, nameOfRead};
+ghost use Rattle.text.specs.Decimal.{decimal};
+ghost use Rattle.laying.specs.Laying.{layAnswer, layLeaves};
 use frame::LINE_FEED;
 use frame::LineRead;
 use frame::Written;
@@ -33,7 +35,7 @@ fn put_text(s: &mut [u8], at: usize, text: &[u8])
 // The lowest hexadecimal digits of a number, laid at a place, highest first.
 fn put_digits(s: &mut [u8], at: usize, count: usize, number: u64)
     requires { ⌜ (count ≤ 16) × (at + count ≤ length (now s)) ⌝ }
-    ensures { λ r. ⌜ now (s .exit) ≡ laid (now (s .entry)) at (digits count number) ⌝ }
+    ensures { λ r. ⌜ now (s .exit) ≡ laid (now (s .entry)) at (hexDigits count number) ⌝ }
 {
     let mut i: usize = 0;
     while i < count {
@@ -46,7 +48,7 @@ fn put_digits(s: &mut [u8], at: usize, count: usize, number: u64)
 // The same behind a space.
 fn put_spaced(s: &mut [u8], at: usize, count: usize, number: u64)
     requires { ⌜ (count ≤ 16) × (at + (count + 1) ≤ length (now s)) ⌝ }
-    ensures { λ r. ⌜ now (s .exit) ≡ laid (now (s .entry)) at (space ∷ digits count number) ⌝ }
+    ensures { λ r. ⌜ now (s .exit) ≡ laid (now (s .entry)) at (space ∷ hexDigits count number) ⌝ }
 {
     s[at] = b' ';
     put_digits(s, at + 1, count, number);
@@ -146,7 +148,7 @@ fn put_described(s: &mut [u8], named: Named) -> usize
 
 // The printed line of a name or a refusal.
 fn text_of(named: Named) -> Text
-    ensures { λ r. ⌜ r ≡ textOf named ⌝ }
+    ensures { λ r. ⌜ r ≡ printedText named ⌝ }
 {
     let mut bytes = [0u8; 32];
     let end = put_described(&mut bytes, named);

@@ -2,7 +2,7 @@
 // parser of `frame`, which takes plain bytes and a place; these functions take the struct apart and
 // call it. `first_line`, with plain parameters, needs no reader at its caller's side.
 ghost use mathlib.Core.Path.{_≡_};
-ghost use Rattle.frame.specs.Reading.{readAt};
+ghost use Rattle.frame.specs.ReadLine.{lineReadAt};
 use frame::LineRead;
 
 pub struct Reader<'a> {
@@ -19,7 +19,7 @@ pub fn open<'a>(bytes: &'a [u8]) -> Reader<'a>
 
 // The line at the reader's place: its frame or refusal, or done, and the place of the next line.
 pub fn next<'a>(r: Reader<'a>) -> LineRead
-    ensures answer { λ a. ⌜ a ≡ readAt (now (r .entry .bytes)) (r .entry .at) ⌝ }
+    ensures answer { λ a. ⌜ a ≡ lineReadAt (now (r .entry .bytes)) (r .entry .at) ⌝ }
 {
     frame::read_at(r.bytes, r.at)
 }
@@ -33,7 +33,7 @@ pub fn moved<'a>(r: Reader<'a>, at: usize) -> Reader<'a>
 
 // The first line of a recording.
 pub fn first_line(bytes: &[u8]) -> LineRead
-    ensures answer { λ a. ⌜ a ≡ readAt (now (bytes .entry)) 0 ⌝ }
+    ensures answer { λ a. ⌜ a ≡ lineReadAt (now (bytes .entry)) 0 ⌝ }
 {
     next(open(bytes))
 }

@@ -14,9 +14,9 @@ use Rattle.lists.specs.Choice.{if_then_else_}
 use Rattle.lists.specs.Fold.{all}
 use Rattle.lists.specs.ChoiceLaws.{and-left, and-right}
 use Rattle.lists.specs.FoldLaws.{all-take}
-use Rattle.frame.specs.Lines.{Line, lineFeed, notFeed, longer, linesOf}
-use Rattle.frame.specs.Reading.{longest}
-use Rattle.frame.specs.ReadingLaws.{read-long}
+use Rattle.text.specs.Lines.{Line, lineFeed, notFeed, longer, linesOf}
+use Rattle.frame.specs.ReadLine.{longest}
+use Rattle.frame.specs.ReadLineLaws.{read-long}
 use Rattle.naming.specs.Naming.{readNamed}
 use Rattle.printing.specs.Printing.{printedName, printedLine}
 use Rattle.streaming.specs.Streaming.{printedAll, printed, whole, rest, longestCarried, carried}

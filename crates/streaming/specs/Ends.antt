@@ -12,10 +12,10 @@ use lib.Seq.{take-all}
 use Rattle.lists.specs.Laid.{laid}
 use Rattle.lists.specs.LaidLaws.{laid-length, laid-then}
 use Rattle.refusals.specs.Refusals.{accepted, noRoom}
-use Rattle.frame.specs.declared.Written.{Written}
-use Rattle.frame.specs.Lines.{Line, linesOf}
-use Rattle.frame.specs.Reading.{width}
-use Rattle.printing.specs.Printing.{printedLine, layAnswer, layLeaves}
+use Rattle.laying.specs.declared.Written.{Written}
+use Rattle.text.specs.Lines.{Line, linesOf, width}
+use Rattle.printing.specs.Printing.{printedLine}
+use Rattle.laying.specs.Laying.{layAnswer, layLeaves}
 use Rattle.streaming.specs.declared.Fed.{Fed}
 use Rattle.streaming.specs.declared.Progress.{Progress}
 use Rattle.streaming.specs.Streaming.{printedAll, printed, whole, rest, longestCarried, Told, FeedWithin, feedAnswer, feedCarries, feedPrints, finishAnswer, finishPrints}

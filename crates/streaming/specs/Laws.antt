@@ -14,29 +14,29 @@ use Rattle.lists.specs.Fold.{all}
 use Rattle.lists.specs.Laid.{laid}
 use Rattle.lists.specs.LaidLaws.{laid-none, laid-more, laid-length}
 use Rattle.refusals.specs.Refusals.{accepted, notHex, malformed}
-use Rattle.frame.specs.declared.Written.{Written}
-use Rattle.frame.specs.Hex.{isDigit, digitOf}
+use Rattle.laying.specs.declared.Written.{Written}
+use Rattle.text.specs.Digits.{isDigit, digitOf}
 use Rattle.frame.specs.Frames.{bytesFor, lineable}
 use Rattle.lists.specs.ChoiceLaws.{and-left, and-right}
-use Rattle.frame.specs.Lines.{Line, lineFeed, linesOf, feedAt, firstLine}
-use Rattle.frame.specs.LinesLaws.{feed-within}
-use Rattle.frame.specs.Reading.{Reading, longest, width, presenceIn, countIn, wellFormed, frameIn, carries, refused, readDigits, readLine}
-use Rattle.frame.specs.ReadingLaws.{read-accepted}
-use Rattle.frame.specs.RecordingLaws.{lines-next, lines-done}
+use Rattle.text.specs.Lines.{Line, lineFeed, linesOf, feedAt, firstLine, width}
+use Rattle.text.specs.LinesLaws.{feed-within, lines-next, lines-done}
+use Rattle.frame.specs.ReadLine.{LineContent, longest, presenceIn, countIn, wellFormed, frameIn, carries, noFrame, readDigits, readLine}
+use Rattle.frame.specs.ReadLineLaws.{read-accepted}
 use Rattle.naming.specs.Naming.{named, refusedName, readNamed}
 use Rattle.naming.specs.declared.Name.the-variants.{Other}
-use Rattle.printing.specs.Printing.{word, refusedWord, printedName, printedLine, layAnswer, layLeaves}
+use Rattle.printing.specs.Printing.{word, refusedWord, printedName, printedLine}
+use Rattle.laying.specs.Laying.{layAnswer, layLeaves}
 use Rattle.printing.specs.Laws.{printed-length}
 use Rattle.streaming.specs.Streaming.{printedAll, whole, rest, Told}
 
 -- ## A line's text takes at most ten bytes for each byte of the line
 
-read-small : (l : Line) (n : ℕ) → readLine l ≡ refused n → n < 10
+read-small : (l : Line) (n : ℕ) → readLine l ≡ noFrame n → n < 10
 unfolding readLine readDigits
 read-small l n h = by-test (ltb longest (length (l .chars))) (all isDigit (l .chars) && l .fed) (wellFormed (l .chars)) h
   where
     by-test : (t u v : Bool)
-        → (if t then refused malformed else if u then (if v then carries (frameIn (l .chars)) else refused malformed) else refused notHex) ≡ refused n
+        → (if t then noFrame malformed else if u then (if v then carries (frameIn (l .chars)) else noFrame malformed) else noFrame notHex) ≡ noFrame n
         → n < 10
     by-test true u v e = let k : malformed ≡ n = cc in omega arith
     by-test false true true e = let z : _≡_ {A = ℕ} 0 1 = cc in absurd (omega arith)
@@ -54,8 +54,8 @@ refused-short n h = rw (lt-ltb n 10 h) (by-test (eqb n accepted))
 pub text-short : (l : Line) → 0 < width l → length (printedLine l) ≤ 10 * width l
 text-short l h = by-reading (readLine l) refl
   where
-    by-reading : (r : Reading) → readLine l ≡ r → length (printedName (readNamed r)) ≤ 10 * width l
-    by-reading (refused n) e = let k = refused-short n (read-small l n e) in omega arith
+    by-reading : (r : LineContent) → readLine l ≡ r → length (printedName (readNamed r)) ≤ 10 * width l
+    by-reading (noFrame n) e = let k = refused-short n (read-small l n e) in omega arith
     by-reading (carries f) e =
         let a = read-accepted l f e in
         let cs = l .chars in

@@ -11,8 +11,8 @@ use lib.ListN.{length, take, drop}
 use Rattle.lists.specs.Choice.{if_then_else_}
 use Rattle.lists.specs.Laid.{laid}
 use Rattle.refusals.specs.Refusals.{accepted, noRoom}
-use Rattle.frame.specs.declared.Written.{Written}
-use Rattle.frame.specs.Lines.{Line, linesOf}
+use Rattle.laying.specs.declared.Written.{Written}
+use Rattle.text.specs.Lines.{Line, linesOf}
 use Rattle.printing.specs.Printing.{printedLine}
 use Rattle.streaming.specs.declared.Fed.{Fed}
 use Rattle.streaming.specs.declared.Progress.{Progress}

@@ -4,7 +4,7 @@ ghost use mathlib.Core.Path.{_≡_};
 ghost use Prim.Native.Nat.{_*_, _≤_, min};
 ghost use lib.ListN.{length, take, drop};
 ghost use Rattle.lists.specs.Laid.{laid};
-ghost use Rattle.frame.specs.Lines.{linesOf};
+ghost use Rattle.text.specs.Lines.{linesOf};
 ghost use Rattle.streaming.specs.Streaming.{printedAll, whole, longestCarried, Told, FeedWithin, feedAnswer, feedCarries, feedPrints, finishAnswer, finishPrints};
 use frame::Written;
 

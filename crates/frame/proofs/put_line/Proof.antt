@@ -1,4 +1,4 @@
--- Head, slots and feed, laid one behind the other, are the line. Assumes nothing.
+-- Presence, count, slots and feed, laid one behind the other, are the line. Assumes nothing.
 use Prim.Native.Nat.{_+_, _*_, _-_, _≤_}
 use mathlib.Core.Path.{_≡_, sym, _∙_}
 use native.Mathlib.Omega.{arith}
@@ -16,31 +16,46 @@ use Rattle.frame.proofs.put_line.Tie as tie
 long : (c : tie.Start) → length (c .args .f .bits) ≡ 64
 long c = simp length-map at (c .good .1 .1 .0 .1 .1 .1 .1 .0 .1 .0 .1)
 
+few : (c : tie.After-bytes-for) → c .bytes-for .result ≤ length (c .before .before .before .before .args .f .bits)
+few c =
+    let a = c .before .before .before .before in
+    let size = long a in
+    let count = c .bytes-for .ensures in
+    let most = a .pre .0 in
+    omega arith
+
+presence-number-requires : tie.Need-presence-number-requires
+presence-number-requires c κs = search needs
+
 bytes-for-requires : tie.Need-bytes-for-requires
 bytes-for-requires c κs = search needs
 
-put-head-requires : tie.Need-put-head-requires
-put-head-requires c κs = search needs
+lay-hex-requires : tie.Need-lay-hex-requires
+lay-hex-requires c κs = search needs
 
-add-put-bytes : tie.Need-add-put-bytes
-add-put-bytes c = search needs
+add-lay-hex : tie.Need-add-lay-hex
+add-lay-hex c = search needs
 
-sub-put-bytes : tie.Need-sub-put-bytes
-sub-put-bytes c = search needs
+cast-lay-hex : tie.Need-cast-lay-hex
+cast-lay-hex c = search needs
 
-part-put-bytes-start : tie.Need-part-put-bytes-start
-part-put-bytes-start c = search needs
+lay-hex-requires-2 : tie.Need-lay-hex-requires-2
+lay-hex-requires-2 c κs = search needs
 
-part-put-bytes-end : tie.Need-part-put-bytes-end
-part-put-bytes-end c =
-    let b = c .before .before .before .before .before .before in
-    let a = b .before .before .before in
-    let n : b .bytes-for .result ≤ length (a .args .f .bits) =
-    let l = long a in let e = b .bytes-for .ensures in let p = a .pre .0 in omega arith in
-    n
+add-lay-hex-bytes : tie.Need-add-lay-hex-bytes
+add-lay-hex-bytes c = search needs
 
-put-bytes-requires : tie.Need-put-bytes-requires
-put-bytes-requires c κs = search needs
+sub-lay-hex-bytes : tie.Need-sub-lay-hex-bytes
+sub-lay-hex-bytes c = search needs
+
+part-lay-hex-bytes-start : tie.Need-part-lay-hex-bytes-start
+part-lay-hex-bytes-start c = search needs
+
+part-lay-hex-bytes-end : tie.Need-part-lay-hex-bytes-end
+part-lay-hex-bytes-end c = few (c .before .before .before .before .before .before .before .before .before .before)
+
+lay-hex-bytes-requires : tie.Need-lay-hex-bytes-requires
+lay-hex-bytes-requires c κs = search needs
 
 add-end : tie.Need-add-end
 add-end c = search needs
@@ -56,36 +71,42 @@ slice-write-s c = search needs
 
 same-length : tie.Need-same-length
 same-length c =
-    let lines = c .before .before in
-    let head = lines .before .before .before .before .before .before in
-    simp length-set (lines .put-bytes .kept .0 ∙ head .put-head .kept .0)
+    let slots = c .before .before in
+    let count = slots .before .before .before .before .before .before in
+    let head = count .before .before .before .before in
+    simp length-set (slots .lay-hex-bytes .kept .0 ∙ count .lay-hex2 .kept .0 ∙ head .lay-hex .kept .0)
 
 returns : tie.Need-returns
 returns c =
-    let lines = c .before .before in
-    let head = lines .before .before .before .before .before .before in
-    let b = head .before .before in
-    let a = b .before .before .before in
+    let slots = c .before .before in
+    let count = slots .before .before .before .before .before .before in
+    let head = count .before .before .before .before in
+    let bytes = head .before .before in
+    let a = bytes .before .before .before .before in
     let f = a .args .f in
-    let n = b .bytes-for .result in
-    let e : n - 0 ≡ bytesFor (f .count) = let h = b .bytes-for .ensures in omega arith in
-    let l : length (slotBytes f) ≡ n =
-    let s = long a in let p = a .pre .0 in let h = b .bytes-for .ensures in
-    length-take-le (bytesFor (f .count)) (f .bits) (omega arith) ∙ sym h in
-    let r : a .args .at + (7 + 2 * n) ≤ length (now (a .args .s)) = rw (b .bytes-for .ensures) (a .pre .1) in
-    rw (lines .put-bytes .ensures, e, head .put-head .ensures) (line-laid (now (a .args .s)) (a .args .at) f n l r)
+    let n = bytes .bytes-for .result in
+    let part : n - 0 ≡ bytesFor (f .count) = let e = bytes .bytes-for .ensures in omega arith in
+    let size : length (slotBytes f) ≡ n =
+    let l = long a in let most = a .pre .0 in let e = bytes .bytes-for .ensures in
+    length-take-le (bytesFor (f .count)) (f .bits) (omega arith) ∙ sym e in
+    let room : a .args .at + (7 + 2 * n) ≤ length (now (a .args .s)) = rw (bytes .bytes-for .ensures) (a .pre .1) in
+    rw (slots .lay-hex-bytes .ensures .1, part, count .lay-hex2 .ensures .1, head .lay-hex .ensures .1, bytes .before .presence-number .ensures) (line-laid (now (a .args .s)) (a .args .at) f n size room)
 
 pub put-line-spec : {M : Type 1} → statement M
 put-line-spec =
     tie.close
     (tie.spec
+    presence-number-requires
     bytes-for-requires
-    put-head-requires
-    add-put-bytes
-    sub-put-bytes
-    part-put-bytes-start
-    part-put-bytes-end
-    put-bytes-requires
+    lay-hex-requires
+    add-lay-hex
+    cast-lay-hex
+    lay-hex-requires-2
+    add-lay-hex-bytes
+    sub-lay-hex-bytes
+    part-lay-hex-bytes-start
+    part-lay-hex-bytes-end
+    lay-hex-bytes-requires
     add-end
     mul-end
     add-end-2

@@ -1,7 +1,7 @@
 -- What is read is named, and what is named is printed. Assumes nothing.
 use mathlib.Core.Path.{_≡_, ap, _∙_}
 use denote.Ref.{now}
-use Rattle.frame.specs.Lines.{Line}
+use Rattle.text.specs.Lines.{Line}
 use Rattle.naming.specs.Naming.{lineNamed}
 use Rattle.printing.specs.Printing.{nameOfRead}
 use Rattle.printing.specs.Laws.{line-read}

@@ -6,7 +6,8 @@ use denote.Ref.{now}
 use lib.ListN.{length, take, drop}
 use Rattle.printing.specs.declared.Text.{Text}
 use Rattle.printing.specs.Printing.{printedName}
-use Rattle.printing.specs.Laws.{text-fits, text-read, lay-short, lay-done}
+use Rattle.printing.specs.Laws.{text-fits, text-read}
+use Rattle.laying.specs.LayingLaws.{lay-short, lay-done}
 use borrow.Author.Needs.{needs}
 use Rattle.printing.proofs.print_named.Statement.{statement}
 use Rattle.printing.proofs.print_named.Tie as tie

@@ -8,7 +8,7 @@ use borrow.Author.Tests.{lt-ltb, le-ltb}
 use denote.Ref.{now}
 use lib.ListN.{length, length-set}
 use Rattle.lists.specs.LaidLaws.{laid-sets}
-use Rattle.frame.specs.Hex.{digitOf}
+use Rattle.text.specs.Digits.{digitOf}
 use borrow.Author.Needs.{needs}
 use Rattle.printing.proofs.put_decimal.Statement.{statement}
 use Rattle.printing.proofs.put_decimal.Tie as tie

@@ -6,7 +6,7 @@ use native.Mathlib.Omega.{arith}
 use denote.Ref.{now}
 use lib.ListN.{length}
 use Rattle.lists.specs.LaidLaws.{laid-none, laid-then}
-use Rattle.frame.specs.Hex.{digits}
+use Rattle.text.specs.Digits.{hexDigits}
 use Rattle.printing.specs.Printing.{space}
 use Rattle.printing.specs.Laws.{spaced-length, pad-length, place-none}
 use borrow.Author.Needs.{needs}
@@ -85,10 +85,10 @@ returns-3 c =
     let at = a .args .at in
     let l = spaced-length 16 (a .args .code) in
     let r : at + 17 ≤ length s = omega arith in
-    let b : at + length (space ∷ digits 16 (a .args .code)) ≡ at + 17 = omega arith in
+    let b : at + length (space ∷ hexDigits 16 (a .args .code)) ≡ at + 17 = omega arith in
     rw (d .before .before .enum-told3 .given .1) (
       ap (λ (n : ℕ). at + n) (sym (pad-length (a .args .code) (a .args .raw))),
-      e .put-spaced4 .ensures ∙ rw (d .put-spaced3 .ensures) (laid-then s at (space ∷ digits 16 (a .args .code)) (space ∷ digits 4 (a .args .raw)) (at + 17) b r),
+      e .put-spaced4 .ensures ∙ rw (d .put-spaced3 .ensures) (laid-then s at (space ∷ hexDigits 16 (a .args .code)) (space ∷ hexDigits 4 (a .args .raw)) (at + 17) b r),
     )
 
 returns-4 : tie.Need-returns-4

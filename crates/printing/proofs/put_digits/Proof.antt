@@ -7,15 +7,15 @@ use lib.ListN.{length, take, getD, length-set}
 use lib.Seq.{take-length}
 use Rattle.lists.specs.Laid.{laid}
 use Rattle.lists.specs.LaidLaws.{laid-none, laid-next}
-use Rattle.frame.specs.Hex.{digitOf, digits}
-use Rattle.frame.specs.HexLaws.{digits-length}
+use Rattle.text.specs.Digits.{digitOf, hexDigits}
+use Rattle.text.specs.DigitsLaws.{digits-length}
 use Rattle.printing.specs.Laws.{digit-at}
 use borrow.Author.Needs.{needs}
 use Rattle.printing.proofs.put_digits.Statement.{statement}
 use Rattle.printing.proofs.put_digits.Tie as tie
 
 abbrev Inv-loop : tie.InvT-loop
-Inv-loop s₀ at count number i₀ s i = (i ≤ count) × (length s ≡ length s₀) × (s ≡ laid s₀ at (take i (digits count number)))
+Inv-loop s₀ at count number i₀ s i = (i ≤ count) × (length s ≡ length s₀) × (s ≡ laid s₀ at (take i (hexDigits count number)))
 
 abbrev μ-loop : tie.MeasureT-loop
 μ-loop s₀ at count number i₀ s i = count - i
@@ -57,7 +57,7 @@ loop-again : tie.Need-loop-again Inv-loop μ-loop
 loop-again c =
     let l = c .before .before in
     let a = l .before .before in
-    let x = digits (a .args .count) (a .args .number) in
+    let x = hexDigits (a .args .count) (a .args .number) in
     let i = l .loop .i in
     let d = digits-length (a .args .count) (a .args .number) in
     let w : i < a .args .count = c .before .loop-test .taken in
@@ -76,7 +76,7 @@ same-length c = search needs
 returns : tie.Need-returns Inv-loop μ-loop
 returns c =
     let a = c .before .before .before in
-    let x = digits (a .args .count) (a .args .number) in
+    let x = hexDigits (a .args .count) (a .args .number) in
     let d = digits-length (a .args .count) (a .args .number) in
     let e : c .before .loop .i ≡ length x = omega arith in
     c .before .loop .inv .2 ∙ rw (e, take-length)

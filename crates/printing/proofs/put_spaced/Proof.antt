@@ -6,8 +6,8 @@ use native.Mathlib.Omega.{arith}
 use denote.Ref.{now}
 use lib.ListN.{length, length-set}
 use Rattle.lists.specs.LaidLaws.{laid-sets, laid-then}
-use Rattle.frame.specs.Hex.{digits}
-use Rattle.frame.specs.HexLaws.{digits-length}
+use Rattle.text.specs.Digits.{hexDigits}
+use Rattle.text.specs.DigitsLaws.{digits-length}
 use Rattle.printing.specs.Printing.{space}
 use borrow.Author.Needs.{needs}
 use Rattle.printing.proofs.put_spaced.Statement.{statement}
@@ -29,7 +29,7 @@ returns : tie.Need-returns
 returns c =
     let d = c .before .before in
     let a = d .before .before .before in
-    let x = digits (a .args .count) (a .args .number) in
+    let x = hexDigits (a .args .count) (a .args .number) in
     let l = digits-length (a .args .count) (a .args .number) in
     let h : a .args .at + 1 ≤ length (now (a .args .s)) = omega arith in
     let one = laid-sets (now (a .args .s)) (a .args .at) (space ∷ []) h in

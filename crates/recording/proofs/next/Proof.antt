@@ -41,7 +41,7 @@ use denote.Triple.Table.{entered, cited}
 use denote.Triple.Walked.{says, Stays, stay-none, walkOf, goes-none, Walks, ends-at, walked, walk-meets}
 use denote.Exit.{yes}
 use denote.Triple.Clauses.{ensured, lasts}
-use Rattle.frame.specs.Reading.{readAt}
+use Rattle.frame.specs.ReadLine.{lineReadAt}
 use Rattle.recording.specs.declared.Reader.{Reader}
 use Rattle.frame.specs.declared.LineRead.{LineRead}
 use Rattle.recording.proofs.Reader as T
@@ -78,7 +78,7 @@ module _ {M : Type 1} (𝓤 : URA M) (H : Heap 𝓤) (A : Atoms 𝓤) (W : Given
   v = sliceVal (d .bytes .ptr) (length (d .bytes .now))
 
   abbrev found : LineRead
-  found = readAt (now (d .bytes)) (d .at)
+  found = lineReadAt (now (d .bytes)) (d .at)
 
   abbrev Post : Val → SProp 𝓤
   Post = walkOf 𝓤 H A next.ended stayed (next.clauses 𝓤 H A mem run) .post (((κ, tt), (q, tt), tt, (d, tt), (mach ∷ [], tt)), tt)

@@ -1,38 +1,62 @@
--- The count's four digits are two bytes, the higher first. Assumes nothing.
+-- Digits in the front of a line of digits are a number. Assumes nothing.
+use Prim.Native.Nat.{_^_, _<_}
+use mathlib.Core.Path.{_≡_, ap, _∙_}
+use mathlib.Core.Bool.{true}
 use native.Mathlib.Omega.{arith}
 use denote.Ref.{now}
-use Rattle.frame.specs.ReadingLaws.{count-in}
+use lib.ListN.{length, take, drop, length-drop}
+use lib.Seq.{length-take-le}
+use Rattle.lists.specs.FoldLaws.{all-take, all-drop}
+use Rattle.text.specs.declared.NumberRead.{NumberRead}
+use Rattle.text.specs.Digits.{isDigit, spells, numberIn}
+use Rattle.text.specs.DigitsLaws.{number-below}
+use Rattle.text.specs.NumbersLaws.{fixed-hex}
+use Rattle.frame.specs.ReadLine.{countIn}
 use borrow.Author.Needs.{needs}
 use Rattle.frame.proofs.reading.count_of.Statement.{statement}
 use Rattle.frame.proofs.reading.count_of.Tie as tie
 
-byte-at-requires : tie.Need-byte-at-requires
-byte-at-requires c κs = search needs
+-- the four digits, and the number that was read
+four : (c : tie.Start) → length (take 4 (drop 2 (now (c .args .line)))) ≡ 4
+four c = let cs = now (c .args .line) in let l = length-drop 2 cs in let m = c .pre .0 in length-take-le 4 (drop 2 cs) (omega arith)
 
-cast-high : tie.Need-cast-high
-cast-high c = search needs
+spelt : (c : tie.Start) → spells 16 (take 4 (drop 2 (now (c .args .line)))) ≡ true
+spelt c = let cs = now (c .args .line) in all-take (isDigit 16) 4 (drop 2 cs) (all-drop (isDigit 16) 2 cs (c .pre .1))
 
-byte-at-requires-2 : tie.Need-byte-at-requires-2
-byte-at-requires-2 c κs = search needs
+read : (c : tie.After-read-fixed) → c .read-fixed .result .number ≡ countIn (now (c .before .before .before .args .line))
+read c =
+    let a = c .before .before .before in
+    ap (λ (r : NumberRead). r .number) (c .read-fixed .ensures ∙ fixed-hex 4 (take 4 (drop 2 (now (a .args .line)))) (four a) (omega arith) (spelt a))
 
-cast-low : tie.Need-cast-low
-cast-low c = search needs
+sub-read-fixed : tie.Need-sub-read-fixed
+sub-read-fixed c = search needs
 
-mul-result : tie.Need-mul-result
-mul-result c = search needs
+part-read-fixed-start : tie.Need-part-read-fixed-start
+part-read-fixed-start c = search needs
 
-add-result : tie.Need-add-result
-add-result c = search needs
+part-read-fixed-end : tie.Need-part-read-fixed-end
+part-read-fixed-end c = search needs
+
+read-fixed-requires : tie.Need-read-fixed-requires
+read-fixed-requires c κs = search needs
+
+cast-result : tie.Need-cast-result
+cast-result c =
+    let a = c .before .before .before .before in
+    let below : countIn (now (a .args .line)) < 16 ^ 4 = rw (four a) at (number-below 16 (take 4 (drop 2 (now (a .args .line)))) (spelt a)) in
+    let is = read (c .before) in
+    record { fits = omega arith }
 
 returns : tie.Need-returns
-returns c =
-    let a = c .before .before .before in
-    let e = count-in (now (a .args .line)) (a .pre .0) in
-    let h = c .before .byte-at .ensures in
-    let l = c .byte-at2 .ensures in
-    omega arith
+returns c = read (c .before)
 
 pub count-of-spec : {M : Type 1} → statement M
 count-of-spec =
     tie.close
-    (tie.spec byte-at-requires cast-high byte-at-requires-2 cast-low mul-result add-result returns)
+    (tie.spec
+    sub-read-fixed
+    part-read-fixed-start
+    part-read-fixed-end
+    read-fixed-requires
+    cast-result
+    returns)

@@ -11,17 +11,17 @@ use lib.ListN.{length, take, drop, length-drop}
 use lib.Seq.{take-all}
 use Rattle.lists.specs.ChoiceLaws.{and-left}
 use Rattle.lists.specs.FoldLaws.{all-drop}
-use Rattle.frame.specs.Hex.{isDigit}
+use Rattle.text.specs.Digits.{isDigit}
 use Rattle.frame.specs.Frames.{countAllowed, bytesFor}
-use Rattle.frame.specs.Reading.{answered, presenceIn, countIn}
-use Rattle.frame.specs.ReadingLaws.{presence-in, wrong-length, wrong-presence, wrong-count, right-head}
+use Rattle.frame.specs.ReadLine.{LineContent, found, answerOf, presenceIn, countIn}
+use Rattle.frame.specs.ReadLineLaws.{wrong-length, wrong-presence, wrong-count, right-head}
 use borrow.Author.Needs.{needs}
 use Rattle.frame.proofs.reading.read_digits.Statement.{statement}
 use Rattle.frame.proofs.reading.read_digits.Tie as tie
 
 -- the digits of presence, read
-shown : (c : tie.After-byte-at) → c .byte-at .result ≡ presenceIn (now (c .before .before .before .args .line))
-shown c = c .byte-at .ensures ∙ sym (presence-in (now (c .before .before .before .args .line)) (c .before .if1 .left))
+shown : (c : tie.After-presence-of) → c .presence-of .result ≡ presenceIn (now (c .before .before .before .args .line))
+shown c = c .presence-of .ensures
 
 -- what the test of the count says of the digits
 allowed : (c : tie.After-count-allowed)
@@ -52,10 +52,10 @@ refuse-requires c κs = search needs
 returns : tie.Need-returns
 returns c =
     let a = c .before .before .before .args in
-    c .refuse .ensures ∙ ap (answered (a .next)) (sym (wrong-length (now (a .line)) (λ e. let h = c .before .if1 .taken in omega arith)))
+    c .refuse .ensures ∙ ap (λ (r : LineContent). answerOf (found r (a .next))) (sym (wrong-length (now (a .line)) (λ e. let h = c .before .if1 .taken in omega arith)))
 
-byte-at-requires : tie.Need-byte-at-requires
-byte-at-requires c κs = search needs
+presence-of-requires : tie.Need-presence-of-requires
+presence-of-requires c κs = search needs
 
 refuse-requires-2 : tie.Need-refuse-requires-2
 refuse-requires-2 c κs = search needs
@@ -65,7 +65,7 @@ returns-2 c =
     let a = c .before .before .before .before .before .args in
     let h = c .before .if2 .taken in
     let e = shown (c .before .before) in
-    c .refuse2 .ensures ∙ ap (answered (a .next)) (sym (wrong-presence (now (a .line)) (rw (← e) h)))
+    c .refuse2 .ensures ∙ ap (λ (r : LineContent). answerOf (found r (a .next))) (sym (wrong-presence (now (a .line)) (rw (← e) h)))
 
 count-of-requires : tie.Need-count-of-requires
 count-of-requires c κs = search needs
@@ -81,7 +81,7 @@ returns-3 c =
     let k = c .before .before in
     let a = k .before .before .before .before .before .before .args in
     let e = sym (allowed k) ∙ not-true (k .count-allowed .result) (c .before .if3 .taken) in
-    c .refuse3 .ensures ∙ ap (answered (a .next)) (sym (wrong-count (now (a .line)) e))
+    c .refuse3 .ensures ∙ ap (λ (r : LineContent). answerOf (found r (a .next))) (sym (wrong-count (now (a .line)) e))
 
 bytes-for-requires : tie.Need-bytes-for-requires
 bytes-for-requires c κs = rw (c .before .before .count-of .ensures) (small c)
@@ -101,7 +101,7 @@ returns-4 c =
     let a = k .before .before .before .before .before .before .args in
     let e = c .before .before .bytes-for .ensures in
     let f = k .before .count-of .ensures in
-    c .refuse4 .ensures ∙ ap (answered (a .next)) (sym (wrong-length (now (a .line)) (rw (← f, ← e) (c .before .if4 .taken))))
+    c .refuse4 .ensures ∙ ap (λ (r : LineContent). answerOf (found r (a .next))) (sym (wrong-length (now (a .line)) (rw (← f, ← e) (c .before .if4 .taken))))
 
 sub-read-slots : tie.Need-sub-read-slots
 sub-read-slots c = search needs
@@ -121,7 +121,7 @@ read-slots-requires c κs =
     let l = long (c .before) in (
       rw e (small (c .before .before .before)),
       rw (rest cs, e) (length-drop 6 cs ∙ omega arith),
-      rw (rest cs) (all-drop isDigit 6 cs (a .pre)),
+      rw (rest cs) (all-drop (isDigit 16) 6 cs (a .pre)),
     )
 
 returns-5 : tie.Need-returns-5
@@ -133,7 +133,7 @@ returns-5 c =
     let one : presenceIn cs ≤ 1 = rw (← shown b) (k .before .before .if2 .left) in
     let fine = sym (allowed k) ∙ not-false (k .count-allowed .result) (c .before .before .before .before .if3 .left) in
     c .read-slots .ensures
-    ∙ rw (rest cs, shown b, k .before .count-of .ensures) (ap (answered (a .args .next)) (sym (right-head cs one fine (long (c .before .before)))))
+    ∙ rw (rest cs, shown b, k .before .count-of .ensures) (ap (λ (r : LineContent). answerOf (found r (a .args .next))) (sym (right-head cs one fine (long (c .before .before)))))
 
 pub read-digits-spec : {M : Type 1} → statement M
 read-digits-spec =
@@ -141,7 +141,7 @@ read-digits-spec =
     (tie.spec
     refuse-requires
     returns
-    byte-at-requires
+    presence-of-requires
     refuse-requires-2
     returns-2
     count-of-requires

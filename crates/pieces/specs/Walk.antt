@@ -1,0 +1,227 @@
+-- A walk over the whole lines of a piece: each line's text is laid behind that of the line before. At each place there is room for it where no line
+-- says more than `each` bytes for each byte of its own, and the buffer has so many for each byte of the piece. And each way in which a call on a piece, or
+-- at the end of the text, can end, as its definition has it.
+--     Told s p               how far the whole lines go, as a call learns it
+--     Running ..             the walk's invariant
+-- Assumes nothing.
+use Prim.Native.Nat.{ℕ, _+_, _-_, _*_, _/_, _<_, _≤_}
+use mathlib.Core.Path.{_≡_, refl, sym, ap, _∙_}
+use mathlib.Core.Bool.{Bool, true, false}
+use mathlib.Core.List.{List, [], _∷_, _++_, append-nil}
+use native.Mathlib.Omega.{arith}
+use native.Mathlib.Nat.{mul-add, mul-comm, mul-zero, mul-le-mul-left, le-div-iff-mul-le}
+use borrow.Author.Tests.{le-leb, lt-leb}
+use lib.ListN.{length, take, drop, length-append, length-take, length-drop, drop-of-length-le}
+use lib.Seq.{take-all}
+use Rattle.lists.specs.Choice.{if_then_else_}
+use Rattle.lists.specs.Laid.{laid}
+use Rattle.lists.specs.LaidLaws.{laid-none, laid-more, laid-length, laid-then}
+use Rattle.refusals.specs.Refusals.{accepted, noRoom}
+use Rattle.text.specs.Lines.{Line, linesOf, width, feedAt}
+use Rattle.text.specs.LinesLaws.{first-size, lines-fed, lines-open, lines-done}
+use Rattle.laying.specs.declared.Written.{Written}
+use Rattle.laying.specs.Laying.{layAnswer, layLeaves}
+use Rattle.laying.specs.LayingLaws.{lay-fits}
+use Rattle.pieces.specs.declared.Fed.{Fed}
+use Rattle.pieces.specs.declared.Progress.{Progress}
+use Rattle.pieces.specs.Pieces.{sayAll, said, whole, rest, saidWhole, feedAnswer, feedKept, feedWritten, finishAnswer, finishWritten}
+use Rattle.pieces.specs.Cuts.{parts, rest-plain, alone-open}
+
+-- ## The first line from a place on, where more lines follow or none
+
+module _ (say : Line → List ℕ) (l : Line) (ls : List Line) where
+  whole-more : l .fed ≡ true → sayAll say (whole (l ∷ ls)) ≡ say l ++ sayAll say (whole ls)
+  unfolding whole sayAll
+  whole-more h = rw h
+
+  whole-stop : l .fed ≡ false → sayAll say (whole (l ∷ ls)) ≡ []
+  unfolding whole sayAll
+  whole-stop h = rw h
+
+module _ (l : Line) (ls : List Line) where
+  rest-more : l .fed ≡ true → rest (l ∷ ls) ≡ rest ls
+  unfolding rest
+  rest-more h = rw h
+
+  rest-stop : l .fed ≡ false → rest (l ∷ ls) ≡ l .chars
+  unfolding rest
+  rest-stop h = rw h
+
+-- ## The walk
+
+module _ (say : Line → List ℕ) (each : ℕ) where
+  -- how far the whole lines go: what is said for them, and the place from which on the unfinished line stands
+  pub record Told (s : List ℕ) (p : Progress) : Type 0 where
+    pub text : p .written ≡ length (saidWhole say s)
+    pub few : p .written ≤ each * p .next
+    pub within : p .next ≤ length s
+    pub left : drop (p .next) s ≡ rest (linesOf s)
+
+  -- what is said for the lines before a place is laid, and what is to come is that of the lines from it on
+  pub record Running (s out₀ : List ℕ) (at written : ℕ) (out : List ℕ) : Type 0 where
+    pub within : at ≤ length s
+    pub size : length out ≡ length out₀
+    pub few : written ≤ each * at
+    pub count : written + length (saidWhole say (drop at s)) ≡ length (saidWhole say s)
+    pub text : laid out written (saidWhole say (drop at s)) ≡ laid out₀ 0 (saidWhole say s)
+    pub open-line : rest (linesOf (drop at s)) ≡ rest (linesOf s)
+
+  pub running-start : (s out : List ℕ) → Running s out 0 0 out
+  running-start s out = record {
+    within = omega arith;
+    size = refl;
+    few = omega arith;
+    count = omega arith;
+    text = refl;
+    open-line = refl;
+  }
+
+  -- no line says more than it has room for
+  abbrev pub Short : Type 0
+  Short = (l : Line) → 0 < width l → length (say l) ≤ each * width l
+
+  module _ (short : Short) (s out₀ : List ℕ) (at written : ℕ) (out : List ℕ) (room : each * length s ≤ length out₀) (r : Running s out₀ at written out)
+      (e : ℕ) (before : at < length s) (ends : at + feedAt (drop at s) ≡ e) (fed : e < length s) where
+    abbrev here : Line
+    here = record { chars = take (e - at) (drop at s); fed = true }
+
+    here-fits : written + length (say here) ≤ each * (e + 1)
+    here-fits =
+        let z = first-size s at e before ends in
+        let w : width here ≡ e - at + 1 = omega arith in
+        let p : 0 < width here = omega arith in
+        let k = short here p in
+        let f = r .few in
+        let sum : at + width here ≡ e + 1 = omega arith in
+        let both : each * (at + width here) ≡ each * at + each * width here = mul-add each at (width here) in
+        rw (← sum, both) (omega arith)
+
+    here-room : written + length (say here) ≤ length out
+    here-room =
+        let h = here-fits in
+        let z = r .size in
+        let m : each * (e + 1) ≤ each * length s = mul-le-mul-left each (omega arith) in
+        omega arith
+
+    -- the line that ends at e is said, and the next place is behind its feed
+    pub running-more : (w : Written) (next : List ℕ) → w ≡ layAnswer out written (say here) → next ≡ layLeaves out written (say here)
+        → Running s out₀ (e + 1) (w .next) next
+    running-more w next h k =
+        let x = say here in
+        let fits = lay-fits out written x here-room in
+        let a : w .next ≡ written + length x = ap (λ (v : Written). v .next) (h ∙ fits .0) in
+        let b : next ≡ laid out written x = k ∙ fits .1 in
+        let f = lines-fed s at e before ends fed in
+        let more : saidWhole say (drop at s) ≡ x ++ saidWhole say (drop (e + 1) s) =
+        ap (λ (ls : List Line). sayAll say (whole ls)) f ∙ whole-more say here (linesOf (drop (e + 1) s)) refl in
+        let l = ap length more ∙ length-append x (saidWhole say (drop (e + 1) s)) in
+        let c = r .count in
+        let m = here-fits in
+        record {
+          within = omega arith;
+          size = rw b (laid-length out written x here-room ∙ r .size);
+          few = rw a m;
+          count = omega arith;
+          text = rw (a, b, laid-more out written x (saidWhole say (drop (e + 1) s)) here-room, ← more) (r .text);
+          open-line = sym (rest-more here (linesOf (drop (e + 1) s)) refl) ∙ ap rest (sym f) ∙ r .open-line;
+        }
+
+  -- where there is no whole line more, all is said
+  running-end : (s out₀ : List ℕ) (at written : ℕ) (out : List ℕ) → Running s out₀ at written out
+      → saidWhole say (drop at s) ≡ [] → rest (linesOf (drop at s)) ≡ drop at s
+      → Told s record { written = written; next = at } × (out ≡ laid out₀ 0 (saidWhole say s))
+  running-end s out₀ at written out r none left =
+      let c = r .count in
+      let l : length (saidWhole say (drop at s)) ≡ 0 = ap length none in (
+        record { text = omega arith; few = r .few; within = r .within; left = sym left ∙ r .open-line },
+        laid-none out written ∙ ap (laid out written) (sym none) ∙ r .text,
+      )
+
+  module _ (s out₀ : List ℕ) (at written : ℕ) (out : List ℕ) (r : Running s out₀ at written out) where
+    pub running-done : length s ≤ at → Told s record { written = written; next = at } × (out ≡ laid out₀ 0 (saidWhole say s))
+    unfolding whole rest sayAll
+    running-done h =
+        let n = lines-done s at h in
+        running-end s out₀ at written out r (ap (λ (ls : List Line). sayAll say (whole ls)) n) (ap rest n ∙ sym (drop-of-length-le s h))
+
+    pub running-open : (e : ℕ) → at < length s → at + feedAt (drop at s) ≡ e → length s ≤ e
+        → Told s record { written = written; next = at } × (out ≡ laid out₀ 0 (saidWhole say s))
+    running-open e before ends h =
+        let f = lines-open s at e before ends h in
+        let l : Line = record { chars = drop at s; fed = false } in
+        running-end s out₀ at written out r
+        (ap (λ (ls : List Line). sayAll say (whole ls)) f ∙ whole-stop say l [] refl)
+        (ap rest f ∙ rest-stop l [] refl)
+
+-- ## The room for a piece, as the test has it
+
+pub room-each : (each n m : ℕ) → 0 < each → n ≤ m / each → each * n ≤ m
+room-each each n m some h = let k = le-div-iff-mul-le some .0 h in let c = mul-comm n each in omega arith
+
+-- ## The ends of the two calls
+
+module _ (say : Line → List ℕ) (each most : ℕ) (s out : List ℕ) (none : length out / each < length s) where
+  pub feed-short : _≡_ {A = Fed} record { refusal = noRoom; written = 0; held = 0 } (feedAnswer say each most s out)
+      × (s ≡ feedKept say each most s out)
+      × (out ≡ feedWritten say each most s out)
+  feed-short = rw (lt-leb (length s) (length out / each) none) (refl, refl, refl)
+
+  pub finish-short : _≡_ {A = Written} record { refusal = noRoom; next = 0 } (finishAnswer say each s out) × (out ≡ finishWritten say each s out)
+  finish-short = rw (lt-leb (length s) (length out / each) none) (refl, refl)
+
+module _ (say : Line → List ℕ) (each : ℕ) (some : 0 < each) (s out : List ℕ) (room : length s ≤ length out / each) (p : Progress) (told : Told say each s p) (after : List ℕ)
+    (lines : after ≡ laid out 0 (saidWhole say s)) where
+  pub feed-done : (most held : ℕ) (kept : List ℕ) → held ≡ length (take most (drop (p .next) s)) → kept ≡ laid s 0 (take most (drop (p .next) s))
+      → _≡_ {A = Fed} record { refusal = accepted; written = p .written; held = held } (feedAnswer say each most s out)
+      × (kept ≡ feedKept say each most s out)
+      × (after ≡ feedWritten say each most s out)
+  feed-done most held kept h k =
+      let a = rw (told .left) at h in let b = rw (told .left) at k in
+      rw (le-leb (length s) (length out / each) room) (rw (told .text, a) refl, b, lines)
+
+  -- every line had its feed
+  pub finish-whole : length s ≤ p .next
+      → _≡_ {A = Written} record { refusal = accepted; next = p .written } (finishAnswer say each s out) × (after ≡ finishWritten say each s out)
+  unfolding sayAll linesOf
+  finish-whole h =
+      let none : rest (linesOf s) ≡ [] = sym (told .left) ∙ drop-of-length-le s h in
+      let all : said say s ≡ saidWhole say s = parts say s ∙ ap (λ (u : List ℕ). saidWhole say s ++ said say u) none ∙ append-nil (saidWhole say s) in
+      rw (le-leb (length s) (length out / each) room, all) (rw (told .text) refl, lines)
+
+  -- what was said for whole lines is within the buffer
+  told-fits : p .written ≤ length out
+  told-fits =
+      let few = told .few in
+      let m : each * p .next ≤ each * length s = mul-le-mul-left each (told .within) in
+      let r = room-each each (length s) (length out) some room in
+      omega arith
+
+  -- a last line had none
+  pub finish-open : Short say each → (u : List ℕ) → u ≡ drop (p .next) s → p .next < length s → (w : Written) (last : List ℕ) →
+      let x = say record { chars = u; fed = false } in
+      w ≡ layAnswer after (p .written) x → last ≡ layLeaves after (p .written) x → (w ≡ finishAnswer say each s out) × (last ≡ finishWritten say each s out)
+  finish-open short u e h w last a b =
+      let l : Line = record { chars = u; fed = false } in
+      let x = say l in
+      let t = saidWhole say s in
+      let n : length u ≡ length s - p .next = ap length e ∙ length-drop (p .next) s in
+      let pos : 0 < width l = omega arith in
+      let brief = short l pos in
+      let few = told .few in
+      let z = told .text in
+      let fit = told-fits in
+      let size : length after ≡ length out = rw lines (laid-length out 0 t (omega arith)) in
+      let sum-width : p .next + width l ≡ length s = omega arith in
+      let both : each * (p .next + width l) ≡ each * p .next + each * width l = mul-add each (p .next) (width l) in
+      let whole-room : each * (p .next + width l) ≤ length out = rw sum-width (room-each each (length s) (length out) some room) in
+      let fits : p .written + length x ≤ length after = omega arith in
+      let one : said say (rest (linesOf s)) ≡ x =
+      ap (said say) (sym (e ∙ told .left)) ∙ alone-open say u (omega arith) (rw (e, told .left) (rest-plain s)) in
+      let all : said say s ≡ t ++ x = parts say s ∙ ap (λ (v : List ℕ). t ++ v) one in
+      let f = lay-fits after (p .written) x fits in
+      let sum : p .written + length x ≡ length (t ++ x) = rw (length-append t x) (omega arith) in
+      let q : 0 + length t ≡ p .written = omega arith in
+      rw (le-leb (length s) (length out / each) room, all) (
+        a ∙ f .0 ∙ ap (λ (k : ℕ). record { refusal = accepted; next = k }) sum,
+        b ∙ f .1 ∙ ap (λ (d : List ℕ). laid d (p .written) x) lines ∙ laid-then out 0 t x (p .written) q fit,
+      )

@@ -1,0 +1,33 @@
+-- A number of any size in plain decimal: as many digits as it needs, so that no zero stands in front of another digit; 0 is one digit.
+--     decimal x              the number in plain decimal
+--     decimalIn cs           the number that decimal digits stand for
+--     plainDecimal cs        whether some characters are a number in plain decimal
+-- Assumes nothing.
+use Prim.Native.Nat.{ℕ, zero, suc, _/_}
+use mathlib.Core.Bool.{Bool, not, _&&_, _||_}
+use mathlib.Core.List.{List}
+use lib.Dec.{eqb, leb, ltb}
+use lib.ListN.{length, getD}
+use Rattle.lists.specs.Choice.{if_then_else_}
+use Rattle.text.specs.Digits.{digits, numberIn, spells}
+
+-- how many digits a number has, where at most n tenths are taken: one below ten, else one more than its tenth
+unfoldable pub lengthWithin : ℕ → ℕ → ℕ
+lengthWithin zero x = 1
+lengthWithin (suc n) x = if ltb x 10 then 1 else suc (lengthWithin n (x / 10))
+
+-- how many digits a number has; x tenths are more than enough
+abbrev pub decimalLength : ℕ → ℕ
+decimalLength x = lengthWithin x x
+
+-- the number in plain decimal
+unfoldable pub decimal : ℕ → List ℕ
+decimal x = digits 10 (decimalLength x) x
+
+-- the number that decimal digits stand for
+abbrev pub decimalIn : List ℕ → ℕ
+decimalIn cs = numberIn 10 cs
+
+-- whether some characters are a number in plain decimal: digits, the first of several no zero
+abbrev pub plainDecimal : List ℕ → Bool
+plainDecimal cs = leb 1 (length cs) && spells 10 cs && (eqb (length cs) 1 || not (eqb (getD cs 0 0) 0x30))

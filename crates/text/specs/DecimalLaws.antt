@@ -1,0 +1,165 @@
+-- Plain decimal: how many digits a number has, as a loop counts them, and the two round trips.
+--     decimal-read           the number of the digits of a number
+--     decimal-written        plain decimal read and written again is the same
+-- Assumes nothing.
+use Prim.Native.Nat.{ℕ, zero, suc, _+_, _*_, _/_, _^_, _<_, _≤_}
+use mathlib.Core.Path.{_≡_, refl, sym, ap, _∙_}
+use mathlib.Core.Bool.{Bool, true, false, not, _&&_, _||_, false≢true}
+use mathlib.Core.List.{List, [], _∷_}
+use native.Mathlib.Omega.{arith}
+use native.Mathlib.Nat.{pow-suc, pow-le-pow-right}
+use borrow.Author.Tests.{lt-ltb, le-ltb, leb-true, ltb-true, ltb-false, eqb-true, eqb-false, ne-eqb, not-true}
+use lib.Dec.{eqb, leb, ltb, lit<}
+use lib.ListN.{length, getD}
+use Rattle.lists.specs.Choice.{if_then_else_}
+use Rattle.lists.specs.ChoiceLaws.{and-left, and-right}
+use Rattle.lists.specs.Fold.{fold, all}
+use Rattle.text.specs.Digits.{digits, digitOf, valueOf, isDigit, spells, numberIn, thenDigit}
+use Rattle.text.specs.DigitsLaws.{digits-length, digits-are, number-digits, digits-number, number-below, digit-value}
+use Rattle.text.specs.Decimal.{lengthWithin, decimalLength, decimal, decimalIn, plainDecimal}
+
+-- ## How many digits
+
+-- more tenths taken than enough change nothing
+length-enough : (n m x : ℕ) → x ≤ n → x ≤ m → lengthWithin n x ≡ lengthWithin m x
+unfolding lengthWithin
+length-enough zero zero x h k = refl
+length-enough zero (suc m) x h k = let s : x < 10 = omega arith in rw (lt-ltb x 10 s)
+length-enough (suc n) zero x h k = let s : x < 10 = omega arith in rw (lt-ltb x 10 s)
+length-enough (suc n) (suc m) x h k = by-test (ltb x 10) refl (length-enough n m (x / 10))
+  where
+    by-test : (t : Bool) → ltb x 10 ≡ t → (x / 10 ≤ n → x / 10 ≤ m → lengthWithin n (x / 10) ≡ lengthWithin m (x / 10))
+        → (if t then 1 else suc (lengthWithin n (x / 10))) ≡ (if t then 1 else suc (lengthWithin m (x / 10)))
+    by-test true e tenth = refl
+    by-test false e tenth = let b = ltb-false x 10 e in ap suc (tenth (omega arith) (omega arith))
+
+-- as a loop counts them: one below ten, else one more than the tenth has
+pub length-small : (x : ℕ) → x < 10 → decimalLength x ≡ 1
+unfolding lengthWithin
+length-small zero h = refl
+length-small (suc x) h = rw (lt-ltb (suc x) 10 h)
+
+pub length-tenth : (x : ℕ) → 10 ≤ x → decimalLength x ≡ decimalLength (x / 10) + 1
+unfolding lengthWithin
+length-tenth zero h = absurd (omega arith)
+length-tenth (suc x) h =
+    let l = length-enough x (suc x / 10) (suc x / 10) (omega arith) (omega arith) in
+    rw (le-ltb (suc x) 10 h, l) (omega arith)
+
+-- a number is below the power that its digits do not reach
+within-below : (n x : ℕ) → x ≤ n → x < 10 ^ lengthWithin n x
+unfolding lengthWithin
+within-below zero x h = omega arith
+within-below (suc n) x h = by-test (ltb x 10) refl (within-below n (x / 10))
+  where
+    by-test : (t : Bool) → ltb x 10 ≡ t → (x / 10 ≤ n → x / 10 < 10 ^ lengthWithin n (x / 10)) → x < 10 ^ (if t then 1 else suc (lengthWithin n (x / 10)))
+    by-test true e tenth = ltb-true x 10 e
+    by-test false e tenth =
+        let b = ltb-false x 10 e in
+        let i = tenth (omega arith) in
+        omega (arith, pow-suc 10 (lengthWithin n (x / 10)))
+
+-- a number that k digits hold has no more
+within-most : (n x k : ℕ) → x < 10 ^ suc k → lengthWithin n x ≤ suc k
+unfolding lengthWithin
+within-most zero x k h = omega arith
+within-most (suc n) x k h = by-test (ltb x 10) refl k h (within-most n (x / 10))
+  where
+    by-test : (t : Bool) → ltb x 10 ≡ t → (k : ℕ) → x < 10 ^ suc k → ((k : ℕ) → x / 10 < 10 ^ suc k → lengthWithin n (x / 10) ≤ suc k)
+        → (if t then 1 else suc (lengthWithin n (x / 10))) ≤ suc k
+    by-test true e k h tenth = omega arith
+    by-test false e zero h tenth = let b = ltb-false x 10 e in absurd (omega arith)
+    by-test false e (suc k) h tenth = let i = tenth k (omega (arith, pow-suc 10 (suc k))) in omega arith
+
+-- a number that k digits do not hold has more
+within-least : (n x k : ℕ) → x ≤ n → 10 ^ k ≤ x → suc k ≤ lengthWithin n x
+unfolding lengthWithin
+within-least zero x zero l h = omega arith
+within-least zero x (suc k) l h =
+    let p : 1 ≤ 10 ^ k = pow-le-pow-right {n = 10} (lit< tt) {i = 0} {j = k} (omega arith) in
+    absurd (omega (arith, pow-suc 10 k))
+within-least (suc n) x zero l h = by-test (ltb x 10)
+  where
+    by-test : (t : Bool) → 1 ≤ (if t then 1 else suc (lengthWithin n (x / 10)))
+    by-test true = omega arith
+    by-test false = omega arith
+within-least (suc n) x (suc k) l h =
+    let p : 1 ≤ 10 ^ k = pow-le-pow-right {n = 10} (lit< tt) {i = 0} {j = k} (omega arith) in
+    let b : 10 ≤ x = omega (arith, pow-suc 10 k) in
+    let i = within-least n (x / 10) k (omega arith) (omega (arith, pow-suc 10 k)) in
+    rw (le-ltb x 10 b) (omega arith)
+
+pub decimal-most : (x k : ℕ) → x < 10 ^ suc k → decimalLength x ≤ suc k
+decimal-most x k h = within-most x x k h
+
+pub decimal-length : (x : ℕ) → length (decimal x) ≡ decimalLength x
+unfolding decimal
+decimal-length x = digits-length 10 (decimalLength x) x
+
+-- as many digits as are counted are the plain decimal
+pub decimal-digits : (x n : ℕ) → n ≡ decimalLength x → digits 10 n x ≡ decimal x
+unfolding decimal
+decimal-digits x n e = ap (λ (k : ℕ). digits 10 k x) e
+
+-- ## The two round trips
+
+pub decimal-read : (x : ℕ) → decimalIn (decimal x) ≡ x
+unfolding decimal
+decimal-read x = number-digits 10 (lit< tt) (omega arith) (decimalLength x) x (within-below x x (omega arith))
+
+pub decimal-plain : (x : ℕ) → spells 10 (decimal x) ≡ true
+unfolding decimal
+decimal-plain x = digits-are 10 (lit< tt) (omega arith) (decimalLength x) x
+
+-- a number that starts at 10 ^ k or above, and more digits behind it
+fold-least : (cs : List ℕ) (x k : ℕ) → 10 ^ k ≤ x → 10 ^ (k + length cs) ≤ fold (thenDigit 10) x cs
+unfolding fold
+fold-least [] x k h = let z : k + 0 ≡ k = omega arith in rw z h
+fold-least (c ∷ cs) x k h =
+    let z : k + suc (length cs) ≡ suc k + length cs = omega arith in
+    rw z (fold-least cs (thenDigit 10 x c) (suc k) (omega (arith, pow-suc 10 k)))
+
+within-some : (n x : ℕ) → 1 ≤ lengthWithin n x
+unfolding lengthWithin
+within-some zero x = omega arith
+within-some (suc n) x = by-test (ltb x 10)
+  where
+    by-test : (t : Bool) → 1 ≤ (if t then 1 else suc (lengthWithin n (x / 10)))
+    by-test true = omega arith
+    by-test false = omega arith
+
+-- a digit that is no zero counts
+first-value : (c : ℕ) → isDigit 10 c ≡ true → (c ≡ 0x30 → ⊥) → 1 ≤ valueOf c
+first-value c h n = by-test (eqb (valueOf c) 0) refl
+  where
+    by-test : (t : Bool) → eqb (valueOf c) 0 ≡ t → 1 ≤ valueOf c
+    by-test true e =
+        let z = eqb-true (valueOf c) 0 e in
+        absurd (n (sym (digit-value 10 c (omega arith) h) ∙ ap digitOf z))
+    by-test false e = let z = eqb-false (valueOf c) 0 e in omega arith
+
+-- digits of which the first is no zero are as many as their number has
+first-counts : (c : ℕ) (cs : List ℕ) → spells 10 (c ∷ cs) ≡ true → (eqb (length (c ∷ cs)) 1 || not (eqb c 0x30)) ≡ true
+    → suc (length cs) ≤ decimalLength (decimalIn (c ∷ cs))
+unfolding numberIn fold all
+first-counts c [] e h = within-some (decimalIn (c ∷ [])) (decimalIn (c ∷ []))
+first-counts c (d ∷ cs) e h =
+    let no-zero : not (eqb c 0x30) ≡ true = rw (ne-eqb (suc (suc (length cs))) 1 (λ z. omega arith)) at h in
+    let v = first-value c (and-left (isDigit 10 c) (spells 10 (d ∷ cs)) e) (eqb-false c 0x30 (not-true (eqb c 0x30) no-zero)) in
+    let one : 10 ^ 0 ≤ thenDigit 10 0 c = omega arith in
+    let z : 0 + length (d ∷ cs) ≡ length (d ∷ cs) = omega arith in
+    let all-digits = rw z at (fold-least (d ∷ cs) (thenDigit 10 0 c) 0 one) in
+    within-least (decimalIn (c ∷ d ∷ cs)) (decimalIn (c ∷ d ∷ cs)) (length (d ∷ cs)) (omega arith) all-digits
+
+-- plain decimal read and written again is the same
+pub decimal-written : (cs : List ℕ) → plainDecimal cs ≡ true → decimal (decimalIn cs) ≡ cs
+unfolding decimal
+decimal-written [] h = absurd (false≢true h)
+decimal-written (c ∷ cs) h =
+    let shaped = and-left (leb 1 (length (c ∷ cs)) && spells 10 (c ∷ cs)) (eqb (length (c ∷ cs)) 1 || not (eqb c 0x30)) h in
+    let spelt = and-right (leb 1 (length (c ∷ cs))) (spells 10 (c ∷ cs)) shaped in
+    let first = and-right (leb 1 (length (c ∷ cs)) && spells 10 (c ∷ cs)) (eqb (length (c ∷ cs)) 1 || not (eqb c 0x30)) h in
+    let least = first-counts c cs spelt first in
+    let most = decimal-most (decimalIn (c ∷ cs)) (length cs) (number-below 10 (c ∷ cs) spelt) in
+    let same : decimalLength (decimalIn (c ∷ cs)) ≡ length (c ∷ cs) = omega arith in
+    ap (λ (n : ℕ). digits 10 n (decimalIn (c ∷ cs))) same ∙ digits-number 10 (lit< tt) (omega arith) (c ∷ cs) spelt

@@ -1,0 +1,153 @@
+-- How the lines of some bytes are cut: where the first feed stands, as a loop finds it; the first line and the others; one line after the other, by
+-- places; and that the lines put back are the bytes.
+--     lines-bytes            the lines of some bytes put back are the bytes
+--     lines-cut              a line with its feed in front of some bytes is cut off as it was
+--     lines-next, lines-done the lines from a place on, and that there are none past the end
+--     lines-fed, lines-open  the same by where the first line ends
+-- Assumes nothing.
+use Prim.Native.Nat.{ℕ, suc, _+_, _-_, _<_, _≤_}
+use mathlib.Core.Path.{_≡_, refl, sym, ap, _∙_}
+use mathlib.Core.Bool.{Bool, true, false}
+use mathlib.Core.List.{List, [], _∷_, _++_}
+use native.Mathlib.Omega.{arith}
+use native.Mathlib.Numerals.{add-one}
+use borrow.Author.Tests.{eqb-true, eq-eqb, ne-eqb, lt-ltb, le-ltb, ltb-false, not-true}
+use lib.Dec.{eqb, ltb, leb·suc-suc}
+use lib.ListN.{length, take, drop, getD, length-drop, drop-of-length-le}
+use lib.Seq.{drop-cons, drop-drop, take-all, length-take-le}
+use Rattle.lists.specs.Choice.{if_then_else_}
+use Rattle.lists.specs.Fold.{all}
+use Rattle.lists.specs.ChoiceLaws.{and-left, and-right}
+use Rattle.text.specs.Lines.{lineFeed, Line, longer, linesOf, feedAt, notFeed, width, firstLine, linesBytes}
+
+pub feed-within : (s : List ℕ) → feedAt s ≤ length s
+unfolding feedAt
+feed-within [] = omega arith
+feed-within (c ∷ s) = by-test (eqb c lineFeed) (feed-within s)
+  where
+    by-test : (t : Bool) → feedAt s ≤ length s → (if t then 0 else suc (feedAt s)) ≤ suc (length s)
+    by-test true h = omega arith
+    by-test false h = omega arith
+
+pub feed-here : (s : List ℕ) (i : ℕ) → i < length s → getD s i 0 ≡ lineFeed → i + feedAt (drop i s) ≡ i
+unfolding feedAt
+feed-here s i h e = rw (drop-cons s i 0 h, eq-eqb (getD s i 0) lineFeed e) (omega arith)
+
+pub feed-on : (s : List ℕ) (i : ℕ) → i < length s → (getD s i 0 ≡ lineFeed → ⊥) → i + feedAt (drop i s) ≡ i + 1 + feedAt (drop (i + 1) s)
+unfolding feedAt
+feed-on s i h e = rw (drop-cons s i 0 h, ne-eqb (getD s i 0) lineFeed e, add-one i) (omega arith)
+
+pub feed-end : (s : List ℕ) (i : ℕ) → length s ≤ i → i + feedAt (drop i s) ≡ i
+unfolding feedAt
+feed-end s i h = rw (drop-of-length-le s h) (omega arith)
+
+-- the first line, and those of what follows its feed
+pub lines-first : (c : ℕ) (s : List ℕ) → linesOf (c ∷ s) ≡ firstLine (c ∷ s) ∷ linesOf (drop (feedAt (c ∷ s) + 1) (c ∷ s))
+unfolding linesOf feedAt
+lines-first c [] = by-test (eqb c lineFeed)
+  where
+    by-test : (t : Bool)
+        → (if t then record { chars = []; fed = true } ∷ [] else longer c [])
+        ≡ (record { chars = take (if t then 0 else 1) (c ∷ []); fed = ltb (if t then 0 else 1) 1 }
+        ∷ linesOf (drop ((if t then 0 else 1) + 1) (c ∷ [])))
+    by-test true = refl
+    by-test false = refl
+lines-first c (d ∷ s) = by-test (eqb c lineFeed) (lines-first d s)
+  where
+    by-test : (t : Bool) → linesOf (d ∷ s) ≡ (firstLine (d ∷ s) ∷ linesOf (drop (feedAt (d ∷ s) + 1) (d ∷ s)))
+        → (if t then record { chars = []; fed = true } ∷ linesOf (d ∷ s) else longer c (linesOf (d ∷ s)))
+        ≡ (record {
+          chars = take (if t then 0 else suc (feedAt (d ∷ s))) (c ∷ d ∷ s);
+          fed = ltb (if t then 0 else suc (feedAt (d ∷ s))) (suc (suc (length s)));
+        } ∷ linesOf (drop ((if t then 0 else suc (feedAt (d ∷ s))) + 1) (c ∷ d ∷ s)))
+    by-test true i = let h : 0 < suc (suc (length s)) = omega arith in rw (lt-ltb 0 (suc (suc (length s))) h)
+    by-test false i =
+        let n = feedAt (d ∷ s) in
+        let k : suc n + 1 ≡ suc (n + 1) = omega arith in
+        rw (i, k, leb·suc-suc (suc n) (suc (length s)))
+
+longer-bytes : (c : ℕ) (ls : List Line) → linesBytes (longer c ls) ≡ c ∷ linesBytes ls
+unfolding linesBytes
+longer-bytes c [] = refl
+longer-bytes c (l ∷ ls) = by-test (l .fed)
+  where
+    by-test : (t : Bool) → (if t then (c ∷ l .chars) ++ (lineFeed ∷ []) else (c ∷ l .chars)) ++ linesBytes ls
+        ≡ c ∷ ((if t then l .chars ++ (lineFeed ∷ []) else l .chars) ++ linesBytes ls)
+    by-test true = refl
+    by-test false = refl
+
+pub lines-bytes : (s : List ℕ) → linesBytes (linesOf s) ≡ s
+unfolding linesBytes linesOf
+lines-bytes [] = refl
+lines-bytes (c ∷ s) = by-test (eqb c lineFeed) refl (lines-bytes s)
+  where
+    by-test : (t : Bool) → eqb c lineFeed ≡ t → linesBytes (linesOf s) ≡ s
+        → linesBytes (if t then record { chars = []; fed = true } ∷ linesOf s else longer c (linesOf s)) ≡ c ∷ s
+    by-test true e i = let f = eqb-true c lineFeed e in rw (i, f)
+    by-test false e i = longer-bytes c (linesOf s) ∙ ap (λ (t : List ℕ). c ∷ t) i
+
+-- a line of characters that are no feed, with its feed, is cut off as it was
+pub lines-cut : (cs s : List ℕ) → all notFeed cs ≡ true
+    → linesOf (cs ++ (lineFeed ∷ []) ++ s) ≡ record { chars = cs; fed = true } ∷ linesOf s
+unfolding linesOf all
+lines-cut [] s h = refl
+lines-cut (c ∷ cs) s h = let e = not-true (eqb c lineFeed) (and-left (notFeed c) (all notFeed cs) h) in rw (e, lines-cut cs s (and-right (notFeed c) (all notFeed cs) h))
+
+-- ## One line after the other, by places
+
+-- the first line and those behind it
+lines-split : (t : List ℕ) → 0 < length t → linesOf t ≡ firstLine t ∷ linesOf (drop (width (firstLine t)) t)
+lines-split [] h = absurd (omega arith)
+lines-split (c ∷ r) h =
+    let t = c ∷ r in
+    lines-first c r ∙ ap (λ (m : List ℕ). firstLine t ∷ linesOf m) (past-first t (ltb (feedAt t) (length t)) refl)
+  where
+    past-first : (t : List ℕ) (u : Bool) → ltb (feedAt t) (length t) ≡ u
+        → drop (feedAt t + 1) t ≡ drop (if u then length (take (feedAt t) t) + 1 else length (take (feedAt t) t)) t
+    past-first t true e = rw (length-take-le (feedAt t) t (feed-within t))
+    past-first t false e =
+        let k : length t ≤ feedAt t = ltb-false (feedAt t) (length t) e in
+        let m : length t ≤ feedAt t + 1 = omega arith in
+        rw (length-take-le (feedAt t) t (feed-within t)) (drop-of-length-le t m ∙ sym (drop-of-length-le t k))
+
+module _ (s : List ℕ) (at : ℕ) where
+  pub lines-done : length s ≤ at → linesOf (drop at s) ≡ []
+  unfolding linesOf
+  lines-done h = rw (drop-of-length-le s h)
+
+  pub lines-next : at < length s → linesOf (drop at s) ≡ firstLine (drop at s) ∷ linesOf (drop (at + width (firstLine (drop at s))) s)
+  lines-next h =
+      let k : 0 < length (drop at s) = rw (length-drop at s) (omega arith) in
+      lines-split (drop at s) k
+      ∙ ap (λ (m : List ℕ). firstLine (drop at s) ∷ linesOf m) (drop-drop (width (firstLine (drop at s))) at s)
+
+-- the lines from a place on, by where the first ends
+module _ (s : List ℕ) (at e : ℕ) (before : at < length s) (ends : at + feedAt (drop at s) ≡ e) where
+  first-length : feedAt (drop at s) ≡ e - at
+  first-length = omega arith
+
+  pub first-size : length (take (e - at) (drop at s)) ≡ e - at
+  first-size = let w = feed-within (drop at s) in let l = first-length in length-take-le (e - at) (drop at s) (omega arith)
+
+  pub lines-fed : e < length s → linesOf (drop at s) ≡ record { chars = take (e - at) (drop at s); fed = true } ∷ linesOf (drop (e + 1) s)
+  lines-fed h =
+      let t = drop at s in
+      let d = length-drop at s in
+      let k : e - at < length t = omega arith in
+      let z = first-size in
+      let n : at + (length (take (e - at) t) + 1) ≡ e + 1 = omega arith in
+      let f : firstLine t ≡ record { chars = take (e - at) t; fed = true } = rw (first-length, lt-ltb (e - at) (length t) k) in
+      lines-next s at before ∙ ap (λ (l : Line). l ∷ linesOf (drop (at + width l) s)) f
+      ∙ ap (λ (k : ℕ). record { chars = take (e - at) t; fed = true } ∷ linesOf (drop k s)) n
+
+  pub lines-open : length s ≤ e → linesOf (drop at s) ≡ record { chars = drop at s; fed = false } ∷ []
+  unfolding linesOf
+  lines-open h =
+      let t = drop at s in
+      let d = length-drop at s in
+      let w = feed-within t in
+      let k : length t ≤ e - at = omega arith in
+      let f : firstLine t ≡ record { chars = t; fed = false } = rw (first-length, le-ltb (e - at) (length t) k, take-all (e - at) t k) in
+      let n : length s ≤ at + length t = omega arith in
+      lines-next s at before ∙ ap (λ (l : Line). l ∷ linesOf (drop (at + width l) s)) f
+      ∙ ap (λ (m : List ℕ). record { chars = t; fed = false } ∷ linesOf m) (drop-of-length-le s n)

@@ -1,0 +1,84 @@
+-- A number along a loop that reads one digit a turn and stops at a character that is no digit or past a bound, and what a reader answers where the
+-- digits are known.
+-- Assumes nothing.
+use Prim.Native.Nat.{ℕ, zero, suc, _+_, _-_, _*_, _/_, _^_, _<_, _≤_}
+use mathlib.Core.Path.{_≡_, refl, sym, ap, _∙_}
+use mathlib.Core.Bool.{Bool, true, false, _&&_, and-false}
+use mathlib.Core.List.{List, [], _∷_}
+use native.Mathlib.Omega.{arith}
+use native.Mathlib.Nat.{mul-comm, mul-le-mul-right, one-mul, le-div-iff-mul-le, div-lt-iff-lt-mul, pow-le-pow-right}
+use borrow.Author.Tests.{le-leb, lt-leb, lt-ltb, le-ltb, eq-eqb}
+use lib.Dec.{eqb, leb, ltb, lit<}
+use lib.ListN.{length, take, drop, getD, take-append-drop}
+use Rattle.lists.specs.Choice.{if_then_else_}
+use Rattle.lists.specs.Fold.{fold, all}
+use Rattle.lists.specs.FoldLaws.{fold-append, all-from}
+use Rattle.text.specs.Digits.{valueOf, isDigit, spells, thenDigit, numberIn}
+use Rattle.text.specs.DigitsLaws.{number-next, number-below}
+use Rattle.text.specs.Numbers.{noNumber, numberRead, greatest, fixedRead}
+
+-- ## Along the loop
+
+-- digits behind a number make it no smaller
+fold-grows : (base : ℕ) → 0 < base → (cs : List ℕ) (x : ℕ) → x ≤ fold (thenDigit base) x cs
+unfolding fold
+fold-grows base some [] x = omega arith
+fold-grows base some (c ∷ cs) x =
+    let i = fold-grows base some cs (thenDigit base x c) in
+    let m : 1 * x ≤ base * x = mul-le-mul-right x some in
+    let o = one-mul x in
+    omega arith
+
+pub number-grows : (base : ℕ) → 0 < base → (cs : List ℕ) (i : ℕ) → numberIn base (take i cs) ≤ numberIn base cs
+unfolding numberIn
+number-grows base some cs i =
+    let e : fold (thenDigit base) 0 cs ≡ fold (thenDigit base) (fold (thenDigit base) 0 (take i cs)) (drop i cs) =
+    ap (fold (thenDigit base) 0) (sym (take-append-drop i cs)) ∙ fold-append (thenDigit base) 0 (take i cs) (drop i cs) in
+    rw e (fold-grows base some (drop i cs) (fold (thenDigit base) 0 (take i cs)))
+
+-- a digit more keeps the bound just where the number before it is at most what the bound leaves
+pub digit-fits : (base x d bound : ℕ) → 0 < base → d ≤ bound → x ≤ (bound - d) / base → base * x + d ≤ bound
+digit-fits base x d bound some small h =
+    let m : x * base ≤ bound - d = le-div-iff-mul-le some .0 h in
+    let c = mul-comm x base in
+    omega arith
+
+pub digit-exceeds : (base x d bound : ℕ) → 0 < base → d ≤ bound → (bound - d) / base < x → bound < base * x + d
+digit-exceeds base x d bound some small h =
+    let m : bound - d < x * base = div-lt-iff-lt-mul some .0 h in
+    let c = mul-comm x base in
+    omega arith
+
+-- one turn: the character at i is no digit, or a digit, or takes the number past the bound
+module _ (base bound : ℕ) (cs : List ℕ) (i : ℕ) (within : i < length cs) where
+  pub turn-other : base ≤ valueOf (getD cs i 0) → spells base (drop i cs) ≡ false
+  turn-other h = rw (all-from (isDigit base) cs 0 i within, le-ltb (valueOf (getD cs i 0)) base h)
+
+  pub turn-digit : valueOf (getD cs i 0) < base → spells base (drop i cs) ≡ spells base (drop (i + 1) cs)
+  turn-digit h = rw (all-from (isDigit base) cs 0 i within, lt-ltb (valueOf (getD cs i 0)) base h)
+
+  pub turn-past : 0 < base → bound < base * numberIn base (take i cs) + valueOf (getD cs i 0) → bound < numberIn base cs
+  turn-past some h =
+      let e = number-next base cs i within in
+      let g = number-grows base some cs (i + 1) in
+      omega arith
+
+-- ## What a reader answers
+
+module _ (base bound : ℕ) (cs : List ℕ) where
+  pub read-number : spells base cs ≡ true → numberIn base cs ≤ bound → record { valid = true; number = numberIn base cs } ≡ numberRead base bound cs
+  read-number s h = rw (s, le-leb (numberIn base cs) bound h)
+
+  pub read-other : spells base cs ≡ false → noNumber ≡ numberRead base bound cs
+  read-other s = rw s
+
+  pub read-past : bound < numberIn base cs → noNumber ≡ numberRead base bound cs
+  read-past h = rw (lt-leb (numberIn base cs) bound h, and-false (spells base cs))
+
+-- few hexadecimal digits are always a number
+pub fixed-hex : (n : ℕ) (cs : List ℕ) → length cs ≡ n → n ≤ 16 → spells 16 cs ≡ true → fixedRead 16 n cs ≡ record { valid = true; number = numberIn 16 cs }
+fixed-hex n cs l few s =
+    let below = number-below 16 cs s in
+    let power : 16 ^ length cs ≤ 16 ^ 16 = let k : length cs ≤ 16 = rw l few in pow-le-pow-right {n = 16} (lit< tt) k in
+    let b : numberIn 16 cs ≤ greatest = omega arith in
+    rw (eq-eqb (length cs) n l) (sym (read-number 16 greatest cs s b))

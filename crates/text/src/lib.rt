@@ -1,0 +1,22 @@
+// Text: numbers as digits, and lines.
+mod lines;
+mod numbers;
+
+pub use lines::line_end;
+pub use numbers::all_digits;
+pub use numbers::decimal_length;
+pub use numbers::digit;
+pub use numbers::read_decimal;
+pub use numbers::read_fixed;
+pub use numbers::read_number;
+pub use numbers::value;
+
+// The character that ends a line.
+pub const LINE_FEED: u8 = 0x0A;
+
+// A number that was read, or that there is none.
+pub struct NumberRead {
+    pub valid: bool,
+    // 0 where there is none
+    pub number: u64,
+}
