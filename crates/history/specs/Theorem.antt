@@ -16,9 +16,9 @@ use Rattle.bits.specs.Bits.{bitsOf, numberOf}
 use Rattle.bits.specs.BitsLaws.{bits-length}
 use Rattle.commands.specs.Commands.{searchRom, alarmSearch}
 use Rattle.frame.specs.Frames.{blankFrame, noBits}
-use Rattle.frame.specs.Hex.{digits, hexOf}
+use Rattle.text.specs.Digits.{digits, hexOf}
 use Rattle.frame.specs.Recording.{writeAll}
-use Rattle.frame.specs.Writing.{lineOf}
+use Rattle.frame.specs.Writing.{charactersOf}
 use Rattle.rom.specs.Code.{codeBits}
 use Rattle.lists.specs.Each.{Each, those}
 use Rattle.search_law.specs.Complete.{Complete}
@@ -54,7 +54,7 @@ use Rattle.history.specs.Reached.{PagesAre, reached-after}
 -- ## Nobody on the bench
 
 lonely-bytes : length (writeAll (blankFrame false ∷ [])) ≡ 7
-unfolding writeAll lineOf noBits digits hexOf
+unfolding writeAll charactersOf noBits digits hexOf
 lonely-bytes = refl
 
 lonely : (b : Bench) → Free b → presenceOf b ≡ false → Lonely b (lonelyOutcome (resetDone b .bench))

@@ -24,10 +24,10 @@ use Rattle.refusals.specs.Refusals.{accepted}
 use Rattle.frame.specs.Frames.{blankFrame, lineable}
 use Rattle.frame.specs.FramesLaws.{recorded-all, blank-held, blank-lineable}
 use Rattle.frame.specs.Recording.{writeAll}
-use Rattle.frame.specs.Writing.{fedLine, writeAnswer, writeLeaves}
+use Rattle.frame.specs.Writing.{fedLine, lineWriteAnswer, lineWriteLeaves}
 use Rattle.frame.specs.WritingLaws.{fed-length, write-done}
 use Rattle.frame.specs.declared.Frame.{Frame}
-use Rattle.frame.specs.declared.Written.{Written}
+use Rattle.laying.specs.declared.Written.{Written}
 use Rattle.search_law.specs.Issued.{slots-length}
 use Rattle.search_law.specs.Pass.{triple, choice}
 use Rattle.search_law.specs.PassLaws.{on-some}
@@ -168,9 +168,9 @@ next-frame command s b =
 
 -- a frame that has room is written
 pub frame-written : (recording : List ℕ) (at : ℕ) (f : Frame) → lineable f ≡ true → length (fedLine f) ≤ mostPassBytes → at + mostPassBytes ≤ length recording
-    → (writeAnswer recording at f .next ≡ at + length (fedLine f)) × (writeLeaves recording at f ≡ laid recording at (fedLine f))
+    → (lineWriteAnswer recording at f .next ≡ at + length (fedLine f)) × (lineWriteLeaves recording at f ≡ laid recording at (fedLine f))
 frame-written recording at f p b h =
-    let r = write-done recording at f (length (fedLine f)) p refl (omega arith) in
+    let r = write-done recording at f p (length (fedLine f)) refl (omega arith) in
     (ap (λ (w : Written). w .next) (sym (r .0)), sym (r .1))
 
 -- ## One frame more
