@@ -1,1 +1,2 @@
-pub mod SearchNames
+pub mod Names
+pub mod Laws
