@@ -7,24 +7,18 @@
 --     Complete ..                all that is claimed of a search
 -- Assumes nothing.
 use mathlib.Core.Path.{_≡_}
-use mathlib.Core.Bool.{Bool, true, false, not}
+use mathlib.Core.Bool.{Bool, true}
 use mathlib.Core.List.{List, _++_, List·Permᴰ}
 use Prim.Native.Nat.{ℕ, _+_, _*_}
 use lib.ListN.{length}
 use Rattle.search_law.specs.Codes.{Code, Before}
 use Rattle.lists.specs.Each.{Each, Pairs, Along}
-use Rattle.search_law.specs.Pass.{Triple, found}
+use Rattle.search_law.specs.Pass.{Triple, readAs, mayBeSent, found}
 use Rattle.search_law.specs.Wire.{Bus, ran, Search, searched, passes}
 use Rattle.search_law.specs.OnTheWire.{shown}
 
 abbrev pub allowed : Triple → Bool
-allowed t = allowedBits (t .bit) (t .coBit) (t .sent)
-  where
-    allowedBits : Bool → Bool → Bool → Bool
-    allowedBits false false d = true
-    allowedBits false true d = not d
-    allowedBits true false d = d
-    allowedBits true true d = false
+allowed t = mayBeSent (readAs (t .bit) (t .coBit)) (t .sent)
 
 pub record PassShown (command : List Bool) (c : Code) (l : List Bool) : Type 0 where
   pub triples : List Triple

@@ -23,6 +23,7 @@ use Rattle.naming.specs.declared.Name.the-variants.{Search, Alarm}
 use Rattle.naming.specs.Naming.{named, tripleAllowed, triplesAllowed, thirds, readNamed, lineNamed}
 use Rattle.naming.specs.Passes.{lists, Listing, search-named, alarm-named, nobody-named, empty-named}
 use Rattle.search_law.specs.Codes.{Code}
+use Rattle.lists.specs.ChoiceLaws.{beq-true, beq-false}
 use Rattle.lists.specs.Each.{Each, Along}
 use Rattle.search_law.specs.Complete.{allowed, PassShown, Complete}
 use Rattle.lists.specs.EachLaws.{each-perm, perm-length}
@@ -71,8 +72,8 @@ shown-thirds (t ∷ ts) = let i = shown-thirds ts in rw i
 
 same-triples : (a b c : Bool) → allowed (triple a b c) ≡ true → tripleAllowed a b c ≡ true
 same-triples false false c h = refl
-same-triples false true c h = h
-same-triples true false c h = h
+same-triples false true c h = sym (beq-false c) ∙ h
+same-triples true false c h = sym (beq-true c) ∙ h
 same-triples true true c h = h
 
 shown-allowed : (ts : List Triple) → Each (λ t. allowed t ≡ true) ts → triplesAllowed (shown ts) ≡ true

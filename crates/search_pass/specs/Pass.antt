@@ -19,7 +19,7 @@ use Rattle.bits.specs.Bits.{odd, bitNumber, bitsOf}
 use Rattle.frame.specs.Frames.{blankFrame, pushed, pushedAll}
 use Rattle.frame.specs.declared.Frame.{Frame}
 use Rattle.search_law.specs.Departure.{takes}
-use Rattle.search_law.specs.Pass.{triple, choice, onSome}
+use Rattle.search_law.specs.Pass.{triple, tookZero, choice, onSome}
 use Rattle.search_law.specs.PassLaws.{on-some, on-both}
 use Rattle.search_law.specs.PassLoop.{Walk as PassWalk, walk, walkOn, walkEnds, onward, bit-step, steps, steps-turn, steps-end, steps-over}
 use Rattle.search_law.specs.Wire.{slots}
@@ -83,6 +83,13 @@ choice-none true false w e = absurd (false≢true e)
 choice-none false true w e = absurd (false≢true e)
 choice-none false false w e = absurd (false≢true e)
 
+-- the place is kept where 0 was sent at a conflict
+last-kept : (a b d : Bool) (j last : ℕ) → (if tookZero (triple a b d) then j else last) ≡ lastAfter a b d j last
+last-kept false false d j last = refl
+last-kept false true d j last = refl
+last-kept true false d j last = refl
+last-kept true true d j last = refl
+
 -- the slots of the command, as a loop of halvings makes them
 pub command-turn : (n i x : ℕ) (f : Frame) (b : Bench) → i < n
     → commandSent (n - i) x f b ≡ commandSent (n - (i + 1)) (x / 2) (oneSlot f b (odd x) .frame) (oneSlot f b (odd x) .bench)
@@ -111,7 +118,7 @@ place-walk prev D j v =
     on-both (λ (w : Walk) (u : PassWalk Bench). w ≡ walkOf u) (choice a b (takes prev D j))
     _ _ (walkEnds v (a ∷ b ∷ []) twice) (λ d. walkOn j v (triple a b d) (slotted twice d .line) (slotted twice d .bench))
     (rw (fold-append pushed (blankFrame true) (v .lines) (a ∷ b ∷ [])))
-    (λ d. rw (fold-append pushed (blankFrame true) (v .lines) (a ∷ b ∷ slotted twice d .line ∷ [])))
+    (λ d. rw (last-kept a b d j (v .last), fold-append pushed (blankFrame true) (v .lines) (a ∷ b ∷ slotted twice d .line ∷ [])))
 
 -- ## The walk along the places
 
