@@ -5,17 +5,16 @@
 --     holdsWire d         a busy device that is powered from the data wire: no slot can pass
 --     free b              whether no device holds the wire
 use Prim.Native.Nat.{ℕ}
-use mathlib.Core.Bool.{Bool, true, false, not, _&&_}
+use mathlib.Core.Bool.{Bool, not, _&&_}
 use mathlib.Core.List.{List}
 use lib.Dec.{eqb}
 use lib.ListN.{take, replicate}
 use Rattle.lists.specs.First.{firstWith}
 use Rattle.lists.specs.Fold.{all}
 use Rattle.device.specs.Power.{joined}
-use Rattle.device.specs.Record.{busy}
+use Rattle.device.specs.Record.{fromLine, busy}
 use Rattle.device.specs.declared.Device.{Device}
-use Rattle.device.specs.declared.Power.{Power}
-use Rattle.device.specs.declared.Power.the-variants.{Line, External}
+use Rattle.device.specs.declared.Power.the-variants.{External}
 use Rattle.bench.specs.declared.Bench.{Bench}
 use Rattle.bench.specs.declared.Place.{Place}
 use Rattle.bench.specs.declared.Place.the-variants.{At, Nowhere}
@@ -32,10 +31,6 @@ emptyBench = record { devices = replicate 32 vacant; count = 0 }
 
 unfoldable pub placeOf : Bench → ℕ → Place
 placeOf b code = firstWith (λ d. eqb (d .code) code) At Nowhere 0 (live b)
-
-abbrev pub fromLine : Power → Bool
-fromLine Line = true
-fromLine External = false
 
 abbrev pub holdsWire : Device → Bool
 holdsWire d = fromLine (d .power) && busy d

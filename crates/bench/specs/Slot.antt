@@ -1,5 +1,5 @@
 -- Resets and slots (the scope, "One slot"). Both are refused with 10 while a line-powered device is busy, and then nothing changes.
---     lineOf b m      what the line shows: the AND of the master's bit and every live device's offer
+--     lineBit b m      what the line shows: the AND of the master's bit and every live device's offer
 --     heard b l       every live device after a slot in which the line showed l
 --     slotted b m     one slot: the line's bit, and the bench after it; on the empty bench the line is the master's bit
 --     resetDone b     a reset: every live device listens for a ROM command; presence is shown if there is any device
@@ -22,8 +22,8 @@ use Rattle.bench.specs.Bench.{live, free}
 abbrev pub eachLive : (Device → Device) → Bench → Bench
 eachLive f b = record { devices = mapFront f (b .count) (b .devices); count = b .count }
 
-unfoldable pub lineOf : Bench → Bool → Bool
-lineOf b m = m && all offerOf (live b)
+unfoldable pub lineBit : Bench → Bool → Bool
+lineBit b m = m && all offerOf (live b)
 
 unfoldable pub heard : Bench → Bool → Bench
 heard b l = eachLive (λ d. hearOf d l) b
@@ -31,7 +31,7 @@ heard b l = eachLive (λ d. hearOf d l) b
 unfoldable pub slotted : Bench → Bool → Slotted
 slotted b m =
     if free b
-    then record { refusal = accepted; line = lineOf b m; bench = heard b (lineOf b m) }
+    then record { refusal = accepted; line = lineBit b m; bench = heard b (lineBit b m) }
     else record { refusal = wireBusy; line = false; bench = b }
 
 abbrev pub presenceOf : Bench → Bool

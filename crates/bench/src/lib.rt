@@ -4,7 +4,7 @@ ghost use Prim.Native.Nat.{ℕ, _<_};
 ghost use mathlib.Core.Bool.{_&&_};
 ghost use mathlib.Core.Path.{_≡_};
 ghost use Rattle.bench.specs.Bench.{vacant, emptyBench, placeOf, holdsWire, free};
-ghost use Rattle.bench.specs.Slot.{lineOf, heard, slotted, restarted, resetDone};
+ghost use Rattle.bench.specs.Slot.{lineBit, heard, slotted, restarted, resetDone};
 ghost use Rattle.refusals.specs.Refusals.{mismatch};
 ghost use Rattle.device.specs.Power.{powerUp};
 ghost use Rattle.bench.specs.Calls.{refused, changed, putLast, addedTo, deviceAt, withDevice, endConversion, conversionFinished, endCopy, copyFinished, powerCycled, looked};
@@ -56,7 +56,7 @@ pub struct Slotted {
 fn vacant_place() -> Device
     ensures answer { λ r. ⌜ r ≡ vacant ⌝ }
 {
-    device::join(Joining {
+    device_power::join(Joining {
         code: 0,
         power: Power::External,
         high: 0,
@@ -77,7 +77,7 @@ pub fn new() -> Bench
 }
 
 // Where the first device with this code stands.
-pub fn find(bench: Bench, code: u64) -> Place
+fn find(bench: Bench, code: u64) -> Place
     ensures answer { λ r. ⌜ r ≡ placeOf bench code ⌝ }
 {
     let devices = bench.devices;
@@ -131,8 +131,8 @@ fn both(a: bool, b: bool) -> bool
 }
 
 // What the line shows when the master offers this bit.
-fn line_of(bench: Bench, bit: bool) -> bool
-    ensures answer { λ r. ⌜ r ≡ lineOf bench bit ⌝ }
+fn line_bit(bench: Bench, bit: bool) -> bool
+    ensures answer { λ r. ⌜ r ≡ lineBit bench bit ⌝ }
 {
     let devices = bench.devices;
     let count = bench.count as usize;
@@ -140,7 +140,7 @@ fn line_of(bench: Bench, bit: bool) -> bool
     let mut i: usize = 0;
     while i < 32 {
         if i < count {
-            line = both(line, device::offer(devices[i]));
+            line = both(line, device_offer::offer(devices[i]));
         }
         i += 1;
     }
@@ -157,7 +157,7 @@ fn hear_all(bench: Bench, line: bool) -> Bench
     while i < 32 {
         if i < count {
             let d = devices[i];
-            devices[i] = device::hear(d, line);
+            devices[i] = device_hear::hear(d, line);
         }
         i += 1;
     }
@@ -176,7 +176,7 @@ fn restart_all(bench: Bench) -> Bench
     while i < 32 {
         if i < count {
             let d = devices[i];
-            devices[i] = device::reset(d);
+            devices[i] = device_power::reset(d);
         }
         i += 1;
     }
@@ -191,7 +191,7 @@ pub fn slot(bench: Bench, bit: bool) -> Slotted
     ensures answer { λ r. ⌜ r ≡ slotted bench bit ⌝ }
 {
     if is_free(bench) {
-        let line = line_of(bench, bit);
+        let line = line_bit(bench, bit);
         let next = hear_all(bench, line);
         return Slotted {
             refusal: refusals::ACCEPTED,
@@ -239,7 +239,7 @@ pub fn add(bench: Bench, new: Joining) -> Changed
             refusal: refusals::DUPLICATE,
             bench,
         },
-        Place::Nowhere => put_last(bench, device::join(new)),
+        Place::Nowhere => put_last(bench, device_power::join(new)),
     }
 }
 
@@ -310,7 +310,7 @@ fn end_conversion(bench: Bench, place: usize, count: Sixteenths) -> Changed
         Activity::Idle => refuse_mismatch(bench),
         Activity::Converting => {
             if temperature::in_range(Reading::InSixteenths(count)) {
-                let next = with_device(bench, place, device::finish_conversion(d, count));
+                let next = with_device(bench, place, device_power::finish_conversion(d, count));
                 return Changed {
                     refusal: refusals::ACCEPTED,
                     bench: next,
@@ -358,7 +358,7 @@ fn end_copy(bench: Bench, place: usize) -> Changed
         Activity::Idle => refuse_mismatch(bench),
         Activity::Converting => refuse_mismatch(bench),
         Activity::Copying(latched) => {
-            let next = with_device(bench, place, device::finish_copy(d, latched));
+            let next = with_device(bench, place, device_power::finish_copy(d, latched));
             Changed {
                 refusal: refusals::ACCEPTED,
                 bench: next,
@@ -388,7 +388,7 @@ fn cycle_at(bench: Bench, place: usize) -> Changed
     let d = device_at(bench, place);
     Changed {
         refusal: refusals::ACCEPTED,
-        bench: with_device(bench, place, device::power_cycle(d)),
+        bench: with_device(bench, place, device_power::power_cycle(d)),
     }
 }
 

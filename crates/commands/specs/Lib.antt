@@ -1,1 +1,3 @@
 pub mod Commands
+pub mod Bytes
+pub mod BytesLaws

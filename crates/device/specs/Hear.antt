@@ -1,20 +1,24 @@
 -- What a device becomes when the line has shown a bit (the scope, "One slot"). It takes the line's bit, whatever the master offered; a stage that
 -- only sends does not look at it. A place that no sequence of slots reaches goes quiet.
---     shiftIn s l                the shift register of a command or a byte with the line's bit in: first bit lowest
+--     afterBit at i              the stage after bit i of the code: at the next one, or after the last awaiting a function command
 --     romCommand alarm c         the stage after ROM command c; a device without the alarm flag is quiet at an alarm search
+--     copying d, recalled d      the device after 48h and after B8h, but for its stage
 --     functionCommand d c        the device after function command c
 --     storeSetting d k b         the device with byte b stored as its setting k, and what follows
+--     hearRom, hearFunction, hearSettings d taken
+--                                the device that awaits a ROM command, a function command or a byte of 4Eh, by what it holds of the byte
 --     hearOf d l                 the device after a slot in which the line showed l
-use Prim.Native.Nat.{ℕ, _+_, _/_}
+use Prim.Native.Nat.{ℕ, _+_}
 use mathlib.Core.Bool.{Bool, not, Bool·beq, _&&_}
 use lib.Dec.{ltb, eqb}
 use lib.ListN.{set}
 use Rattle.lists.specs.Choice.{if_then_else_}
 use Rattle.bits.specs.Bits.{bitAt}
+use Rattle.commands.specs.Bytes.{shifted}
 use Rattle.commands.specs.Commands.{readRom, matchRom, skipRom, searchRom, alarmSearch, convert, writeScratchpad, readScratchpad, copyScratchpad, recallEeprom, readPower}
-use Rattle.family.specs.Configuration.{storedForm}
 use Rattle.family.specs.Layout.{highLimitPlace}
-use Rattle.family.specs.declared.Properties.{Properties}
+use Rattle.commands.specs.declared.Shifted.{Shifted}
+use Rattle.commands.specs.declared.Shifted.the-variants.{Partial, Whole, Beyond}
 use Rattle.device.specs.declared.Activity.the-variants.{Converting, Copying}
 use Rattle.device.specs.declared.Device.{Device}
 use Rattle.device.specs.declared.Phase.{Phase}
@@ -22,12 +26,9 @@ use Rattle.device.specs.declared.Phase.the-variants.{SendBit, SendComple
 use Rattle.device.specs.declared.Stage.{Stage}
 use Rattle.device.specs.declared.Stage.the-variants.{AwaitRom, SendRom, Match, Search, AwaitFunction, TakeSettings, SendScratchpad, SendStatus, SendPower, Quiet}
 use Rattle.device.specs.Record.{withStage, withActivity, withScratchpad, rowOf, busy}
-use Rattle.device.specs.Settings.{settingsIn, withSettings}
+use Rattle.device.specs.Settings.{settingsIn, withSettings, settingsCount, settingByte}
 
--- ## Bits and codes
-
-abbrev pub shiftIn : ℕ → Bool → ℕ
-shiftIn s l = s / 2 + (if l then 128 else 0)
+-- ## Bits of the code and of the scratchpad
 
 abbrev pub awaitRom : Stage
 awaitRom = AwaitRom 0 0
@@ -73,21 +74,28 @@ romCommand alarm c =
     else Quiet
 
 -- a command is acted on at its eighth bit
-abbrev pub hearRom : Device → ℕ → ℕ → Bool → Device
-hearRom d s n l =
-    if ltb n 7 then withStage d (AwaitRom (shiftIn s l) (n + 1))
-    else if eqb n 7 then withStage d (romCommand (d .alarm) (shiftIn s l))
-    else withStage d Quiet
+abbrev pub hearRom : Device → Shifted → Device
+hearRom d (Partial s n) = withStage d (AwaitRom s n)
+hearRom d (Whole c) = withStage d (romCommand (d .alarm) c)
+hearRom d Beyond = withStage d Quiet
 
 -- ## Function commands
+
+-- 48h: the settings as they stand are on their way to EEPROM
+abbrev pub copying : Device → Device
+copying d = withActivity d (Copying (settingsIn (rowOf (d .code)) (d .scratchpad)))
+
+-- B8h: the settings of EEPROM are back in the scratchpad
+abbrev pub recalled : Device → Device
+recalled d = withScratchpad d (withSettings (rowOf (d .code)) (d .scratchpad) (d .eeprom))
 
 -- a device that is not busy obeys them all
 unfoldable pub idleCommand : Device → ℕ → Device
 idleCommand d c =
     if eqb c convert then withStage (withActivity d Converting) SendStatus
     else if eqb c writeScratchpad then withStage d (TakeSettings 0 0 0)
-    else if eqb c copyScratchpad then withStage (withActivity d (Copying (settingsIn (rowOf (d .code)) (d .scratchpad)))) SendStatus
-    else if eqb c recallEeprom then withStage (withScratchpad d (withSettings (rowOf (d .code)) (d .scratchpad) (d .eeprom))) Quiet
+    else if eqb c copyScratchpad then withStage (copying d) SendStatus
+    else if eqb c recallEeprom then withStage (recalled d) Quiet
     else withStage d Quiet
 
 -- a busy one obeys BEh and B4h, and is quiet at the rest
@@ -98,21 +106,12 @@ functionCommand d c =
     else if busy d then withStage d Quiet
     else idleCommand d c
 
-abbrev pub hearFunction : Device → ℕ → ℕ → Bool → Device
-hearFunction d s n l =
-    if ltb n 7 then withStage d (AwaitFunction (shiftIn s l) (n + 1))
-    else if eqb n 7 then functionCommand d (shiftIn s l)
-    else withStage d Quiet
+abbrev pub hearFunction : Device → Shifted → Device
+hearFunction d (Partial s n) = withStage d (AwaitFunction s n)
+hearFunction d (Whole c) = functionCommand d c
+hearFunction d Beyond = withStage d Quiet
 
 -- ## 4Eh: high limit, low limit and, where the family has one, configuration
-
--- how many bytes it takes
-abbrev pub settingsCount : Properties → ℕ
-settingsCount row = if row .configurable then 3 else 2
-
--- byte k as it is stored: the third is the configuration
-abbrev pub settingByte : Properties → ℕ → ℕ → ℕ
-settingByte row k b = if eqb k 2 then storedForm b (row .nibble) else b
 
 -- a whole byte is stored as its last bit arrives; after the last byte the device is quiet
 unfoldable pub storeSetting : Device → ℕ → ℕ → Device
@@ -122,21 +121,20 @@ storeSetting d k b =
     (if ltb (k + 1) (settingsCount (rowOf (d .code))) then TakeSettings (k + 1) 0 0 else Quiet)
     else withStage d Quiet
 
-abbrev pub hearSettings : Device → ℕ → ℕ → ℕ → Bool → Device
-hearSettings d k s n l =
-    if ltb n 7 then withStage d (TakeSettings k (shiftIn s l) (n + 1))
-    else if eqb n 7 then storeSetting d k (shiftIn s l)
-    else withStage d Quiet
+abbrev pub hearSettings : Device → ℕ → Shifted → Device
+hearSettings d k (Partial s n) = withStage d (TakeSettings k s n)
+hearSettings d k (Whole b) = storeSetting d k b
+hearSettings d k Beyond = withStage d Quiet
 
 -- ## The slot rule
 
 abbrev pub hearAt : Device → Bool → Stage → Device
-hearAt d l (AwaitRom s n) = hearRom d s n l
+hearAt d l (AwaitRom s n) = hearRom d (shifted s n l)
 hearAt d l (SendRom i) = withStage d (afterSendRom i)
 hearAt d l (Match i) = withStage d (afterMatch (d .code) i l)
 hearAt d l (Search i p) = withStage d (afterSearch (d .code) i p l)
-hearAt d l (AwaitFunction s n) = hearFunction d s n l
-hearAt d l (TakeSettings k s n) = hearSettings d k s n l
+hearAt d l (AwaitFunction s n) = hearFunction d (shifted s n l)
+hearAt d l (TakeSettings k s n) = hearSettings d k (shifted s n l)
 hearAt d l (SendScratchpad k j) = withStage d (afterScratchpad k j)
 hearAt d l SendStatus = d
 hearAt d l SendPower = d

@@ -1,13 +1,12 @@
 pub mod Record
 pub mod Settings
+pub mod SettingsLaws
 pub mod Offer
 pub mod OfferLaws
 pub mod Hear
-pub mod HearLaws
 pub mod Power
 pub mod Finish
 pub mod Outcomes
 pub mod Laws
 pub mod Sound
 pub mod SoundLaws
-pub mod Fits

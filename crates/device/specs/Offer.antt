@@ -5,21 +5,20 @@
 --     scratchpadSlot pad k j     bit j of byte k of the nine; 1 past their end
 --     offerOf d                  what the device offers
 use Prim.Native.Nat.{ℕ}
-use mathlib.Core.Bool.{Bool, true, false, not, _&&_}
+use mathlib.Core.Bool.{Bool, true, not}
 use mathlib.Core.List.{List, [], _∷_, _++_}
 use lib.Dec.{ltb}
-use lib.ListN.{getD}
 use Rattle.lists.specs.Choice.{if_then_else_}
 use Rattle.bits.specs.Bits.{bitAt}
+use Rattle.commands.specs.Bytes.{bytesSlot}
 use Rattle.crc.specs.Crc.{crcOf}
 use Rattle.device.specs.declared.Device.{Device}
 use Rattle.device.specs.declared.Phase.{Phase}
 use Rattle.device.specs.declared.Phase.the-variants.{SendBit, SendComplement, TakeBit}
 use Rattle.device.specs.declared.Power.{Power}
-use Rattle.device.specs.declared.Power.the-variants.{Line, External}
 use Rattle.device.specs.declared.Stage.{Stage}
 use Rattle.device.specs.declared.Stage.the-variants.{AwaitRom, SendRom, Match, Search, AwaitFunction, TakeSettings, SendScratchpad, SendStatus, SendPower, Quiet}
-use Rattle.device.specs.Record.{busy}
+use Rattle.device.specs.Record.{fromLine, busy}
 
 abbrev pub codeSlot : ℕ → ℕ → Bool
 codeSlot code i = if ltb i 64 then bitAt code i else true
@@ -32,13 +31,13 @@ searchSlot code i TakeBit = true
 abbrev pub nineBytes : List ℕ → List ℕ
 nineBytes pad = pad ++ (crcOf pad ∷ [])
 
+-- bit j of byte k of the nine; 1 past their end
 unfoldable pub scratchpadSlot : List ℕ → ℕ → ℕ → Bool
-scratchpadSlot pad k j = if ltb k 9 && ltb j 8 then bitAt (getD (nineBytes pad) k 0) j else true
+scratchpadSlot pad k j = bytesSlot (nineBytes pad) k j
 
 -- 0 from the data wire, 1 from a supply of its own
 abbrev pub powerSlot : Power → Bool
-powerSlot Line = false
-powerSlot External = true
+powerSlot power = not (fromLine power)
 
 abbrev pub offerAt : Device → Stage → Bool
 offerAt d (AwaitRom s n) = true

@@ -1,13 +1,16 @@
 -- The nine bytes that a device sends, by their places.
 -- Assumes nothing.
 use Prim.Native.Nat.{ℕ, _<_}
-use mathlib.Core.Path.{_≡_}
+use mathlib.Core.Path.{_≡_, _∙_}
 use native.Mathlib.Omega.{arith}
 use mathlib.Core.List.{List, [], _∷_}
-use lib.ListN.{length, getD, List·getD-append}
+use lib.ListN.{length, getD, length-append, List·getD-append}
 use lib.Seq.{getD-append-seam}
 use Rattle.crc.specs.Crc.{crcOf}
 use Rattle.device.specs.Offer.{nineBytes}
+
+pub nine-length : (pad : List ℕ) → length pad ≡ 8 → length (nineBytes pad) ≡ 9
+nine-length pad long = length-append pad (crcOf pad ∷ []) ∙ omega arith
 
 -- the nine by their places
 pub nine-byte : (pad : List ℕ) (k : ℕ) → length pad ≡ 8 → k < 8 → getD (nineBytes pad) k 0 ≡ getD pad k 0

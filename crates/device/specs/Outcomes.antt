@@ -6,10 +6,12 @@
 use Prim.Native.Nat.{ℕ, _+_, _<_}
 use mathlib.Core.Path.{_≡_, refl}
 use mathlib.Core.Bool.{Bool, true, false}
-use borrow.Author.Tests.{ltb-true, eqb-true}
+use borrow.Author.Tests.{ltb-true}
 use lib.Dec.{eqb, ltb}
 use lib.ListN.{set}
 use Rattle.lists.specs.Choice.{if_then_else_}
+use Rattle.commands.specs.Bytes.{shiftIn}
+use Rattle.commands.specs.BytesLaws.{shifted-cases}
 use Rattle.commands.specs.Commands.{convert, writeScratchpad, readScratchpad, copyScratchpad, recallEeprom, readPower}
 use Rattle.family.specs.Layout.{highLimitPlace}
 use Rattle.device.specs.declared.Activity.the-variants.{Converting, Copying}
@@ -17,18 +19,18 @@ use Rattle.device.specs.declared.Device.{Device}
 use Rattle.device.specs.declared.Stage.{Stage}
 use Rattle.device.specs.declared.Stage.the-variants.{AwaitRom, SendRom, Match, Search, AwaitFunction, TakeSettings, SendScratchpad, SendStatus, SendPower, Quiet}
 use Rattle.device.specs.Record.{withStage, withActivity, withScratchpad, rowOf, busy}
-use Rattle.device.specs.Settings.{settingsIn, withSettings}
-use Rattle.device.specs.Hear.{shiftIn, romCommand, idleCommand, functionCommand, settingsCount, settingByte, storeSetting, hearAt, hearOf}
+use Rattle.device.specs.Settings.{settingsIn, withSettings, settingsCount, settingByte}
+use Rattle.device.specs.Hear.{copying, recalled, hearRom, idleCommand, functionCommand, hearFunction, storeSetting, hearSettings, hearAt, hearOf}
 
 pub record Outcomes (d : Device) (l : Bool) (P : Device → Type 0) : Type 0 where
   -- only the stage
   pub moved : (s : Stage) → P (withStage d s)
   -- the last bit of 44h, 48h or B8h, of a device that is not busy
-  pub converting : (s : ℕ) → d .stage ≡ AwaitFunction s 7 → busy d ≡ false → P (withStage (withActivity d Converting) SendStatus)
-  pub copying : (s : ℕ) → d .stage ≡ AwaitFunction s 7 → busy d ≡ false → P (withStage (withActivity d (Copying (settingsIn (rowOf (d .code)) (d .scratchpad)))) SendStatus)
-  pub recalled : (s : ℕ) → d .stage ≡ AwaitFunction s 7 → busy d ≡ false → P (withStage (withScratchpad d (withSettings (rowOf (d .code)) (d .scratchpad) (d .eeprom))) Quiet)
+  pub converts : (s : ℕ) → d .stage ≡ AwaitFunction s 7 → busy d ≡ false → P (withStage (withActivity d Converting) SendStatus)
+  pub copies : (s : ℕ) → d .stage ≡ AwaitFunction s 7 → busy d ≡ false → P (withStage (copying d) SendStatus)
+  pub recalls : (s : ℕ) → d .stage ≡ AwaitFunction s 7 → busy d ≡ false → P (withStage (recalled d) Quiet)
   -- the last bit of a byte of 4Eh
-  pub written : (k s : ℕ) → d .stage ≡ TakeSettings k s 7 → k < settingsCount (rowOf (d .code)) → (next : Stage)
+  pub setting-stored : (k s : ℕ) → d .stage ≡ TakeSettings k s 7 → k < settingsCount (rowOf (d .code)) → (next : Stage)
       → P (withStage (withScratchpad d (set (d .scratchpad) (highLimitPlace + k) (settingByte (rowOf (d .code)) k (shiftIn s l)))) next)
 
 module _ (d : Device) (l : Bool) (P : Device → Type 0) (o : Outcomes d l P) where
@@ -39,13 +41,13 @@ module _ (d : Device) (l : Bool) (P : Device → Type 0) (o : Outcomes d l P) wh
       by-tests : (t u v w : Bool) → P
           (if t then withStage (withActivity d Converting) SendStatus
           else if u then withStage d (TakeSettings 0 0 0)
-          else if v then withStage (withActivity d (Copying (settingsIn (rowOf (d .code)) (d .scratchpad)))) SendStatus
-          else if w then withStage (withScratchpad d (withSettings (rowOf (d .code)) (d .scratchpad) (d .eeprom))) Quiet
+          else if v then withStage (copying d) SendStatus
+          else if w then withStage (recalled d) Quiet
           else withStage d Quiet)
-      by-tests true u v w = o .converting s e h
+      by-tests true u v w = o .converts s e h
       by-tests false true v w = o .moved _
-      by-tests false false true w = o .copying s e h
-      by-tests false false false true = o .recalled s e h
+      by-tests false false true w = o .copies s e h
+      by-tests false false false true = o .recalls s e h
       by-tests false false false false = o .moved _
 
   function-outcome : (c s : ℕ) → d .stage ≡ AwaitFunction s 7 → P (functionCommand d c)
@@ -68,31 +70,18 @@ module _ (d : Device) (l : Bool) (P : Device → Type 0) (o : Outcomes d l P) wh
           then withStage (withScratchpad d (set (d .scratchpad) (highLimitPlace + k) (settingByte (rowOf (d .code)) k (shiftIn s l))))
           (if ltb (k + 1) (settingsCount (rowOf (d .code))) then TakeSettings (k + 1) 0 0 else Quiet)
           else withStage d Quiet)
-      by-test true f = o .written k s e (ltb-true k _ f) _
+      by-test true f = o .setting-stored k s e (ltb-true k _ f) _
       by-test false f = o .moved _
 
   at-outcome : (s : Stage) → d .stage ≡ s → P (hearAt d l s)
-  at-outcome (AwaitRom s n) e = by-tests (ltb n 7) (eqb n 7)
-    where
-      by-tests : (t u : Bool) → P (if t then withStage d (AwaitRom (shiftIn s l) (n + 1)) else if u then withStage d (romCommand (d .alarm) (shiftIn s l)) else withStage d Quiet)
-      by-tests true u = o .moved _
-      by-tests false true = o .moved _
-      by-tests false false = o .moved _
+  at-outcome (AwaitRom s n) e = shifted-cases s n l (λ x. P (hearRom d x)) (o .moved _) (λ f. o .moved _) (o .moved _)
   at-outcome (SendRom i) e = o .moved _
   at-outcome (Match i) e = o .moved _
   at-outcome (Search i p) e = o .moved _
-  at-outcome (AwaitFunction s n) e = by-tests (ltb n 7) (eqb n 7) refl
-    where
-      by-tests : (t u : Bool) → eqb n 7 ≡ u → P (if t then withStage d (AwaitFunction (shiftIn s l) (n + 1)) else if u then functionCommand d (shiftIn s l) else withStage d Quiet)
-      by-tests true u f = o .moved _
-      by-tests false true f = let g = eqb-true n 7 f in function-outcome (shiftIn s l) s (rw g at e)
-      by-tests false false f = o .moved _
-  at-outcome (TakeSettings k s n) e = by-tests (ltb n 7) (eqb n 7) refl
-    where
-      by-tests : (t u : Bool) → eqb n 7 ≡ u → P (if t then withStage d (TakeSettings k (shiftIn s l) (n + 1)) else if u then storeSetting d k (shiftIn s l) else withStage d Quiet)
-      by-tests true u f = o .moved _
-      by-tests false true f = let g = eqb-true n 7 f in store-outcome k s (rw g at e)
-      by-tests false false f = o .moved _
+  at-outcome (AwaitFunction s n) e =
+      shifted-cases s n l (λ x. P (hearFunction d x)) (o .moved _) (λ f. function-outcome (shiftIn s l) s (rw f at e)) (o .moved _)
+  at-outcome (TakeSettings k s n) e =
+      shifted-cases s n l (λ x. P (hearSettings d k x)) (o .moved _) (λ f. store-outcome k s (rw f at e)) (o .moved _)
   at-outcome (SendScratchpad k j) e = o .moved _
   at-outcome SendStatus e = o .moved (d .stage)
   at-outcome SendPower e = o .moved (d .stage)

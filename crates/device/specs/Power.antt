@@ -4,9 +4,9 @@
 --     joined new         a new device, powered up
 -- Power in the middle of a copy leaves the EEPROM as it was before (house).
 use Prim.Native.Nat.{ℕ}
-use mathlib.Core.Bool.{true, false}
+use mathlib.Core.Bool.{false}
 use lib.IntN.{pos}
-use Rattle.family.specs.declared.Properties.{Properties}
+use Rattle.family.specs.Configuration.{keptConfiguration}
 use Rattle.temperature.specs.declared.Reading.the-variants.{InSixteenths}
 use Rattle.device.specs.declared.Activity.the-variants.{Idle}
 use Rattle.device.specs.declared.Device.{Device}
@@ -16,7 +16,7 @@ use Rattle.device.specs.declared.Power.{Power}
 use Rattle.device.specs.declared.Settings.{Settings}
 use Rattle.device.specs.declared.Stage.the-variants.{Quiet}
 use Rattle.device.specs.Record.{withStage, rowOf}
-use Rattle.device.specs.Settings.{withSettings, keptConfiguration}
+use Rattle.device.specs.Settings.{withSettings}
 use Rattle.device.specs.Hear.{awaitRom}
 
 abbrev pub resetOf : Device → Device

@@ -1,7 +1,9 @@
 -- The device record with one part replaced, and what is read off it.
---     withStage, withActivity, withScratchpad     the record with that part replaced, all else as it was
---     rowOf code                                  the properties of the code's family
---     busy d                                      whether a conversion or a copy is under way
+--     withStage d s, withActivity d a, withScratchpad d p, withEeprom d s, withAlarm d a, withPage d p
+--                      the record with that part replaced, all else as it was
+--     rowOf code       the properties of the code's family
+--     fromLine p       whether a power kind is the scope's "line-powered", from the data wire
+--     busyWith a       whether an activity keeps a device busy; busy d, whether a conversion or a copy is under way
 use Prim.Native.Nat.{ℕ}
 use mathlib.Core.Bool.{Bool, true, false}
 use mathlib.Core.List.{List}
@@ -11,6 +13,10 @@ use Rattle.rom.specs.Code.{familyOf}
 use Rattle.device.specs.declared.Activity.{Activity}
 use Rattle.device.specs.declared.Activity.the-variants.{Idle, Converting, Copying}
 use Rattle.device.specs.declared.Device.{Device}
+use Rattle.device.specs.declared.Page.{Page}
+use Rattle.device.specs.declared.Power.{Power}
+use Rattle.device.specs.declared.Power.the-variants.{Line, External}
+use Rattle.device.specs.declared.Settings.{Settings}
 use Rattle.device.specs.declared.Stage.{Stage}
 
 abbrev pub withStage : Device → Stage → Device
@@ -22,8 +28,21 @@ withActivity d a = record { code = d .code; power = d .power; stage = d .stage; 
 abbrev pub withScratchpad : Device → List ℕ → Device
 withScratchpad d p = record { code = d .code; power = d .power; stage = d .stage; activity = d .activity; scratchpad = p; eeprom = d .eeprom; alarm = d .alarm; page = d .page }
 
+abbrev pub withEeprom : Device → Settings → Device
+withEeprom d s = record { code = d .code; power = d .power; stage = d .stage; activity = d .activity; scratchpad = d .scratchpad; eeprom = s; alarm = d .alarm; page = d .page }
+
+abbrev pub withAlarm : Device → Bool → Device
+withAlarm d a = record { code = d .code; power = d .power; stage = d .stage; activity = d .activity; scratchpad = d .scratchpad; eeprom = d .eeprom; alarm = a; page = d .page }
+
+abbrev pub withPage : Device → Page → Device
+withPage d p = record { code = d .code; power = d .power; stage = d .stage; activity = d .activity; scratchpad = d .scratchpad; eeprom = d .eeprom; alarm = d .alarm; page = p }
+
 unfoldable pub rowOf : ℕ → Properties
 rowOf code = propertiesOf (familyOf code)
+
+abbrev pub fromLine : Power → Bool
+fromLine Line = true
+fromLine External = false
 
 abbrev pub busyWith : Activity → Bool
 busyWith Idle = false

@@ -1,7 +1,5 @@
 -- What holds of every device that the calls reach (the scope, "One slot" and "Temperatures"): the configuration of a family that has one is in its
 -- stored form wherever it is kept, the stored reading is in range, and the flag is the verdict on the page.
---     inForm row byte         whether a byte can be kept as the configuration; any byte where the family has none
---     readingIn row pad       the reading in bytes 0 and 1 of a scratchpad, in the unit of the family
 --     verdictOn page          whether a page is not empty and its reading is at or past a limit of the page
 --     PadSound row pad        what holds of a scratchpad
 --     Sound d                 what holds of a device
@@ -11,25 +9,17 @@ use mathlib.Core.Path.{_≡_}
 use mathlib.Core.Bool.{Bool, true, _&&_}
 use mathlib.Core.List.{List}
 use lib.ListN.{length, getD}
-use Rattle.lists.specs.Choice.{if_then_else_}
-use Rattle.family.specs.Configuration.{inStoredForm}
-use Rattle.family.specs.Layout.{readingLowPlace, readingHighPlace, configurationPlace}
+use Rattle.family.specs.Configuration.{inForm}
+use Rattle.family.specs.Layout.{configurationPlace}
 use Rattle.family.specs.declared.Properties.{Properties}
 use Rattle.temperature.specs.Range.{inRange}
-use Rattle.temperature.specs.Register.{readingOf}
-use Rattle.temperature.specs.declared.Reading.{Reading}
+use Rattle.temperature.specs.Alarm.{verdict}
+use Rattle.scratchpad.specs.Stored.{readingIn}
 use Rattle.device.specs.declared.Activity.{Activity}
 use Rattle.device.specs.declared.Activity.the-variants.{Idle, Converting, Copying}
 use Rattle.device.specs.declared.Device.{Device}
 use Rattle.device.specs.declared.Page.{Page}
 use Rattle.device.specs.Record.{rowOf}
-use Rattle.device.specs.Finish.{verdict}
-
-abbrev pub inForm : Properties → ℕ → Bool
-inForm row byte = if row .configurable then inStoredForm byte (row .nibble) else true
-
-abbrev pub readingIn : Properties → List ℕ → Reading
-readingIn row pad = readingOf (row .unit) (getD pad readingLowPlace 0) (getD pad readingHighPlace 0)
 
 abbrev pub verdictOn : Page → Bool
 verdictOn page = page .taken && verdict (page .reading) (page .high) (page .low)

@@ -1,10 +1,12 @@
 -- What differs between the families, as one table: the scope's "S" (family 10h) and "B" (family 28h).
 --     ds18s20, ds18b20      the family codes
---     propertiesOf f        the row of family f; a family that is none of ours has a row that says so, and zeros
+--     rowS, rowB            their rows; rowUnknown, the row of a family that is none of ours, which says so and has zeros
+--     rows                  the whole table
+--     propertiesOf f        the row of family f
 -- The scratchpad at power-up is the scope's, with zeros in the places of the settings that come from EEPROM.
 use Prim.Native.Nat.{ℕ}
 use mathlib.Core.Bool.{true, false}
-use mathlib.Core.List.{[], _∷_}
+use mathlib.Core.List.{List, [], _∷_}
 use lib.Dec.{eqb}
 use Rattle.lists.specs.Choice.{if_then_else_}
 use Rattle.family.specs.declared.Properties.{Properties}
@@ -44,6 +46,9 @@ rowUnknown = record {
   nibble = 0;
   initial = 0 ∷ 0 ∷ 0 ∷ 0 ∷ 0 ∷ 0 ∷ 0 ∷ 0 ∷ [];
 }
+
+abbrev pub rows : List Properties
+rows = rowS ∷ rowB ∷ rowUnknown ∷ []
 
 abbrev pub propertiesOf : ℕ → Properties
 propertiesOf f = if eqb f ds18s20 then rowS else if eqb f ds18b20 then rowB else rowUnknown

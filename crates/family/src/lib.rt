@@ -1,7 +1,7 @@
 // What differs between the thermometer families, in one table, and the layout that they share.
 ghost use mathlib.Core.Path.{_≡_};
 ghost use Rattle.family.specs.Families.{propertiesOf};
-ghost use Rattle.family.specs.Configuration.{storedForm};
+ghost use Rattle.family.specs.Configuration.{storedForm, keptConfiguration, configurationAsAsked, inForm};
 
 // The family codes, the low byte of a ROM code.
 pub const DS18S20: u8 = 0x10;
@@ -71,10 +71,36 @@ pub fn properties_of(family: u8) -> Properties
     }
 }
 
-// A configuration byte as the device keeps it: the two resolution bits, a 1, and the family's low
-// four bits.
+// The stored form of a configuration byte: the two resolution bits, a 1, and the family's low four bits.
 pub fn stored_form(byte: u8, nibble: u8) -> u8
     ensures answer { λ r. ⌜ r ≡ storedForm byte nibble ⌝ }
 {
     (byte & 0x60) + 0x10 + nibble % 16
+}
+
+// A configuration as a device of this row keeps it, or 0 where the family has none.
+pub fn kept_configuration(row: Properties, byte: u8) -> u8
+    ensures answer { λ r. ⌜ r ≡ keptConfiguration row byte ⌝ }
+{
+    if row.configurable {
+        return stored_form(byte, row.nibble);
+    }
+    0
+}
+
+// Whether a byte stands where this configuration was written. A family without one may have any byte.
+pub fn configuration_as_asked(row: Properties, asked: u8, byte: u8) -> bool
+    ensures answer { λ r. ⌜ r ≡ configurationAsAsked row asked byte ⌝ }
+{
+    if row.configurable {
+        return byte == stored_form(asked, row.nibble);
+    }
+    true
+}
+
+// Whether a device of this row can have the byte in the place of its configuration.
+pub fn configuration_in_form(row: Properties, byte: u8) -> bool
+    ensures answer { λ r. ⌜ r ≡ inForm row byte ⌝ }
+{
+    configuration_as_asked(row, byte, byte)
 }

@@ -1,10 +1,13 @@
--- What holds of each element of a list: kept by a weaker claim and by a permutation, which also keeps the length.
+-- What holds of each element of a list: kept by a weaker claim, by a permutation, which also keeps the length, by one more at the end, by a function that keeps it,
+-- and by one element replaced; and distinct elements stay so with a new one at the end.
 -- Assumes nothing.
-use mathlib.Core.List.{List, [], _∷_, List·Permᴰ, List·Permᴰ·nil, List·Permᴰ·cons, List·Permᴰ·swap, List·Permᴰ·trans}
-use Rattle.lists.specs.Each.{Each}
+use mathlib.Core.List.{List, [], _∷_, _++_, map, List·Permᴰ, List·Permᴰ·nil, List·Permᴰ·cons, List·Permᴰ·swap, List·Permᴰ·trans}
+use Rattle.lists.specs.Each.{Each, Distinct}
 use mathlib.Core.Path.{_≡_, refl, ap, _∙_}
-use Prim.Native.Nat.{suc}
-use lib.ListN.{length}
+use mathlib.Core.Logic.{_≢_}
+use native.Mathlib.Omega.{arith}
+use Prim.Native.Nat.{ℕ, zero, suc, _<_}
+use lib.ListN.{length, getD, set}
 
 pub each-implies : {A : Type 0} {P Q : A → Type 0} → ((x : A) → P x → Q x) → (l : List A) → Each P l → Each Q l
 each-implies f [] h = tt
@@ -23,3 +26,27 @@ each-perm P List·Permᴰ·nil h = tt
 each-perm P (List·Permᴰ·cons e p) h = (rw e at (h .0), each-perm P p (h .1))
 each-perm P (List·Permᴰ·swap e f) h = (rw f at (h .1 .0), (rw e at (h .0), h .1 .1))
 each-perm P (List·Permᴰ·trans p q) h = each-perm P q (each-perm P p h)
+
+-- One more at the end.
+pub each-snoc : {A : Type 0} (P : A → Type 0) (l : List A) (v : A) → Each P l → P v → Each P (l ++ (v ∷ []))
+each-snoc P [] v e p = (p, tt)
+each-snoc P (x ∷ l) v e p = (e .0, each-snoc P l v (e .1) p)
+
+pub distinct-snoc : {A : Type 0} (l : List A) (v : A) → Distinct l → Each (λ x. x ≢ v) l → Distinct (l ++ (v ∷ []))
+distinct-snoc [] v d e = (tt, tt)
+distinct-snoc (x ∷ l) v d e = (each-snoc (λ y. x ≢ y) l v (d .0) (e .0), distinct-snoc l v (d .1) (e .1))
+
+-- What a function keeps, one replaced, and one picked.
+pub each-mapped : {A : Type 0} (P : A → Type 0) (f : A → A) → ((x : A) → P x → P (f x)) → (l : List A) → Each P l → Each P (map f l)
+each-mapped P f h [] e = tt
+each-mapped P f h (x ∷ l) e = (h x (e .0), each-mapped P f h l (e .1))
+
+pub each-set : {A : Type 0} (P : A → Type 0) (l : List A) (i : ℕ) (v : A) → P v → Each P l → Each P (set l i v)
+each-set P [] i v p e = tt
+each-set P (x ∷ l) zero v p e = (p, e .1)
+each-set P (x ∷ l) (suc i) v p e = (e .0, each-set P l i v p (e .1))
+
+pub each-at : {A : Type 0} (P : A → Type 0) (l : List A) (i : ℕ) (z : A) → i < length l → Each P l → P (getD l i z)
+each-at P [] i z h e = absurd (omega arith)
+each-at P (x ∷ l) zero z h e = e .0
+each-at P (x ∷ l) (suc i) z h e = each-at P l i z (omega arith) (e .1)

@@ -3,7 +3,8 @@
 --     crc bytes is byte                      the CRC of the bytes, in the order sent
 --     family f register r reads t            the reading that a family keeps as these sixteen bits, in its own unit
 --     register r high h low l flags b        whether a B reading sets the alarm flag, with limits as their bytes: FFh is -1
---     right c                                whether a case is as the definitions have it
+--     caseReading f bits                     the reading of sixteen bits, by the decoder that the judgement uses
+--     right c                                whether a case is as the definitions have it; the flag is the verdict that a device keeps
 --     cases                                  the twelve
 -- Assumes nothing.
 use Prim.Native.Nat.{ℕ, _/_, _%_}
@@ -17,11 +18,10 @@ use Rattle.lists.specs.Fold.{all, fold}
 use Rattle.bits.specs.Bits.{bitsOf, bytesBits}
 use Rattle.family.specs.Families.{ds18b20, ds18s20, propertiesOf}
 use Rattle.crc.specs.Crc.{crcBits, crcOf}
-use Rattle.temperature.specs.Alarm.{alarmsAt, limitOf}
-use Rattle.temperature.specs.Register.{readingOf}
-use Rattle.temperature.specs.Units.{wholeOf}
+use Rattle.temperature.specs.Alarm.{verdict}
 use Rattle.temperature.specs.declared.Reading.{Reading}
 use Rattle.temperature.specs.declared.Reading.the-variants.{InSixteenths, InHalves}
+use Rattle.scratchpad.specs.Stored.{readingIn}
 
 -- one claim of the scope
 infix 70 crc_is_ family_register_reads_ register_high_low_flags_
@@ -38,8 +38,8 @@ abbrev pub halfDegrees : ℤ → Reading
 halfDegrees z = InHalves (record { 0 = z })
 
 -- the reading of sixteen bits, from their low and high byte
-abbrev pub stored : ℕ → ℕ → Reading
-stored f bits = readingOf (propertiesOf f .unit) (bits % 256) (bits / 256)
+abbrev pub caseReading : ℕ → ℕ → Reading
+caseReading f bits = readingIn (propertiesOf f) (bits % 256 ∷ bits / 256 ∷ [])
 
 -- whether two readings are one number in one unit
 abbrev pub same : Reading → Reading → Bool
@@ -51,8 +51,8 @@ same (InHalves a) (InSixteenths b) = false
 -- whether a case is as the definitions have it
 abbrev pub right : Case → Bool
 right (crc bytes is byte) = eqb (crcOf bytes) byte
-right (family f register bits reads t) = same (stored f bits) t
-right (register bits high h low l flags b) = Bool·beq (alarmsAt (wholeOf (stored ds18b20 bits)) (limitOf h) (limitOf l)) b
+right (family f register bits reads t) = same (caseReading f bits) t
+right (register bits high h low l flags b) = Bool·beq (verdict (caseReading ds18b20 bits) h l) b
 
 abbrev pub cases : List Case
 cases =

@@ -1,11 +1,16 @@
-// The one judgement of nine scratchpad bytes, which frame naming and the master's calls share.
+// Scratchpads: what the end of a conversion stores in one, and the one judgement of its nine bytes, which
+// frame naming and the master's calls share.
 ghost use mathlib.Core.Path.{_≡_};
-ghost use Rattle.scratchpad.specs.Judgement.{crcRight, allZeros, rowRight, refused, judged};
+ghost use Rattle.temperature.specs.Register.{registerOf};
+ghost use Rattle.scratchpad.specs.Stored.{readingIn, storedReading, withRegister, scratchpadAfter};
+ghost use Rattle.scratchpad.specs.Judgement.{crcRight, allZeros, kindRight, refusedPad, judged};
 use family::Properties;
 use temperature::Reading;
 use temperature::Sixteenths;
 
-// A whole scratchpad: eight bytes and their CRC.
+// A scratchpad, and a whole one as it is sent: eight bytes and their CRC.
+pub type EightBytes = [u8; 8];
+
 pub type NineBytes = [u8; 9];
 
 // A refusal, or 0 and the reading in the family's unit. A refusal's reading is zero.
@@ -15,7 +20,7 @@ pub struct Judged {
 }
 
 fn refuse(number: u8) -> Judged
-    ensures answer { λ r. ⌜ r ≡ refused number ⌝ }
+    ensures answer { λ r. ⌜ r ≡ refusedPad number ⌝ }
 {
     Judged {
         refusal: number,
@@ -44,16 +49,21 @@ fn all_zeros(pad: NineBytes) -> bool
     true
 }
 
-fn row_right(row: Properties, configuration: u8) -> bool
-    ensures answer { λ r. ⌜ r ≡ rowRight row configuration ⌝ }
+fn kind_right(row: Properties, pad: NineBytes) -> bool
+    ensures answer { λ r. ⌜ r ≡ kindRight row pad ⌝ }
 {
     if row.known {
-        if row.configurable {
-            return configuration == family::stored_form(configuration, row.nibble);
-        }
-        return true;
+        return family::configuration_in_form(row, pad[family::CONFIGURATION]);
     }
     false
+}
+
+// The reading that a scratchpad holds, in the family's unit.
+fn reading_in(row: Properties, pad: NineBytes) -> Reading
+    ensures answer { λ r. ⌜ r ≡ readingIn row pad ⌝ }
+{
+    let unit = row.unit;
+    temperature::reading_of(unit, pad[family::READING_LOW], pad[family::READING_HIGH])
 }
 
 // Judges a scratchpad of a device of this family.
@@ -67,15 +77,10 @@ pub fn judge(family: u8, pad: NineBytes) -> Judged
         return refuse(refusals::ALL_ZERO);
     }
     let row = family::properties_of(family);
-    if !row_right(row, pad[family::CONFIGURATION]) {
+    if !kind_right(row, pad) {
         return refuse(refusals::WRONG_KIND);
     }
-    let unit = row.unit;
-    let reading = temperature::reading_of(
-        unit,
-        pad[family::READING_LOW],
-        pad[family::READING_HIGH],
-    );
+    let reading = reading_in(row, pad);
     if !temperature::in_range(reading) {
         return refuse(refusals::OUT_OF_RANGE);
     }
@@ -83,4 +88,29 @@ pub fn judge(family: u8, pad: NineBytes) -> Judged
         refusal: refusals::ACCEPTED,
         reading,
     }
+}
+
+// The reading that a conversion of this count stores, with the configuration of that moment.
+pub fn stored_reading(row: Properties, count: Sixteenths, pad: EightBytes) -> Reading
+    ensures answer { λ r. ⌜ r ≡ storedReading row count pad ⌝ }
+{
+    let unit = row.unit;
+    temperature::measured(unit, count, pad[family::CONFIGURATION])
+}
+
+fn with_register(pad: EightBytes, reading: Reading) -> EightBytes
+    ensures answer { λ r. ⌜ r ≡ withRegister pad (registerOf reading) ⌝ }
+{
+    let register = temperature::register_of(reading);
+    let mut next = pad;
+    next[family::READING_LOW] = register.low;
+    next[family::READING_HIGH] = register.high;
+    next
+}
+
+// The scratchpad after a conversion of this count.
+pub fn after_conversion(row: Properties, count: Sixteenths, pad: EightBytes) -> EightBytes
+    ensures answer { λ r. ⌜ r ≡ scratchpadAfter row count pad ⌝ }
+{
+    with_register(pad, stored_reading(row, count, pad))
 }

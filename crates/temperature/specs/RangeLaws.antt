@@ -1,24 +1,21 @@
 -- A range by its two ends, and that rounding down keeps a range whose low end is a multiple of the step.
 -- Assumes nothing.
 use Prim.Native.Nat.{ℕ, _<_, _≤_}
-use mathlib.Core.Path.{_≡_, refl}
-use mathlib.Core.Bool.{Bool, true, false, false≢true, _&&_}
+use mathlib.Core.Path.{_≡_}
+use mathlib.Core.Bool.{true}
 use native.Mathlib.Omega.{arith}
 use borrow.Author.Tests.{leb-true}
 use lib.IntN.{ℤ, pos, negsuc}
 use lib.Signed.{leZ, mag}
+use Rattle.lists.specs.ChoiceLaws.{and-left, and-right}
 use Rattle.signed.specs.Rounding.{floorDiv, floorTo}
 use Rattle.signed.specs.RoundingLaws.{floor-below, floor-mono, div-mono, le-trans}
 use Rattle.temperature.specs.Range.{between}
 
 -- ## A range as its two bounds
 
-both : (s t : Bool) → (s && t) ≡ true → (s ≡ true) × (t ≡ true)
-both true t e = (refl, e)
-both false t e = absurd (false≢true e)
-
 pub between-bounds : (low high z : ℤ) → between low high z ≡ true → (leZ low z ≡ true) × (leZ z high ≡ true)
-between-bounds low high z e = both (leZ low z) (leZ z high) e
+between-bounds low high z e = (and-left (leZ low z) (leZ z high) e, and-right (leZ low z) (leZ z high) e)
 
 pub between-size : (a b n : ℕ) (z : ℤ) → a ≤ n → b ≤ n → between (negsuc a) (pos b) z ≡ true → mag z ≤ n
 between-size a b n (pos k) l m e = let h = leb-true k b e in omega arith

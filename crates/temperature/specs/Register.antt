@@ -1,10 +1,10 @@
 -- The temperature register, scratchpad bytes 0 and 1: a 16-bit two's complement number, low byte first.
---     countOf r                  the number of a reading, in its own unit
+--     unitOf r, countOf r        a reading by its values: the unit that it is counted in, and how many of them
+--     readingWith unit z         the reading with these values
 --     bytesOf z                  the sixteen bits of a number as two bytes
 --     registerOf r               the two bytes of a reading
 --     readingOf unit low high    the reading that two bytes hold, in the unit of the family; all sixteen bits count
---     unitOf r                   the unit that a reading is counted in
--- Laws `reading-register` and `register-reading`: each undoes the other. Assumes nothing.
+-- Assumes nothing.
 use Prim.Native.Nat.{ℕ, _+_, _*_, _/_, _%_}
 use lib.IntN.{ℤ}
 use Rattle.family.specs.declared.Unit.{Unit}
@@ -14,9 +14,17 @@ use Rattle.temperature.specs.declared.Reading.{Reading}
 use Rattle.temperature.specs.declared.Reading.the-variants.{InSixteenths, InHalves}
 use Rattle.temperature.specs.declared.Register.{Register}
 
+abbrev pub unitOf : Reading → Unit
+unitOf (InSixteenths c) = inSixteenths
+unitOf (InHalves h) = inHalfDegrees
+
 abbrev pub countOf : Reading → ℤ
 countOf (InSixteenths c) = c .0
 countOf (InHalves h) = h .0
+
+abbrev pub readingWith : Unit → ℤ → Reading
+readingWith inSixteenths z = InSixteenths (record { 0 = z })
+readingWith inHalfDegrees z = InHalves (record { 0 = z })
 
 abbrev pub bytesOf : ℤ → Register
 bytesOf z = record { low = bits16 z % 256; high = bits16 z / 256 }
@@ -25,9 +33,4 @@ abbrev pub registerOf : Reading → Register
 registerOf r = bytesOf (countOf r)
 
 abbrev pub readingOf : Unit → ℕ → ℕ → Reading
-readingOf inSixteenths low high = InSixteenths (record { 0 = signed16 (low + 256 * high) })
-readingOf inHalfDegrees low high = InHalves (record { 0 = signed16 (low + 256 * high) })
-
-abbrev pub unitOf : Reading → Unit
-unitOf (InSixteenths c) = inSixteenths
-unitOf (InHalves h) = inHalfDegrees
+readingOf unit low high = readingWith unit (signed16 (low + 256 * high))

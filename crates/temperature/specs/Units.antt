@@ -6,7 +6,8 @@
 --     eightfold h          half degrees in sixteenths: times 8
 --     sixteenfold w        whole degrees in sixteenths: times 16
 --     toHalfDegrees c      sixteenths in half degrees: divided by 8, rounded down
---     toSixteenths h       eightfold h, where h is in range; otherwise a refusal, with zero sixteenths
+--     toSixteenths h       eightfold h, where h is in range; otherwise refusal 11, with zero sixteenths
+--     wholeToSixteenths w  sixteenfold w, where w is in range; otherwise refusal 11, with zero sixteenths
 --     wholeOf r            the whole degree at or below a reading: -1 for half a degree below zero
 -- Assumes nothing.
 use Prim.Native.Nat.{ℕ}
@@ -22,7 +23,7 @@ use Rattle.temperature.specs.declared.Reading.{Reading}
 use Rattle.temperature.specs.declared.Reading.the-variants.{InSixteenths, InHalves}
 use Rattle.temperature.specs.declared.Sixteenths.{Sixteenths}
 use Rattle.temperature.specs.declared.WholeDegrees.{WholeDegrees}
-use Rattle.temperature.specs.Range.{inRange}
+use Rattle.temperature.specs.Range.{inRange, wholeInRange}
 
 infix 30 _sixteenths
 abbrev pub _sixteenths : ℕ → Sixteenths
@@ -48,11 +49,18 @@ eightfold h = record { 0 = h .0 *ℤ pos 8 }
 abbrev pub sixteenfold : WholeDegrees → Sixteenths
 sixteenfold w = record { 0 = w .0 *ℤ pos 16 }
 
+-- a conversion that is made, and one that is refused
+abbrev pub converted : Sixteenths → Converted
+converted c = record { refusal = accepted; count = c }
+
+abbrev pub notConverted : Converted
+notConverted = record { refusal = outOfRange; count = 0 sixteenths }
+
 abbrev pub toSixteenths : HalfDegrees → Converted
-toSixteenths h =
-    if inRange (InHalves h)
-    then record { refusal = accepted; count = eightfold h }
-    else record { refusal = outOfRange; count = 0 sixteenths }
+toSixteenths h = if inRange (InHalves h) then converted (eightfold h) else notConverted
+
+abbrev pub wholeToSixteenths : WholeDegrees → Converted
+wholeToSixteenths w = if wholeInRange w then converted (sixteenfold w) else notConverted
 
 abbrev pub wholeOf : Reading → WholeDegrees
 wholeOf (InSixteenths c) = record { 0 = floorDiv (c .0) 16 }

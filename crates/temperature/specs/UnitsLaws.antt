@@ -1,4 +1,4 @@
--- Both coarser units round down: at most the count, and less than one of the unit below it; and nothing is lost from half degrees to sixteenths.
+-- Both coarser units round down: at most the count, and less than one of the unit below it; and nothing is lost from half degrees or whole degrees to sixteenths.
 -- Assumes nothing.
 use mathlib.Core.Path.{_≡_, refl, ap}
 use mathlib.Core.Bool.{true}
@@ -11,9 +11,10 @@ use Rattle.signed.specs.RoundingLaws.{floor-below, floor-near, mul-div, div-div
 use Rattle.temperature.specs.declared.HalfDegrees.{HalfDegrees}
 use Rattle.temperature.specs.declared.Reading.the-variants.{InSixteenths, InHalves}
 use Rattle.temperature.specs.declared.Sixteenths.{Sixteenths}
-use Rattle.temperature.specs.Range.{inRange}
+use Rattle.temperature.specs.declared.WholeDegrees.{WholeDegrees}
+use Rattle.temperature.specs.Range.{inRange, wholeInRange}
 use Rattle.temperature.specs.RangeLaws.{between-size}
-use Rattle.temperature.specs.Units.{_sixteenths, _plus_, _atMost_, _below_, toHalfDegrees, eightfold, sixteenfold, toSixteenths, wholeOf}
+use Rattle.temperature.specs.Units.{_sixteenths, _plus_, _atMost_, _below_, toHalfDegrees, eightfold, sixteenfold, toSixteenths, wholeToSixteenths, wholeOf}
 
 -- ## Both coarser units round down: at most the count, and less than one of the unit below it
 
@@ -51,3 +52,16 @@ eightfold-back h = ap (λ z. record { 0 = z }) (mul-div (h .0) 8 (lit< tt))
 
 pub sixteenths-back : (h : HalfDegrees) → inRange (InHalves h) ≡ true → toHalfDegrees (toSixteenths h .count) ≡ h
 sixteenths-back h e = rw e (eightfold-back h)
+
+-- sixteen times a whole degree in range fits sixteen bits
+pub sixteenfold-fits : (w : WholeDegrees) → wholeInRange w ≡ true → Fits16 (sixteenfold w .0)
+sixteenfold-fits w e =
+    let k = between-size 54 125 125 (w .0) (lit≤ tt) (lit≤ tt) e in
+    mul-fits (w .0) 16 2048 (lit< tt) refl (omega arith)
+
+-- nothing is lost from whole degrees to sixteenths
+sixteenfold-back : (w : WholeDegrees) → wholeOf (InSixteenths (sixteenfold w)) ≡ w
+sixteenfold-back w = ap (λ z. record { 0 = z }) (mul-div (w .0) 16 (lit< tt))
+
+pub whole-back : (w : WholeDegrees) → wholeInRange w ≡ true → wholeOf (InSixteenths (wholeToSixteenths w .count)) ≡ w
+whole-back w e = rw e (sixteenfold-back w)

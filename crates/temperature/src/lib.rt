@@ -2,16 +2,16 @@
 // rule. The sensor counts sixteenths of a degree; the families store sixteenths or half degrees; limits
 // are whole degrees. Every conversion to a coarser unit rounds down, by a shift that copies the sign.
 ghost use mathlib.Core.Path.{_≡_};
-ghost use Rattle.temperature.specs.Alarm.{alarmsAt, limitOf};
+ghost use Rattle.temperature.specs.Alarm.{alarmsAt, limitOf, limitByteOf, verdict};
 ghost use Rattle.temperature.specs.Degrees.{degreesOf, IsSixteenths};
 ghost use Rattle.temperature.specs.Measured.{measuredOf, roundedOf};
-ghost use Rattle.temperature.specs.Range.{inRange};
+ghost use Rattle.temperature.specs.Range.{between, inRange, wholeInRange, isLimit};
 ghost use Rattle.temperature.specs.Register.{bytesOf, readingOf, registerOf};
-ghost use Rattle.temperature.specs.Units.{toHalfDegrees, toSixteenths, wholeOf};
+ghost use Rattle.temperature.specs.Units.{converted, notConverted, toHalfDegrees, toSixteenths, wholeToSixteenths, wholeOf};
 ghost use Rattle.signed.specs.Complement.{signed16, bits16};
 use family::Unit;
 
-// -55 and +125 degrees, the ends of what the devices measure, in each unit of a reading.
+// -55 and +125 degrees, the ends of what the devices measure, in each unit.
 const LOWEST_SIXTEENTHS: i16 = -880;
 
 const HIGHEST_SIXTEENTHS: i16 = 2000;
@@ -19,6 +19,15 @@ const HIGHEST_SIXTEENTHS: i16 = 2000;
 const LOWEST_HALVES: i16 = -110;
 
 const HIGHEST_HALVES: i16 = 250;
+
+const LOWEST_WHOLE: i16 = -55;
+
+const HIGHEST_WHOLE: i16 = 125;
+
+// The ends of a signed byte, as every limit is.
+const LOWEST_LIMIT: i16 = -128;
+
+const HIGHEST_LIMIT: i16 = 127;
 
 pub struct Sixteenths(pub i16);
 
@@ -47,11 +56,35 @@ pub struct Converted {
     pub count: Sixteenths,
 }
 
+// A limit as its byte of the scratchpad, or a refusal and zero.
+pub struct LimitByte {
+    pub refusal: u8,
+    pub byte: u8,
+}
+
 pub fn to_half_degrees(c: Sixteenths) -> HalfDegrees
     ensures answer { λ r. ⌜ r ≡ toHalfDegrees c ⌝ }
 {
     let z = c.0;
     HalfDegrees(z >> 3)
+}
+
+fn in_sixteenths(count: Sixteenths) -> Converted
+    ensures answer { λ r. ⌜ r ≡ converted count ⌝ }
+{
+    Converted {
+        refusal: refusals::ACCEPTED,
+        count,
+    }
+}
+
+fn refuse() -> Converted
+    ensures answer { λ r. ⌜ r ≡ notConverted ⌝ }
+{
+    Converted {
+        refusal: refusals::OUT_OF_RANGE,
+        count: Sixteenths(0),
+    }
 }
 
 // Eight times a count of half degrees, where that is a temperature the devices measure.
@@ -60,15 +93,20 @@ pub fn to_sixteenths(h: HalfDegrees) -> Converted
 {
     if in_range(Reading::InHalves(h)) {
         let z = h.0;
-        return Converted {
-            refusal: refusals::ACCEPTED,
-            count: Sixteenths(z * 8),
-        };
+        return in_sixteenths(Sixteenths(z * 8));
     }
-    Converted {
-        refusal: refusals::OUT_OF_RANGE,
-        count: Sixteenths(0),
+    refuse()
+}
+
+// Sixteen times a count of whole degrees, where that is a temperature the devices measure.
+pub fn whole_to_sixteenths(w: WholeDegrees) -> Converted
+    ensures answer { λ r. ⌜ r ≡ wholeToSixteenths w ⌝ }
+{
+    if whole_in_range(w) {
+        let z = w.0;
+        return in_sixteenths(Sixteenths(z * 16));
     }
+    refuse()
 }
 
 // The whole degree at or below a reading.
@@ -87,20 +125,32 @@ pub fn whole_of(r: Reading) -> WholeDegrees
     }
 }
 
+fn between(low: i16, high: i16, z: i16) -> bool
+    ensures answer { λ r. ⌜ r ≡ between low high z ⌝ }
+{
+    low <= z && z <= high
+}
+
 // Whether a reading is from -55 to +125 degrees, both included.
 pub fn in_range(r: Reading) -> bool
     ensures answer { λ t. ⌜ t ≡ inRange r ⌝ }
 {
     match r {
-        Reading::InSixteenths(c) => {
-            let z = c.0;
-            LOWEST_SIXTEENTHS <= z && z <= HIGHEST_SIXTEENTHS
-        }
-        Reading::InHalves(h) => {
-            let z = h.0;
-            LOWEST_HALVES <= z && z <= HIGHEST_HALVES
-        }
+        Reading::InSixteenths(c) => between(LOWEST_SIXTEENTHS, HIGHEST_SIXTEENTHS, c.0),
+        Reading::InHalves(h) => between(LOWEST_HALVES, HIGHEST_HALVES, h.0),
     }
+}
+
+fn whole_in_range(w: WholeDegrees) -> bool
+    ensures answer { λ r. ⌜ r ≡ wholeInRange w ⌝ }
+{
+    between(LOWEST_WHOLE, HIGHEST_WHOLE, w.0)
+}
+
+fn is_limit(w: WholeDegrees) -> bool
+    ensures answer { λ r. ⌜ r ≡ isLimit w ⌝ }
+{
+    between(LOWEST_LIMIT, HIGHEST_LIMIT, w.0)
 }
 
 // A limit byte of the scratchpad as a signed number of degrees.
@@ -114,6 +164,29 @@ pub fn limit_of(byte: u8) -> WholeDegrees
     WholeDegrees(z - 256)
 }
 
+// A limit as its byte of the scratchpad. Only a signed byte can be one.
+pub fn limit_byte_of(w: WholeDegrees) -> LimitByte
+    ensures answer { λ r. ⌜ r ≡ limitByteOf w ⌝ }
+{
+    if is_limit(w) {
+        let z = w.0;
+        if 0 <= z {
+            return LimitByte {
+                refusal: refusals::ACCEPTED,
+                byte: z as u8,
+            };
+        }
+        return LimitByte {
+            refusal: refusals::ACCEPTED,
+            byte: (z + 256) as u8,
+        };
+    }
+    LimitByte {
+        refusal: refusals::OUT_OF_RANGE,
+        byte: 0,
+    }
+}
+
 // Whether a temperature is at or past a limit. A low limit above the high one is no error.
 pub fn alarms(t: WholeDegrees, high: WholeDegrees, low: WholeDegrees) -> bool
     ensures answer { λ r. ⌜ r ≡ alarmsAt t high low ⌝ }
@@ -124,9 +197,16 @@ pub fn alarms(t: WholeDegrees, high: WholeDegrees, low: WholeDegrees) -> bool
     degree >= upper || degree <= lower
 }
 
+// Whether a reading is at or past a limit, the two limits given as their bytes.
+pub fn verdict(reading: Reading, high: u8, low: u8) -> bool
+    ensures answer { λ r. ⌜ r ≡ verdict reading high low ⌝ }
+{
+    alarms(whole_of(reading), limit_of(high), limit_of(low))
+}
+
 // A count rounded down to the step of a configuration: its bits 6 and 5 choose 8, 4, 2 or 1.
 fn rounded(count: Sixteenths, configuration: u8) -> Sixteenths
-    ensures { λ r. ⌜ r ≡ roundedOf count configuration ⌝ }
+    ensures answer { λ r. ⌜ r ≡ roundedOf count configuration ⌝ }
 {
     let z = count.0;
     let resolution = configuration / 32 % 4;
@@ -150,7 +230,7 @@ pub fn measured(unit: Unit, count: Sixteenths, configuration: u8) -> Reading
 
 // The sixteen bits of a number in two's complement.
 fn bits_of(z: i16) -> u16
-    ensures { λ r. ⌜ r ≡ bits16 z ⌝ }
+    ensures answer { λ r. ⌜ r ≡ bits16 z ⌝ }
 {
     if 0 <= z {
         return z as u16;
@@ -160,7 +240,7 @@ fn bits_of(z: i16) -> u16
 
 // The number that sixteen bits stand for in two's complement.
 fn signed_of(bits: u16) -> i16
-    ensures { λ r. ⌜ r ≡ signed16 bits ⌝ }
+    ensures answer { λ r. ⌜ r ≡ signed16 bits ⌝ }
 {
     if bits < 32768 {
         return bits as i16;
@@ -170,7 +250,7 @@ fn signed_of(bits: u16) -> i16
 
 // A number as two bytes, low byte first.
 fn bytes_of(z: i16) -> Register
-    ensures { λ r. ⌜ r ≡ bytesOf z ⌝ }
+    ensures answer { λ r. ⌜ r ≡ bytesOf z ⌝ }
 {
     let bits = bits_of(z);
     Register {

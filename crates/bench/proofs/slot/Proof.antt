@@ -7,15 +7,15 @@ use Rattle.bench.proofs.slot.Tie as tie
 is-free-requires : tie.Need-is-free-requires
 is-free-requires c κs = search needs
 
-line-of-requires : tie.Need-line-of-requires
-line-of-requires c κs = search needs
+line-bit-requires : tie.Need-line-bit-requires
+line-bit-requires c κs = search needs
 
 hear-all-requires : tie.Need-hear-all-requires
 hear-all-requires c κs = search needs
 
 returns : tie.Need-returns
 unfolding slotted
-returns c = simp (← c .before .before .before .is-free .ensures, c .before .before .if1 .taken, ← c .before .line-of .ensures, c .hear-all .ensures)
+returns c = simp (← c .before .before .before .is-free .ensures, c .before .before .if1 .taken, ← c .before .line-bit .ensures, c .hear-all .ensures)
 
 returns-2 : tie.Need-returns-2
 unfolding slotted
@@ -23,4 +23,4 @@ returns-2 c = simp (← c .before .is-free .ensures, c .if1 .left)
 
 pub slot-spec : {M : Type 1} → statement M
 slot-spec =
-    tie.close (tie.spec is-free-requires line-of-requires hear-all-requires returns returns-2)
+    tie.close (tie.spec is-free-requires line-bit-requires hear-all-requires returns returns-2)

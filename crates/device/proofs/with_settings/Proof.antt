@@ -10,15 +10,15 @@ array-write-next c = search needs
 array-write-next-2 : tie.Need-array-write-next-2
 array-write-next-2 c = search needs
 
-stored-form-requires : tie.Need-stored-form-requires
-stored-form-requires c κs = search needs
+kept-configuration-requires : tie.Need-kept-configuration-requires
+kept-configuration-requires c κs = search needs
 
 array-write-next-3 : tie.Need-array-write-next-3
 array-write-next-3 c = search needs
 
 returns : tie.Need-returns
 unfolding withSettings
-returns c = simp (c .before .if1 .taken, c .stored-form .ensures)
+returns c = simp (c .before .if1 .taken, c .kept-configuration .ensures)
 
 returns-2 : tie.Need-returns-2
 unfolding withSettings
@@ -30,7 +30,7 @@ with-settings-spec =
     (tie.spec
     array-write-next
     array-write-next-2
-    stored-form-requires
+    kept-configuration-requires
     array-write-next-3
     returns
     returns-2)

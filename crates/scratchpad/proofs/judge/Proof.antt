@@ -34,11 +34,8 @@ returns-2 c =
 properties-of-requires : tie.Need-properties-of-requires
 properties-of-requires c κs = search needs
 
-array-read-row-right : tie.Need-array-read-row-right
-array-read-row-right c = search needs
-
-row-right-requires : tie.Need-row-right-requires
-row-right-requires c κs = search needs
+kind-right-requires : tie.Need-kind-right-requires
+kind-right-requires c κs = search needs
 
 refuse-requires-3 : tie.Need-refuse-requires-3
 refuse-requires-3 c κs = search needs
@@ -50,16 +47,10 @@ returns-3 c =
     let if2 = row .before in let zeros = if2 .before in
     let if1 = zeros .before in let crc = if1 .before in
     simp
-    (c .refuse3 .ensures, ← crc .crc-right .ensures, if1 .if1 .left, ← zeros .all-zeros .ensures, if2 .if2 .left, ← row .properties-of .ensures, ← kind .row-right .ensures, if3 .if3 .taken)
+    (c .refuse3 .ensures, ← crc .crc-right .ensures, if1 .if1 .left, ← zeros .all-zeros .ensures, if2 .if2 .left, ← row .properties-of .ensures, ← kind .kind-right .ensures, if3 .if3 .taken)
 
-array-read-reading-of : tie.Need-array-read-reading-of
-array-read-reading-of c = search needs
-
-array-read-reading-of-2 : tie.Need-array-read-reading-of-2
-array-read-reading-of-2 c = search needs
-
-reading-of-requires : tie.Need-reading-of-requires
-reading-of-requires c κs = search needs
+reading-in-requires : tie.Need-reading-in-requires
+reading-in-requires c κs = search needs
 
 in-range-requires : tie.Need-in-range-requires
 in-range-requires c κs = search needs
@@ -75,7 +66,7 @@ returns-4 c =
     let if2 = row .before in let zeros = if2 .before in
     let if1 = zeros .before in let crc = if1 .before in
     simp
-    (c .refuse4 .ensures, ← crc .crc-right .ensures, if1 .if1 .left, ← zeros .all-zeros .ensures, if2 .if2 .left, ← row .properties-of .ensures, ← kind .row-right .ensures, if3 .if3 .left, ← reading .reading-of .ensures, ← range .in-range .ensures, if4 .if4 .taken)
+    (c .refuse4 .ensures, ← crc .crc-right .ensures, if1 .if1 .left, ← zeros .all-zeros .ensures, if2 .if2 .left, ← row .properties-of .ensures, ← kind .kind-right .ensures, if3 .if3 .left, ← reading .reading-in .ensures, ← range .in-range .ensures, if4 .if4 .taken)
 
 returns-5 : tie.Need-returns-5
 unfolding judged
@@ -85,7 +76,7 @@ returns-5 c =
     let if2 = row .before in let zeros = if2 .before in
     let if1 = zeros .before in let crc = if1 .before in
     simp
-    (← crc .crc-right .ensures, if1 .if1 .left, ← zeros .all-zeros .ensures, if2 .if2 .left, ← row .properties-of .ensures, ← kind .row-right .ensures, if3 .if3 .left, ← reading .reading-of .ensures, ← range .in-range .ensures, c .if4 .left)
+    (← crc .crc-right .ensures, if1 .if1 .left, ← zeros .all-zeros .ensures, if2 .if2 .left, ← row .properties-of .ensures, ← kind .kind-right .ensures, if3 .if3 .left, ← reading .reading-in .ensures, ← range .in-range .ensures, c .if4 .left)
 
 pub judge-spec : {M : Type 1} → statement M
 judge-spec =
@@ -98,13 +89,10 @@ judge-spec =
     refuse-requires-2
     returns-2
     properties-of-requires
-    array-read-row-right
-    row-right-requires
+    kind-right-requires
     refuse-requires-3
     returns-3
-    array-read-reading-of
-    array-read-reading-of-2
-    reading-of-requires
+    reading-in-requires
     in-range-requires
     refuse-requires-4
     returns-4

@@ -2,7 +2,7 @@
 use mathlib.Core.Bool.{true, false}
 use mathlib.Core.Path.{_≡_}
 use lib.Signed.{leZ}
-use Rattle.signed.specs.ComplementLaws.{signed-bits}
+use Rattle.signed.specs.ComplementLaws.{held-back}
 use Rattle.temperature.proofs.alarms.Statement.{statement}
 use Rattle.temperature.proofs.alarms.Tie as tie
 
@@ -10,8 +10,8 @@ returns : tie.Need-returns
 returns c =
     let told = c .before .before .before in
     let a = told .before .args in
-    let t = signed-bits (a .t .0) (record { sfits = told .struct-told .given .0 .1 }) in
-    let h = signed-bits (a .high .0) (record { sfits = c .before .before .struct-told2 .given .0 .1 }) in
+    let t = held-back (a .t .0) (record { sfits = told .struct-told .given .0 .1 }) in
+    let h = held-back (a .high .0) (record { sfits = c .before .before .struct-told2 .given .0 .1 }) in
     let taken : leZ (a .high .0) (a .t .0) ≡ true = simp (t, h) at (c .if1 .taken) in
     simp (t, h, taken)
 
@@ -19,9 +19,9 @@ returns-2 : tie.Need-returns-2
 returns-2 c =
     let told = c .before .before .before in
     let a = told .before .args in
-    let t = signed-bits (a .t .0) (record { sfits = told .struct-told .given .0 .1 }) in
-    let h = signed-bits (a .high .0) (record { sfits = c .before .before .struct-told2 .given .0 .1 }) in
-    let l = signed-bits (a .low .0) (record { sfits = c .before .struct-told3 .given .0 .1 }) in
+    let t = held-back (a .t .0) (record { sfits = told .struct-told .given .0 .1 }) in
+    let h = held-back (a .high .0) (record { sfits = c .before .before .struct-told2 .given .0 .1 }) in
+    let l = held-back (a .low .0) (record { sfits = c .before .struct-told3 .given .0 .1 }) in
     let left : leZ (a .high .0) (a .t .0) ≡ false = simp (t, h) at (c .if1 .left) in
     simp (t, l, left)
 

@@ -1,6 +1,6 @@
 -- The low and the high byte of the number's bits. Assumes nothing.
 use borrow.Author.Needs.{needs}
-use Rattle.signed.specs.ComplementLaws.{signed-bits}
+use Rattle.signed.specs.ComplementLaws.{held-back}
 use Rattle.temperature.proofs.bytes_of.Statement.{statement}
 use Rattle.temperature.proofs.bytes_of.Tie as tie
 
@@ -14,7 +14,7 @@ cast-t6 : tie.Need-cast-t6
 cast-t6 c = search needs
 
 returns : tie.Need-returns
-returns c = rw (c .bits-of .ensures, signed-bits _ (c .before .fits .z))
+returns c = rw (c .bits-of .ensures, held-back _ (c .before .fits .z))
 
 pub bytes-of-spec : {M : Type 1} → statement M
 bytes-of-spec = tie.close (tie.spec bits-of-requires cast-t4 cast-t6 returns)

@@ -3,17 +3,17 @@ use Prim.Native.Nat.{_+_, _*_, _<_}
 use mathlib.Core.Path.{_≡_}
 use native.Mathlib.Omega.{arith}
 use borrow.Author.Needs.{needs}
-use Rattle.signed.specs.Complement.{signed16, bits16}
-use Rattle.signed.specs.ComplementLaws.{signed-bits, signed-fits}
+use Rattle.signed.specs.Complement.{signed16}
+use Rattle.signed.specs.ComplementLaws.{read16, held16, held-back, signed-fits}
 use Rattle.temperature.proofs.reading_of.Statement.{statement}
 use Rattle.temperature.proofs.reading_of.Tie as tie
 
 held : (c : tie.After-signed-of)
-    → signed16 (bits16 (c .signed-of .result)) ≡ signed16 (c .before .args .low + 256 * c .before .args .high)
+    → read16 (held16 (c .signed-of .result)) ≡ signed16 (c .before .args .low + 256 * c .before .args .high)
 held c =
     let n = c .before .args .low + 256 * c .before .args .high in
     let h : n < 65536 = omega arith in
-    rw (c .signed-of .ensures) (signed-bits _ (signed-fits n h))
+    rw (c .signed-of .ensures) (held-back _ (signed-fits n h))
 
 mul-signed-of : tie.Need-mul-signed-of
 mul-signed-of c = search needs

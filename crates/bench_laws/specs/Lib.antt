@@ -1,0 +1,4 @@
+pub mod Laws
+pub mod Everywhere
+pub mod Sound
+pub mod SoundLaws

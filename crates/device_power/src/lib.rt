@@ -1,0 +1,100 @@
+// What a reset, power and the end of a conversion or a copy make of one thermometer.
+ghost use mathlib.Core.Path.{_≡_};
+ghost use Rattle.device.specs.Power.{resetOf, poweredUp, powerUp, joined};
+ghost use Rattle.device.specs.Finish.{conversionDone, copyDone};
+use device::Activity;
+use device::Device;
+use device::Joining;
+use device::Page;
+use device::Power;
+use device::Settings;
+use device::Stage;
+use temperature::Reading;
+use temperature::Sixteenths;
+
+// A reset: the device listens for a ROM command.
+pub fn reset(d: Device) -> Device
+    ensures answer { λ r. ⌜ r ≡ resetOf d ⌝ }
+{
+    device::with_stage(d, Stage::AwaitRom { shift: 0, count: 0 })
+}
+
+fn powered_up(code: u64, power: Power, eeprom: Settings) -> Device
+    ensures answer { λ r. ⌜ r ≡ poweredUp code power eeprom ⌝ }
+{
+    let row = device::row_of(code);
+    let initial = row.initial;
+    let scratchpad = device::with_settings(row, initial, eeprom);
+    Device {
+        code,
+        power,
+        stage: Stage::Quiet,
+        activity: Activity::Idle,
+        scratchpad,
+        eeprom,
+        alarm: false,
+        page: Page {
+            taken: false,
+            reading: Reading::InSixteenths(Sixteenths(0)),
+            high: 0,
+            low: 0,
+        },
+    }
+}
+
+// The device after its power went away and came back.
+pub fn power_cycle(d: Device) -> Device
+    ensures answer { λ r. ⌜ r ≡ powerUp d ⌝ }
+{
+    let power = d.power;
+    let eeprom = d.eeprom;
+    powered_up(d.code, power, eeprom)
+}
+
+// A new device, powered up.
+pub fn join(new: Joining) -> Device
+    ensures answer { λ r. ⌜ r ≡ joined new ⌝ }
+{
+    let power = new.power;
+    let row = device::row_of(new.code);
+    let configuration = family::kept_configuration(row, new.configuration);
+    powered_up(
+        new.code,
+        power,
+        Settings {
+            high: new.high,
+            low: new.low,
+            configuration,
+        },
+    )
+}
+
+// The device after a conversion that ended with this count.
+pub fn finish_conversion(d: Device, count: Sixteenths) -> Device
+    ensures answer { λ r. ⌜ r ≡ conversionDone d count ⌝ }
+{
+    let pad = d.scratchpad;
+    let row = device::row_of(d.code);
+    let reading = scratchpad::stored_reading(row, count, pad);
+    let high = pad[family::HIGH_LIMIT];
+    let low = pad[family::LOW_LIMIT];
+    let idle = device::with_activity(d, Activity::Idle);
+    let stored = device::with_scratchpad(idle, scratchpad::after_conversion(row, count, pad));
+    let judged = device::with_alarm(stored, temperature::verdict(reading, high, low));
+    device::with_page(
+        judged,
+        Page {
+            taken: true,
+            reading,
+            high,
+            low,
+        },
+    )
+}
+
+// The device after its copy of these settings.
+pub fn finish_copy(d: Device, latched: Settings) -> Device
+    ensures answer { λ r. ⌜ r ≡ copyDone d latched ⌝ }
+{
+    device::with_eeprom(device::with_activity(d, Activity::Idle), latched)
+}

@@ -1,0 +1,16 @@
+-- With a configuration and without one. Assumes nothing.
+use borrow.Author.Needs.{needs}
+use Rattle.family.proofs.configuration_as_asked.Statement.{statement}
+use Rattle.family.proofs.configuration_as_asked.Tie as tie
+
+stored-form-requires : tie.Need-stored-form-requires
+stored-form-requires c κs = search needs
+
+returns : tie.Need-returns
+returns c = simp (c .before .if1 .taken, c .stored-form .ensures)
+
+returns-2 : tie.Need-returns-2
+returns-2 c = simp (c .if1 .left)
+
+pub configuration-as-asked-spec : {M : Type 1} → statement M
+configuration-as-asked-spec = tie.close (tie.spec stored-form-requires returns returns-2)

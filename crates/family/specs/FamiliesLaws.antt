@@ -1,0 +1,23 @@
+-- A test that each row of the table passes is passed by the row of every family: `every-row`. What holds of the rows by computing is so shown without naming one.
+-- Assumes nothing.
+use Prim.Native.Nat.{ℕ}
+use mathlib.Core.Path.{_≡_}
+use mathlib.Core.Bool.{Bool, true, false, _&&_}
+use lib.Dec.{eqb}
+use Rattle.lists.specs.Choice.{if_then_else_}
+use Rattle.lists.specs.ChoiceLaws.{and-left, and-right}
+use Rattle.lists.specs.Fold.{all}
+use Rattle.family.specs.declared.Properties.{Properties}
+use Rattle.family.specs.Families.{ds18s20, ds18b20, rowS, rowB, rowUnknown, rows, propertiesOf}
+
+pub every-row : (p : Properties → Bool) → all p rows ≡ true → (f : ℕ) → p (propertiesOf f) ≡ true
+unfolding all
+every-row p h f = by-tests (eqb f ds18s20) (eqb f ds18b20)
+  where
+    rest : (p rowB && (p rowUnknown && true)) ≡ true
+    rest = and-right (p rowS) (p rowB && (p rowUnknown && true)) h
+
+    by-tests : (t u : Bool) → p (if t then rowS else if u then rowB else rowUnknown) ≡ true
+    by-tests true u = and-left (p rowS) (p rowB && (p rowUnknown && true)) h
+    by-tests false true = and-left (p rowB) (p rowUnknown && true) rest
+    by-tests false false = and-left (p rowUnknown) true (and-right (p rowB) (p rowUnknown && true) rest)

@@ -1,0 +1,16 @@
+-- The call's answer, on the number that the bits hold. Assumes nothing.
+use borrow.Author.Needs.{needs}
+use Rattle.signed.specs.ComplementLaws.{held-back}
+use Rattle.temperature.proofs.is_limit.Statement.{statement}
+use Rattle.temperature.proofs.is_limit.Tie as tie
+
+between-requires : tie.Need-between-requires
+between-requires c κs = search needs
+
+returns : tie.Need-returns
+returns c =
+    let w = c .before .before .args .w in
+    simp (c .between .ensures, held-back (w .0) (record { sfits = c .before .struct-told .given .0 .1 }))
+
+pub is-limit-spec : {M : Type 1} → statement M
+is-limit-spec = tie.close (tie.spec between-requires returns)
