@@ -5,7 +5,7 @@
 --     Settled d          d sends its scratchpad, takes settings or is quiet: so it stays, whatever the line shows
 --     addressed          every device hears 55h, the code and BEh or 4Eh calmly, and is then settled
 -- Assumes nothing.
-use Prim.Native.Nat.{ℕ, zero, suc, _+_, _<_}
+use Prim.Native.Nat.{ℕ, suc, _+_, _<_}
 use mathlib.Core.Bool.{Bool, true, false, not, Bool·beq, _&&_, true≢false, false≢true}
 use mathlib.Core.List.{List, [], _∷_, _++_}
 use mathlib.Core.Logic.{_⊎_, inl, inr, ⊎-elim}
@@ -13,14 +13,17 @@ use mathlib.Core.Path.{_≡_, refl, sym, ap, _∙_}
 use native.Mathlib.Omega.{arith}
 use native.Mathlib.Numerals.{add-one}
 use borrow.Author.Tests.{lt-ltb, ltb-true, ltb-false}
-use lib.Dec.{eqb, ltb}
+use lib.Dec.{ltb}
 use lib.ListN.{length}
 use Rattle.lists.specs.Choice.{if_then_else_}
 use Rattle.bits.specs.Bits.{bitAt, bitsOf}
 use Rattle.bits.specs.BitsLaws.{bits-length}
 use Rattle.commands.specs.Commands.{matchRom, readScratchpad, writeScratchpad}
 use Rattle.rom.specs.Code.{codeBits}
-use Rattle.device.specs.Hear.{shiftIn, awaitFunction, afterBit, functionCommand, idleCommand, settingsCount, storeSetting, hearAt, hearOf}
+use Rattle.commands.specs.Bytes.{shiftIn}
+use Rattle.commands.specs.BytesLaws.{shifted-cases}
+use Rattle.device.specs.Hear.{awaitFunction, afterBit, functionCommand, idleCommand, storeSetting, hearSettings, hearAt, hearOf}
+use Rattle.device.specs.Settings.{settingsCount}
 use Rattle.device.specs.Laws.{quiet-stays, quiet-offers}
 use Rattle.device.specs.Offer.{offerOf}
 use Rattle.device.specs.Outcomes.{hear-outcome}
@@ -69,7 +72,7 @@ calm x d u e h = hear-outcome d x (λ e. holdsWire e ≡ holdsWire d)
       converting = λ s f i. absurd (not-there s f);
       copying = λ s f i. absurd (not-there s f);
       recalled = λ s f i. refl;
-      written = λ k s f i n. refl;
+      setting-stored = λ k s f i n. refl;
     })
   where
     not-there : (s : ℕ) → d .stage ≡ AwaitFunction s 7 → ⊥
@@ -138,7 +141,7 @@ settled-hears x d h = at-stage (d .stage) refl h
     at-stage (Match i) e t = absurd (false≢true t)
     at-stage (Search i p) e t = absurd (false≢true t)
     at-stage (AwaitFunction s n) e t = absurd (false≢true t)
-    at-stage (TakeSettings k s n) e t = settled-if (ltb n 7) _ _ refl (settled-if (eqb n 7) _ _ (store-settled d k (shiftIn s x)) refl)
+    at-stage (TakeSettings k s n) e t = shifted-cases s n x (λ taken. Settled (hearSettings d k taken)) refl (λ z. store-settled d k (shiftIn s x)) refl
     at-stage (SendScratchpad k j) e t =
         stage-if (not (ltb k 9 && ltb j 8)) _ _ refl (stage-if (ltb j 7) _ _ refl (stage-if (ltb k 8) _ _ refl refl))
     at-stage SendStatus e t = absurd (false≢true t)

@@ -21,8 +21,8 @@ use Rattle.device.specs.Offer.{offerOf}
 use Rattle.device.specs.Power.{resetOf}
 use Rattle.device.specs.declared.Device.{Device}
 use Rattle.bench.specs.Bench.{live, holdsWire, free}
-use Rattle.bench.specs.Laws.{line-live, heard-live, restarted-live, free-live, slot-accepted, reset-accepted}
-use Rattle.bench.specs.Slot.{lineOf, heard, presenceOf, restarted, resetDone}
+use Rattle.bench_laws.specs.Laws.{line-live, heard-live, restarted-live, free-live, slot-accepted, reset-accepted}
+use Rattle.bench.specs.Slot.{lineBit, heard, presenceOf, restarted, resetDone}
 use Rattle.bench.specs.declared.Bench.{Bench}
 use Rattle.searching.specs.Buses.{slotRule, calls}
 use Rattle.searching.specs.Course.{Throughout, Runs, runs-append}
@@ -77,10 +77,10 @@ unfolding slots
 heard-runs E [] b h f = record { runs = record { throughout = tt; after-it = f }; each = h }
 heard-runs E (x ∷ bits) b h f =
     let t = bit-heard E x bits (live b) h in
-    let e : lineOf b x ≡ x = line-live b x ∙ rw (t .ones) (and-true x) in
-    let g : Free (heard b (lineOf b x)) = rw e (free-after x b (t .calm) f) in
-    let l : Each (Hears E bits) (live (heard b (lineOf b x))) = rw (e, heard-live b x) (t .others) in
-    let i = heard-runs E bits (heard b (lineOf b x)) l g in
+    let e : lineBit b x ≡ x = line-live b x ∙ rw (t .ones) (and-true x) in
+    let g : Free (heard b (lineBit b x)) = rw e (free-after x b (t .calm) f) in
+    let l : Each (Hears E bits) (live (heard b (lineBit b x))) = rw (e, heard-live b x) (t .others) in
+    let i = heard-runs E bits (heard b (lineBit b x)) l g in
     record { runs = record { throughout = (f, i .runs .throughout); after-it = i .runs .after-it }; each = i .each }
 
 -- any bits, whatever the line shows, once every device is settled
@@ -88,7 +88,7 @@ settled-runs : (bits : List Bool) (b : Bench) → Each Settled (live b) → Free
 unfolding slots
 settled-runs [] b h f = record { throughout = tt; after-it = f }
 settled-runs (x ∷ bits) b h f =
-    let l = lineOf b x in
+    let l = lineBit b x in
     let i = settled-runs bits (heard b l) (rw (heard-live b l) (each-mapped (λ d. hearOf d l) (settled-hears l) (live b) h)) (free-after l b (each-implies (settled-calm l) (live b) h) f) in
     record { throughout = (f, i .throughout); after-it = i .after-it }
   where
@@ -113,7 +113,7 @@ calls-rule : (bits : List Bool) (b : Bench) → Throughout slotRule Free bits b 
 unfolding slots
 calls-rule [] b t = refl
 calls-rule (x ∷ bits) b t =
-    let i = calls-rule bits (heard b (lineOf b x)) (t .1) in
+    let i = calls-rule bits (heard b (lineBit b x)) (t .1) in
     rw (slot-accepted b x (t .0), i)
 
 -- ## The slots of a read and of a write, as one run

@@ -8,7 +8,7 @@ use mathlib.Core.Path.{_≡_}
 use Rattle.refusals.specs.Refusals.{accepted}
 use Rattle.frame.specs.declared.Frame.{Frame}
 use Rattle.search_law.specs.Wire.{slots}
-use Rattle.bench.specs.Slot.{lineOf, heard, slotted, presenceOf, restarted, resetDone}
+use Rattle.bench.specs.Slot.{lineBit, heard, slotted, presenceOf, restarted, resetDone}
 use Rattle.bench.specs.declared.Bench.{Bench}
 use Rattle.searching.specs.Buses.{slotRule}
 use Rattle.master_rules.specs.Search.{frameShown}
@@ -28,7 +28,7 @@ issued (bits ∷ passes) b =
 
 abbrev pub SlotsGranted : List Bool → Bench → Type 0
 SlotsGranted [] b = Unit
-SlotsGranted (x ∷ bits) b = (slotted b x .refusal ≡ accepted) × SlotsGranted bits (heard b (lineOf b x))
+SlotsGranted (x ∷ bits) b = (slotted b x .refusal ≡ accepted) × SlotsGranted bits (heard b (lineBit b x))
 
 abbrev pub Granted : List (List Bool) → Bench → Type 0
 Granted [] b = Unit

@@ -6,8 +6,8 @@ use mathlib.Core.Path.{_≡_, ap, _∙_}
 use lib.Dec.{ltb}
 use Rattle.search_law.specs.Holds.{slots-hold}
 use Rattle.search_law.specs.Wire.{passes, slots}
-use Rattle.bench.specs.Laws.{heard-count, restarted-count, slot-accepted, reset-accepted}
-use Rattle.bench.specs.Slot.{lineOf, presenceOf, restarted}
+use Rattle.bench_laws.specs.Laws.{heard-count, restarted-count, slot-accepted, reset-accepted}
+use Rattle.bench.specs.Slot.{lineBit, presenceOf, restarted}
 use Rattle.bench.specs.declared.Bench.{Bench}
 use Rattle.searching.specs.Buses.{slotRule}
 use Rattle.searching.specs.Course.{Throughout, Runs}
@@ -19,7 +19,7 @@ use Rattle.master_rules.specs.Issued.{SlotsGranted, Granted}
 -- presence stays as it is
 pub slots-presence : (bits : List Bool) (b : Bench) → presenceOf (slots slotRule bits (restarted b) .devices) ≡ presenceOf b
 slots-presence bits b =
-    slots-hold slotRule (λ c. presenceOf c ≡ presenceOf b) (λ m c e. ap (ltb 0) (heard-count c (lineOf c m)) ∙ e) bits (restarted b)
+    slots-hold slotRule (λ c. presenceOf c ≡ presenceOf b) (λ m c e. ap (ltb 0) (heard-count c (lineBit c m)) ∙ e) bits (restarted b)
     (ap (ltb 0) (restarted-count b))
 
 -- ## None is refused

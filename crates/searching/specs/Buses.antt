@@ -3,11 +3,11 @@
 --                   restarts every device
 --     calls         the bench's own calls, refusals included: a refused slot or reset changes nothing and shows 0
 use Rattle.search_law.specs.Wire.{Bus}
-use Rattle.bench.specs.Slot.{lineOf, heard, slotted, restarted, resetDone}
+use Rattle.bench.specs.Slot.{lineBit, heard, slotted, restarted, resetDone}
 use Rattle.bench.specs.declared.Bench.{Bench}
 
 abbrev pub slotRule : Bus
-slotRule = record { Devices = Bench; line = λ m b. lineOf b m; after = λ m b. heard b (lineOf b m); reset = restarted }
+slotRule = record { Devices = Bench; line = λ m b. lineBit b m; after = λ m b. heard b (lineBit b m); reset = restarted }
 
 abbrev pub calls : Bus
 calls = record { Devices = Bench; line = λ m b. slotted b m .line; after = λ m b. slotted b m .bench; reset = λ b. resetDone b .bench }
