@@ -69,9 +69,9 @@ calm : (x : Bool) (d : Device) (s : Stage) → d .stage ≡ s → awaitsFunction
 calm x d u e h = hear-outcome d x (λ e. holdsWire e ≡ holdsWire d)
     (record {
       moved = λ s. refl;
-      converting = λ s f i. absurd (not-there s f);
-      copying = λ s f i. absurd (not-there s f);
-      recalled = λ s f i. refl;
+      converts = λ s f i. absurd (not-there s f);
+      copies = λ s f i. absurd (not-there s f);
+      recalls = λ s f i. refl;
       setting-stored = λ k s f i n. refl;
     })
   where
