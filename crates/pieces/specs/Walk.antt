@@ -6,14 +6,12 @@
 -- Assumes nothing.
 use Prim.Native.Nat.{ℕ, _+_, _-_, _*_, _/_, _<_, _≤_}
 use mathlib.Core.Path.{_≡_, refl, sym, ap, _∙_}
-use mathlib.Core.Bool.{Bool, true, false}
+use mathlib.Core.Bool.{true, false}
 use mathlib.Core.List.{List, [], _∷_, _++_, append-nil}
 use native.Mathlib.Omega.{arith}
-use native.Mathlib.Nat.{mul-add, mul-comm, mul-zero, mul-le-mul-left, le-div-iff-mul-le}
+use native.Mathlib.Nat.{mul-add, mul-comm, mul-le-mul-left, le-div-iff-mul-le}
 use borrow.Author.Tests.{le-leb, lt-leb}
-use lib.ListN.{length, take, drop, length-append, length-take, length-drop, drop-of-length-le}
-use lib.Seq.{take-all}
-use Rattle.lists.specs.Choice.{if_then_else_}
+use lib.ListN.{length, take, drop, length-append, length-drop, drop-of-length-le}
 use Rattle.lists.specs.Laid.{laid}
 use Rattle.lists.specs.LaidLaws.{laid-none, laid-more, laid-length, laid-then}
 use Rattle.refusals.specs.Refusals.{accepted, noRoom}
@@ -162,9 +160,8 @@ room-each each n m some h = let k = le-div-iff-mul-le some .0 h in let c = mul-c
 
 module _ (say : Line → List ℕ) (each most : ℕ) (s out : List ℕ) (none : length out / each < length s) where
   pub feed-short : _≡_ {A = Fed} record { refusal = noRoom; written = 0; held = 0 } (feedAnswer say each most s out)
-      × (s ≡ feedKept say each most s out)
-      × (out ≡ feedWritten say each most s out)
-  feed-short = rw (lt-leb (length s) (length out / each) none) (refl, refl, refl)
+      × ((s ≡ feedKept say each most s out) × (out ≡ feedWritten say each most s out))
+  feed-short = rw (lt-leb (length s) (length out / each) none) (refl, (refl, refl))
 
   pub finish-short : _≡_ {A = Written} record { refusal = noRoom; next = 0 } (finishAnswer say each s out) × (out ≡ finishWritten say each s out)
   finish-short = rw (lt-leb (length s) (length out / each) none) (refl, refl)
@@ -173,11 +170,10 @@ module _ (say : Line → List ℕ) (each : ℕ) (some : 0 < each) (s out : List 
     (lines : after ≡ laid out 0 (saidWhole say s)) where
   pub feed-done : (most held : ℕ) (kept : List ℕ) → held ≡ length (take most (drop (p .next) s)) → kept ≡ laid s 0 (take most (drop (p .next) s))
       → _≡_ {A = Fed} record { refusal = accepted; written = p .written; held = held } (feedAnswer say each most s out)
-      × (kept ≡ feedKept say each most s out)
-      × (after ≡ feedWritten say each most s out)
+      × ((kept ≡ feedKept say each most s out) × (after ≡ feedWritten say each most s out))
   feed-done most held kept h k =
       let a = rw (told .left) at h in let b = rw (told .left) at k in
-      rw (le-leb (length s) (length out / each) room) (rw (told .text, a) refl, b, lines)
+      rw (le-leb (length s) (length out / each) room) (rw (told .text, a) refl, (b, lines))
 
   -- every line had its feed
   pub finish-whole : length s ≤ p .next

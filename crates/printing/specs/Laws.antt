@@ -12,7 +12,7 @@ use Rattle.lists.specs.Choice.{if_then_else_}
 use Rattle.lists.specs.Laid.{laid}
 use Rattle.lists.specs.LaidLaws.{laid-length, laid-store, laid-read, laid-then}
 use Rattle.refusals.specs.Refusals.{accepted, notHex, malformed}
-use Rattle.text.specs.Digits.{spells, hexDigits, codeDigits}
+use Rattle.text.specs.Digits.{spells, hexDigits}
 use Rattle.text.specs.DigitsLaws.{digits-length}
 use Rattle.text.specs.Decimal.{decimal}
 use Rattle.text.specs.DecimalLaws.{decimal-length, decimal-most}
