@@ -24,10 +24,10 @@ use Rattle.refusals.specs.Refusals.{accepted, noRoom, wireBusy}
 use Rattle.frame.specs.Frames.{blankFrame, lineable}
 use Rattle.frame.specs.FramesLaws.{recorded-all, blank-held, blank-lineable}
 use Rattle.frame.specs.Recording.{writeAll}
-use Rattle.frame.specs.Writing.{fedLine, writeAnswer, writeLeaves}
+use Rattle.frame.specs.Writing.{fedLine, lineWriteAnswer as writeAnswer, lineWriteLeaves as writeLeaves}
 use Rattle.frame.specs.WritingLaws.{fed-length, write-done}
 use Rattle.frame.specs.declared.Frame.{Frame}
-use Rattle.frame.specs.declared.Written.{Written}
+use Rattle.laying.specs.declared.Written.{Written}
 use Rattle.search_law.specs.Issued.{slots-length}
 use Rattle.search_law.specs.Pass.{triple, choice}
 use Rattle.search_law.specs.PassLaws.{on-some}

@@ -17,9 +17,9 @@ use Rattle.bits.specs.BitsLaws.{bits-length}
 use Rattle.commands.specs.Commands.{searchRom, alarmSearch}
 use Rattle.refusals.specs.Refusals.{accepted, noRoom, wireBusy}
 use Rattle.frame.specs.Frames.{blankFrame, noBits}
-use Rattle.frame.specs.Hex.{digits, hexOf}
+use Rattle.text.specs.Digits.{digits, hexOf}
 use Rattle.frame.specs.Recording.{writeAll}
-use Rattle.frame.specs.Writing.{lineOf}
+use Rattle.frame.specs.Writing.{charactersOf as lineOf}
 use Rattle.rom.specs.Code.{codeBits}
 use Rattle.lists.specs.Each.{Each, those}
 use Rattle.search_law.specs.Complete.{Complete}

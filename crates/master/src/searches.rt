@@ -202,7 +202,7 @@ fn turn(s: Sweep, command: u8, list: &mut [u64], recording: &mut [u8]) -> Sweep
     let shown = w.shown;
     let after = w.bench;
     let slots = shown.count;
-    let written = frame::write_at(recording, s.bytes as usize, shown);
+    let written = frame::write_line_at(recording, s.bytes as usize, shown);
     let codes = enter(list, s.codes, w.answered, w.code);
     Sweep {
         going: goes_on(w.answered, w.last),
@@ -262,7 +262,7 @@ fn record_absence(bench: Bench, recording: &mut [u8]) -> Searched
     ensures answer { λ r. ⌜ r ≡ answerOf (lonelyOutcome bench) ⌝ }
     ensures recording { λ r. ⌜ now (recording .exit) ≡ recordingAfter (now (recording .entry)) (lonelyOutcome bench) ⌝ }
 {
-    let written = frame::write_at(recording, 0, frame::blank(false));
+    let written = frame::write_line_at(recording, 0, frame::blank(false));
     Searched {
         refusal: refusals::ACCEPTED,
         codes: 0,

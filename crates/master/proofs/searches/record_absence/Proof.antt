@@ -14,22 +14,22 @@ use borrow.Author.Needs.{needs}
 use Rattle.master.proofs.searches.record_absence.Statement.{statement}
 use Rattle.master.proofs.searches.record_absence.Tie as tie
 
-wrote : (c : tie.After-write-at)
-    → (c .write-at .result .next ≡ 7)
-    × (c .write-at .last .0 ≡ laid (now (c .before .before .before .before .args .recording)) 0 (fedLine (blankFrame false)))
+wrote : (c : tie.After-write-line-at)
+    → (c .write-line-at .result .next ≡ 7)
+    × (c .write-line-at .last .0 ≡ laid (now (c .before .before .before .before .args .recording)) 0 (fedLine (blankFrame false)))
 wrote c =
     let a = c .before .before .before .before in
     let n = blank-line in
     let w = frame-written (now (a .args .recording)) 0 (blankFrame false) (blank-lineable false) (omega arith) (omega arith) in
     let f = c .before .blank .ensures in
     let seven : 0 + length (fedLine (blankFrame false)) ≡ 7 = omega arith in
-    (ap (λ r. r .next) (c .write-at .ensures .0) ∙ rw f (w .0 ∙ seven), c .write-at .ensures .1 ∙ rw f (w .1))
+    (ap (λ r. r .next) (c .write-line-at .ensures .0) ∙ rw f (w .0 ∙ seven), c .write-line-at .ensures .1 ∙ rw f (w .1))
 
 blank-requires : tie.Need-blank-requires
 blank-requires c κs = search needs
 
-write-at-requires : tie.Need-write-at-requires
-write-at-requires c κs = search needs
+write-line-at-requires : tie.Need-write-line-at-requires
+write-line-at-requires c κs = search needs
 
 cast-t7 : tie.Need-cast-t7
 cast-t7 c = let n = wrote (c .before .before .before) .0 in omega arith
@@ -45,4 +45,4 @@ returns c =
 
 pub record-absence-spec : {M : Type 1} → statement M
 record-absence-spec =
-    tie.close (tie.spec blank-requires write-at-requires cast-t7 same-length returns)
+    tie.close (tie.spec blank-requires write-line-at-requires cast-t7 same-length returns)

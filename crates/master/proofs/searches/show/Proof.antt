@@ -12,7 +12,7 @@ push-requires c κs = search needs
 
 returns : tie.Need-returns
 unfolding oneSlot
-returns c = simp (← c .before .before .slot .ensures, c .push .ensures)
+returns c = simp (← c .before .before .slot .ensures, c .push .ensures .0)
 
 pub show-spec : {M : Type 1} → statement M
 show-spec = tie.close (tie.spec slot-requires push-requires returns)

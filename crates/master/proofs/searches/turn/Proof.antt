@@ -22,30 +22,30 @@ made c = c .pass .ensures
 framed : (c : tie.After-pass) → PassFrame (c .pass .result .shown)
 framed c = rw (made c) (next-frame (begun c .args .command) (begun c .args .s))
 
-abbrev passed : tie.After-write-at → tie.After-pass
+abbrev passed : tie.After-write-line-at → tie.After-pass
 passed c = c .before .before .before .before .before
 
-wrote : (c : tie.After-write-at)
-    → (c .write-at .result .next ≡ begun (passed c) .args .s .bytes + length (fedLine (passed c .pass .result .shown)))
-    × (c .write-at .last .0 ≡ laid (now (begun (passed c) .args .recording)) (begun (passed c) .args .s .bytes) (fedLine (passed c .pass .result .shown)))
+wrote : (c : tie.After-write-line-at)
+    → (c .write-line-at .result .next ≡ begun (passed c) .args .s .bytes + length (fedLine (passed c .pass .result .shown)))
+    × (c .write-line-at .last .0 ≡ laid (now (begun (passed c) .args .recording)) (begun (passed c) .args .s .bytes) (fedLine (passed c .pass .result .shown)))
 wrote c =
     let a = begun (passed c) in
     let f = framed (passed c) in
     let few = a .pre .0 .bytes-few in
     let w = frame-written (now (a .args .recording)) (a .args .s .bytes) (passed c .pass .result .shown) (f .carried) (f .bytes-few) (omega arith) in
-    (ap (λ r. r .next) (c .write-at .ensures .0) ∙ w .0, c .write-at .ensures .1 ∙ w .1)
+    (ap (λ r. r .next) (c .write-line-at .ensures .0) ∙ w .0, c .write-line-at .ensures .1 ∙ w .1)
 
-abbrev written : tie.After-struct-known4 → tie.After-write-at
+abbrev written : tie.After-struct-known4 → tie.After-write-line-at
 written c = c .before .before .before .before .before .before .before .before .before .before
 
 pass-requires : tie.Need-pass-requires
 pass-requires c κs = search needs
 
-cast-write-at : tie.Need-cast-write-at
-cast-write-at c = search needs
+cast-write-line-at : tie.Need-cast-write-line-at
+cast-write-line-at c = search needs
 
-write-at-requires : tie.Need-write-at-requires
-write-at-requires c κs = search needs
+write-line-at-requires : tie.Need-write-line-at-requires
+write-line-at-requires c κs = search needs
 
 enter-requires : tie.Need-enter-requires
 enter-requires c κs = search needs
@@ -92,8 +92,8 @@ turn-spec =
     tie.close
     (tie.spec
     pass-requires
-    cast-write-at
-    write-at-requires
+    cast-write-line-at
+    write-line-at-requires
     enter-requires
     goes-on-requires
     add-t18
