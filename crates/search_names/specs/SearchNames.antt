@@ -22,7 +22,8 @@ use Rattle.frame.specs.FramesLaws.{recorded-all}
 use Rattle.naming.specs.declared.Name.{Name}
 use Rattle.naming.specs.declared.Name.the-variants.{Search, Alarm}
 use Rattle.naming.specs.Naming.{named, tripleAllowed, triplesAllowed, thirds}
-use Rattle.naming.specs.Passes.{lists, Listing, search-named, alarm-named}
+use Rattle.naming.specs.Passes.{lists, Listing}
+use Rattle.naming.specs.PassesLaws.{search-named, alarm-named}
 use Rattle.search_law.specs.Codes.{Code}
 use Rattle.lists.specs.Each.{Each, Along}
 use Rattle.search_law.specs.Complete.{allowed, PassShown, Complete}
