@@ -21,7 +21,6 @@ use Rattle.text.specs.LinesLaws.{first-size, lines-fed, lines-open, lines-done}
 use Rattle.laying.specs.declared.Written.{Written}
 use Rattle.laying.specs.Laying.{layAnswer, layLeaves}
 use Rattle.laying.specs.LayingLaws.{lay-fits}
-use Rattle.pieces.specs.declared.Fed.{Fed}
 use Rattle.pieces.specs.declared.Progress.{Progress}
 use Rattle.pieces.specs.Pieces.{sayAll, said, whole, rest, saidWhole, carried, FeedWithin, feedAnswer, feedKept, feedWritten, finishAnswer, finishWritten}
 use Rattle.pieces.specs.Cuts.{parts, rest-plain, alone-open}
