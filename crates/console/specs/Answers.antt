@@ -7,7 +7,7 @@ use lib.Dec.{eqb}
 use lib.ListN.{replicate}
 use Rattle.lists.specs.Choice.{if_then_else_}
 use Rattle.refusals.specs.Refusals.{accepted, notFound}
-use Rattle.frame.specs.Hex.{digits, hexOf}
+use Rattle.text.specs.Digits.{hexDigits as digits, hexOf}
 use Rattle.temperature.specs.declared.Reading.{Reading}
 use Rattle.temperature.specs.Register.{registerOf}
 use Rattle.device.specs.declared.Activity.{Activity}

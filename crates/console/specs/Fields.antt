@@ -9,7 +9,7 @@ use lib.IntN.{pos, negℤ}
 use lib.ListN.{length, drop, getD}
 use Rattle.lists.specs.Choice.{if_then_else_}
 use Rattle.lists.specs.Fold.{fold, all}
-use Rattle.frame.specs.Hex.{valueOf}
+use Rattle.text.specs.Digits.{valueOf}
 use Rattle.temperature.specs.declared.Sixteenths.{Sixteenths}
 use Rattle.device.specs.declared.Power.{Power}
 use Rattle.device.specs.declared.Power.the-variants.{Line, External}

@@ -18,7 +18,7 @@ use mir.ValLaws.{toZ-ofZ}
 use Rattle.lists.specs.Fold.{fold}
 use Rattle.lists.specs.FoldLaws.{fold-step, all-at}
 use Rattle.signed.specs.RoundingLaws.{sub-below}
-use Rattle.frame.specs.Hex.{valueOf}
+use Rattle.text.specs.Digits.{valueOf}
 use Rattle.lists.specs.ChoiceLaws.{and-left, and-right}
 use Rattle.console.specs.Fields.{spells, numberIn, isHex, hexIn, isDecimal, decimalIn, isUpTo, isNegative, isCount, countIn}
 

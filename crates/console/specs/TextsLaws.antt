@@ -11,8 +11,8 @@ use lib.Pow.{pow-add}
 use lib.Seq.{take-suc}
 use Rattle.lists.specs.Fold.{fold}
 use Rattle.lists.specs.FoldLaws.{fold-append}
-use Rattle.frame.specs.Hex.{digitOf, digits, hexOf}
-use Rattle.frame.specs.HexLaws.{hex-append}
+use Rattle.text.specs.Digits.{digitOf, digits as digitsIn, hexDigits as digits, hexOf}
+use Rattle.text.specs.DigitsLaws.{hex-append}
 use Rattle.console.specs.declared.Text.{Text}
 use Rattle.console.specs.Texts.{extended, written, digitAt, decimal}
 
@@ -40,7 +40,7 @@ decimal-written t x = simp (written-more, append-assoc)
 
 module _ (t : Text) (code left : ℕ) where
   pub code-begun : left ≡ 16 → t ≡ written t (digits (16 - left) (code / 2 ^ (4 * left)))
-  unfolding digits
+  unfolding digitsIn
   code-begun e = rw e (written-none t)
 
   pub code-done : left ≡ 0 → written t (digits (16 - left) (code / 2 ^ (4 * left))) ≡ written t (digits 16 code)
@@ -49,7 +49,7 @@ module _ (t : Text) (code left : ℕ) where
   -- with the digit at place m, which is the next below `left`
   pub code-next : (m : ℕ) → left ≡ suc m → m < 16
       → written (written t (digits (16 - left) (code / 2 ^ (4 * left)))) (digitOf (code / 2 ^ (4 * m) % 16) ∷ []) ≡ written t (digits (16 - m) (code / 2 ^ (4 * m)))
-  unfolding digits
+  unfolding digitsIn
   code-next m e h =
       let k : 16 - m ≡ suc (16 - suc m) = omega arith in
       let f : 4 * suc m ≡ 4 * m + 4 = omega arith in
@@ -61,7 +61,7 @@ module _ (t : Text) (code left : ℕ) where
 
 pub byte-written : (t : Text) (byte : ℕ) → byte < 256
     → written (written t (digitOf (byte / 16) ∷ [])) (digitOf (byte % 16) ∷ []) ≡ written t (digits 2 byte)
-unfolding digits
+unfolding digitsIn
 byte-written t byte h =
     let q : byte / 16 % 16 ≡ byte / 16 = omega arith in
     rw (q, written-more t (digitOf (byte / 16) ∷ []) (digitOf (byte % 16) ∷ []))

@@ -5,7 +5,7 @@ ghost use lib.ListN.{length, drop, getD};
 ghost use mathlib.Core.List.{[]};
 ghost use Rattle.console.specs.Words.{spaceAt, wordsEnded, wordsOf, same};
 ghost use mathlib.Core.Bool.{true};
-ghost use Rattle.frame.specs.Hex.{valueOf};
+ghost use Rattle.text.specs.Digits.{valueOf};
 ghost use Rattle.console.specs.Fields.{spells, numberIn, isHex, hexIn, isDecimal, isUpTo, isNegative, isCount, decimalIn, countIn, isBit, isPower, powerIn};
 ghost use Rattle.console.specs.Requests.{alone, atCode, withOne, lent, finished, withTwo, areSettings, withFour, joins, withFive, inWords};
 use crate::MOST_BYTES;

@@ -2,7 +2,7 @@
 ghost use mathlib.Core.Path.{_≡_};
 ghost use mathlib.Core.List.{[], _∷_, _++_};
 ghost use Prim.Native.Nat.{_<_, _≤_};
-ghost use Rattle.frame.specs.Hex.{digitOf, digits, hexOf};
+ghost use Rattle.text.specs.Digits.{digitOf, hexDigits as digits, hexOf};
 ghost use Rattle.console.specs.Answers.{gap, feed, flag, settingsDigits, readingDigits};
 ghost use Rattle.console.specs.Texts.{noText, written, digitAt, decimal};
 use crate::Text;

@@ -18,13 +18,7 @@ use Rattle.text.specs.DigitsLaws.{bytes-length}
 use Rattle.frame.specs.Frames.{noBits, bytesFor, countAllowed, clearFrom, mostSlots}
 use Rattle.frame.specs.FramesLaws.{pad-clear}
 use Rattle.text.specs.Lines.{Line}
-use Rattle.frame.specs.ReadLine.{longest, presenceIn, countIn, frameIn, wellFormed, LineContent, carries, noFrame, readDigits, readLine, found, answerOf, readSlots}
-
--- ## The answer's next place
-
-pub found-next : (n : ℕ) (r : LineContent) → answerOf (found r n) .next ≡ n
-found-next n (carries f) = refl
-found-next n (noFrame k) = refl
+use Rattle.frame.specs.ReadLine.{longest, presenceIn, countIn, frameIn, wellFormed, carries, noFrame, readDigits, readLine, readSlots}
 
 -- ## Each way a line is refused before its digits are looked into
 

@@ -69,19 +69,6 @@ lines-back (l ∷ ls) (f ∷ fs) h =
 pub write-back : (s : List ℕ) (fs : List Frame) → readAll s ≡ map carries fs → writeAll fs ≡ s
 write-back s fs h = lines-back (linesOf s) fs h ∙ lines-bytes s
 
-lines-writable : (ls : List Line) (fs : List Frame) → map readLine ls ≡ map carries fs → Writable fs
-lines-writable ls [] h = none
-lines-writable [] (f ∷ fs) h = let z : _≡_ {A = ℕ} 0 1 = cc in absurd (omega arith)
-lines-writable (l ∷ ls) (f ∷ fs) h =
-    let a : readLine l ≡ carries f = cc in
-    let b : map readLine ls ≡ map carries fs = cc in
-    let c = written-read l f a in
-    one (c .held) (c .sound) (lines-writable ls fs b)
-
--- and its frames are those that lines can carry
-pub read-writable : (s : List ℕ) (fs : List Frame) → readAll s ≡ map carries fs → Writable fs
-read-writable s fs h = lines-writable (linesOf s) fs h
-
 -- ## One line after the other, by places
 
 module _ (s : List ℕ) (at : ℕ) where

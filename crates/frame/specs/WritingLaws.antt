@@ -226,9 +226,10 @@ module _ (s : List ℕ) (at : ℕ) (f : Frame) where
   pub write-unsound : lineable f ≡ false → (record { refusal = malformed; next = 0 } ≡ lineWriteAnswer s at f) × (s ≡ lineWriteLeaves s at f)
   write-unsound e = rw e (refl, refl)
 
-  module _ (sound : lineable f ≡ true) (n : ℕ) (width : n ≡ length (fedLine f)) where
-    pub write-short : hasRoom s at n ≡ false → (record { refusal = noRoom; next = 0 } ≡ lineWriteAnswer s at f) × (s ≡ lineWriteLeaves s at f)
-    write-short h = rw sound (lay-short s at (fedLine f) n width h)
+  pub write-short : (n : ℕ) → lineable f ≡ true → length (fedLine f) ≡ n → hasRoom s at n ≡ false
+      → (record { refusal = noRoom; next = 0 } ≡ lineWriteAnswer s at f) × (s ≡ lineWriteLeaves s at f)
+  write-short n sound width h = rw sound (lay-short s at (fedLine f) n (sym width) h)
 
-    pub write-done : at + n ≤ length s → (record { refusal = accepted; next = at + n } ≡ lineWriteAnswer s at f) × (laid s at (fedLine f) ≡ lineWriteLeaves s at f)
-    write-done h = rw sound (lay-done s at (fedLine f) n width h)
+  pub write-done : (n : ℕ) → lineable f ≡ true → length (fedLine f) ≡ n → at + n ≤ length s
+      → (record { refusal = accepted; next = at + n } ≡ lineWriteAnswer s at f) × (laid s at (fedLine f) ≡ lineWriteLeaves s at f)
+  write-done n sound width h = rw sound (lay-done s at (fedLine f) n (sym width) h)

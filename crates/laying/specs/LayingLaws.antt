@@ -6,16 +6,13 @@ use mathlib.Core.Bool.{Bool, true, false}
 use mathlib.Core.List.{List, [], _∷_, _++_, append-assoc}
 use native.Mathlib.Omega.{arith}
 use native.Mathlib.Nat.{le-of-lt}
-use native.Mathlib.Numerals.{add-one}
 use borrow.Author.Tests.{le-leb, lt-leb, leb-true, leb-false}
 use lib.Dec.{leb}
-use lib.ListN.{length, set, take, drop, getD, length-append, length-take, length-drop}
-use lib.Seq.{take-set-le, set-split, drop-at, length-take-le, append-snoc, drop-append-seam}
-use Rattle.lists.specs.Choice.{if_then_else_}
+use lib.ListN.{length, set, take, drop, getD, length-append}
+use lib.Seq.{take-set-le, set-split, drop-at, length-take-le}
 use Rattle.lists.specs.Laid.{laid}
 use Rattle.lists.specs.LaidLaws.{laid-more, laid-length, laid-then}
 use Rattle.refusals.specs.Refusals.{accepted, noRoom, notHex}
-use Rattle.laying.specs.declared.Written.{Written}
 use Rattle.text.specs.Digits.{digitOf, digits, hexDigits, hexOf, spells, bytesOf}
 use Rattle.text.specs.DigitsLaws.{digits-length, hex-length, hex-more}
 use Rattle.laying.specs.Laying.{hasRoom, layAnswer, layLeaves, decodeAnswer, decodeLeaves}

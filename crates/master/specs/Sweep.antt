@@ -170,7 +170,7 @@ next-frame command s b =
 pub frame-written : (recording : List ℕ) (at : ℕ) (f : Frame) → lineable f ≡ true → length (fedLine f) ≤ mostPassBytes → at + mostPassBytes ≤ length recording
     → (lineWriteAnswer recording at f .next ≡ at + length (fedLine f)) × (lineWriteLeaves recording at f ≡ laid recording at (fedLine f))
 frame-written recording at f p b h =
-    let r = write-done recording at f p (length (fedLine f)) refl (omega arith) in
+    let r = write-done recording at f (length (fedLine f)) p refl (omega arith) in
     (ap (λ (w : Written). w .next) (sym (r .0)), sym (r .1))
 
 -- ## One frame more

@@ -1,7 +1,11 @@
 // Names the frames of a recording: reads it from standard input and prints one line for each of its
 // lines. It only moves bytes; what is printed is decided by the library.
-ghost use Prim.Native.Nat.{_≤_};
-ghost use lib.ListN.{length};
+ghost use mathlib.Core.Path.{_≡_};
+ghost use Prim.Native.Nat.{_*_, _≤_};
+ghost use lib.ListN.{length, take};
+ghost use Rattle.pieces.specs.Pieces.{feedAnswer, feedKept, feedWritten, finishWritten, Stepped, Ran};
+ghost use Rattle.printing.specs.Printing.{printedLine};
+ghost use Rattle.streaming.specs.Streaming.{mostPrinted, longestCarried};
 use libc::STDIN_FILENO;
 use libc::STDOUT_FILENO;
 
@@ -20,7 +24,8 @@ struct Piece {
 // Reads once, behind the bytes that are carried over, and answers how many bytes there are now.
 fn read_behind(buffer: &mut [u8], held: usize) -> usize
     requires { ⌜ held ≤ length (now buffer) ⌝ }
-    ensures { λ r. ⌜ (held ≤ r) × (r ≤ length (now (buffer .entry))) ⌝ }
+    ensures answer { λ r. ⌜ (held ≤ r) × (r ≤ length (now (buffer .entry))) ⌝ }
+    ensures kept { λ r. ⌜ take held (now (buffer .exit)) ≡ take held (now (buffer .entry)) ⌝ }
 {
     let got = libc::read(STDIN_FILENO, &mut buffer[held..]);
     held + io::count(got, &buffer[held..])
@@ -28,7 +33,9 @@ fn read_behind(buffer: &mut [u8], held: usize) -> usize
 
 // Prints the lines that have their feed.
 fn print_piece(bytes: &mut [u8], text: &mut [u8]) -> Piece
-    ensures { λ r. ⌜ r .held ≤ length (now (bytes .entry)) ⌝ }
+    ensures answer { λ r. ⌜ (r .held ≡ feedAnswer printedLine mostPrinted longestCarried (now (bytes .entry)) (now (text .entry)) .held) × (r .held ≤ length (now (bytes .entry))) ⌝ }
+    ensures kept { λ r. ⌜ now (bytes .exit) ≡ feedKept printedLine mostPrinted longestCarried (now (bytes .entry)) (now (text .entry)) ⌝ }
+    ensures written { λ r. ⌜ now (text .exit) ≡ feedWritten printedLine mostPrinted longestCarried (now (bytes .entry)) (now (text .entry)) ⌝ }
 {
     let fed = streaming::feed(bytes, text);
     let end = fed.written;
@@ -40,8 +47,9 @@ fn print_piece(bytes: &mut [u8], text: &mut [u8]) -> Piece
 
 // One piece. At the end of the input, and where the output takes no more, there is none after it.
 fn next_piece(buffer: &mut [u8], held: usize, text: &mut [u8]) -> Piece
-    requires { ⌜ held ≤ length (now buffer) ⌝ }
-    ensures { λ r. ⌜ r .held ≤ length (now (buffer .entry)) ⌝ }
+    requires { ⌜ (held ≤ length (now buffer)) × (mostPrinted * length (now buffer) ≤ length (now text)) ⌝ }
+    ensures answer { λ r. ⌜ r .held ≤ length (now (buffer .entry)) ⌝ }
+    ensures kept { λ r. ⌜ Stepped longestCarried (take held (now (buffer .entry))) (take (r .held) (now (buffer .exit))) ⌝ }
 {
     let filled = read_behind(buffer, held);
     if filled == held {
@@ -53,7 +61,9 @@ fn next_piece(buffer: &mut [u8], held: usize, text: &mut [u8]) -> Piece
 // A proved loop has to end, and nothing says that a recording does: so the turns are counted down from
 // a number that no run uses up.
 fn print_pieces(buffer: &mut [u8], text: &mut [u8]) -> usize
-    ensures { λ r. ⌜ r ≤ length (now (buffer .entry)) ⌝ }
+    requires { ⌜ mostPrinted * length (now buffer) ≤ length (now text) ⌝ }
+    ensures answer { λ r. ⌜ r ≤ length (now (buffer .entry)) ⌝ }
+    ensures kept { λ r. ⌜ Ran longestCarried (take r (now (buffer .exit))) ⌝ }
 {
     let mut held: usize = 0;
     let mut turns = u64::MAX;
@@ -69,13 +79,17 @@ fn print_pieces(buffer: &mut [u8], text: &mut [u8]) -> usize
 }
 
 // Prints what is left at the end of the input: a last line without a feed.
-fn print_last(bytes: &[u8], text: &mut [u8]) {
+fn print_last(bytes: &[u8], text: &mut [u8])
+    ensures written { λ r. ⌜ now (text .exit) ≡ finishWritten printedLine mostPrinted (now (bytes .entry)) (now (text .entry)) ⌝ }
+{
     let last = streaming::finish(bytes, text);
     let end = last.next;
     io::write_all(STDOUT_FILENO, &text[..end]);
 }
 
-fn print_recording(buffer: &mut [u8], text: &mut [u8]) {
+fn print_recording(buffer: &mut [u8], text: &mut [u8])
+    requires { ⌜ mostPrinted * length (now buffer) ≤ length (now text) ⌝ }
+{
     let held = print_pieces(buffer, text);
     print_last(&buffer[..held], text);
 }

@@ -1,17 +1,33 @@
--- Laws that the proofs of naming rest on: triples along a loop from the last to the first, and the number of bytes along such a loop.
+-- Laws that the proofs of naming rest on: triples along a loop from the last to the first, and the number of bytes along such a loop; and that a
+-- refusal is a small number.
 -- Assumes nothing.
 use Prim.Native.Nat.{ℕ, zero, suc, _+_, _-_, _*_, _/_, _^_, _<_, _≤_}
 use mathlib.Core.Path.{_≡_, refl, ap, _∙_}
-use mathlib.Core.Bool.{Bool, true, false, _&&_, and-false}
+use mathlib.Core.Bool.{Bool, true, false, not, _&&_, and-false}
 use mathlib.Core.List.{List, [], _∷_}
 use native.Mathlib.Omega.{arith}
 use native.Mathlib.Numerals.{add-one}
 use lib.Pow.{pow-mono}
 use lib.ListN.{length, take, drop, getD, length-take, length-drop, drop-of-length-le}
 use lib.Seq.{drop-cons, drop-nil, getD-drop, getD-take}
-use Rattle.bits.specs.Bits.{bitNumber, numberOf, bytesBits}
+use lib.Dec.{eqb, lit<}
+use Rattle.lists.specs.Choice.{if_then_else_}
+use Rattle.bits.specs.Bits.{bitNumber, bitsOf, numberOf, bytesBits}
 use Rattle.bits.specs.BitsLaws.{number-lt, bytes-length}
-use Rattle.naming.specs.Naming.{tripleAllowed, triplesAllowed, thirds, passSlots, lowFirst, padIn}
+use Rattle.commands.specs.Commands.{searchRom, alarmSearch}
+use Rattle.refusals.specs.Refusals.{accepted, wrongCrc, allZero, wrongKind, outOfRange, badTriple}
+use Rattle.family.specs.Families.{propertiesOf}
+use Rattle.family.specs.declared.Properties.{Properties}
+use Rattle.crc.specs.Crc.{crcBits}
+use Rattle.rom.specs.Code.{crcByteOf, familyOf, codeRefusal}
+use Rattle.temperature.specs.Range.{inRange}
+use Rattle.scratchpad.specs.Judgement.{crcRight, allZeros, kindRight, refusedPad, judged}
+use Rattle.scratchpad.specs.Stored.{readingIn}
+use Rattle.frame.specs.declared.Frame.{Frame}
+use Rattle.naming.specs.declared.Name.{Name}
+use Rattle.naming.specs.declared.Name.the-variants.{Empty, Search, Alarm, Nobody, Pad, Other}
+use Rattle.naming.specs.declared.PassRead.{PassRead}
+use Rattle.naming.specs.Naming.{named, plain, refusedName, sends, tripleAllowed, triplesAllowed, thirds, passSlots, passRead, coded, namedPass, isNobody, isPad, lowFirst, codeIn, padIn, rawOf, namedPad}
 
 pub one-at-most : (b : Bool) → bitNumber b ≤ 1
 one-at-most true = omega arith
@@ -141,3 +157,65 @@ module _ (bytes : List ℕ) (size : length bytes ≡ 64) where
   pad-bytes =
       let at : (i : ℕ) → i < 64 → drop i bytes ≡ getD bytes i 0 ∷ drop (suc i) bytes = λ i h. drop-cons bytes i 0 (omega arith) in
       rw (at 10 (omega arith), at 11 (omega arith), at 12 (omega arith), at 13 (omega arith), at 14 (omega arith), at 15 (omega arith), at 16 (omega arith), at 17 (omega arith), at 18 (omega arith))
+
+-- ## A refusal is a small number
+
+code-small : (c : ℕ) → codeRefusal c < 100
+unfolding codeRefusal
+code-small c = by-test (not (eqb (crcByteOf c) (crcBits 0 (bitsOf 56 c)))) (not (propertiesOf (familyOf c) .known))
+  where
+    by-test : (t u : Bool) → (if t then wrongCrc else if u then wrongKind else accepted) < 100
+    by-test true u = lit< tt
+    by-test false true = lit< tt
+    by-test false false = lit< tt
+
+judged-small : (family : ℕ) (pad : List ℕ) → judged family pad .refusal < 100
+unfolding judged
+judged-small family pad = by-test (not (crcRight pad)) (allZeros pad) (not (kindRight row pad)) (not (inRange (readingIn row pad)))
+  where
+    row : Properties
+    row = propertiesOf family
+    by-test : (t u v w : Bool)
+        → (if t then refusedPad wrongCrc else if u then refusedPad allZero else if v then refusedPad wrongKind else if w then refusedPad outOfRange else record { refusal = accepted; reading = readingIn row pad }) .refusal < 100
+    by-test true u v w = lit< tt
+    by-test false true v w = lit< tt
+    by-test false false true w = lit< tt
+    by-test false false false true = lit< tt
+    by-test false false false false = lit< tt
+
+coded-small : (n : Name) (c : ℕ) → coded n c .refusal < 100
+coded-small n c = by-test (eqb (codeRefusal c) accepted)
+  where
+    by-test : (t : Bool) → (if t then record { refusal = accepted; name = n; code = c; raw = 0 } else refusedName (codeRefusal c)) .refusal < 100
+    by-test true = lit< tt
+    by-test false = code-small c
+
+pass-small : (n : Name) (p : PassRead) → namedPass n p .refusal < 100
+pass-small n p = by-test (p .allowed)
+  where
+    by-test : (t : Bool) → (if t then coded n (p .code) else refusedName badTriple) .refusal < 100
+    by-test true = coded-small n (p .code)
+    by-test false = lit< tt
+
+scratchpad-small : (c : ℕ) (pad : List ℕ) → namedPad c pad .refusal < 100
+scratchpad-small c pad = by-test (eqb (codeRefusal c) wrongCrc) (eqb (judged (familyOf c) pad .refusal) accepted)
+  where
+    by-test : (t u : Bool)
+        → (if t then refusedName wrongCrc else if u then record { refusal = accepted; name = Pad; code = c; raw = rawOf pad } else refusedName (judged (familyOf c) pad .refusal)) .refusal < 100
+    by-test true u = lit< tt
+    by-test false true = lit< tt
+    by-test false false = judged-small (familyOf c) pad
+
+pub named-small : (f : Frame) → named f .refusal < 100
+unfolding named
+named-small f = by-test (not (f .presence)) (sends f 200 searchRom) (sends f 200 alarmSearch) (isNobody f) (isPad f)
+  where
+    by-test : (t u v w x : Bool)
+        → (if t then plain Empty else if u then namedPass Search (passRead (passSlots (f .bits))) else if v then namedPass Alarm (passRead (passSlots (f .bits)))
+        else if w then plain Nobody else if x then namedPad (codeIn (f .bits)) (padIn (f .bits)) else plain Other) .refusal < 100
+    by-test true u v w x = lit< tt
+    by-test false true v w x = pass-small Search (passRead (passSlots (f .bits)))
+    by-test false false true w x = pass-small Alarm (passRead (passSlots (f .bits)))
+    by-test false false false true x = lit< tt
+    by-test false false false false true = scratchpad-small (codeIn (f .bits)) (padIn (f .bits))
+    by-test false false false false false = lit< tt

@@ -1,3 +1,4 @@
 pub mod Naming
 pub mod Laws
 pub mod Passes
+pub mod PassesLaws

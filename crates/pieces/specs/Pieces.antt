@@ -10,6 +10,8 @@
 --     Enough say most          that the first characters, as many as are carried, tell what a line says
 --     feedAnswer, feedKept, feedWritten          what a call on one piece answers and leaves
 --     finishAnswer, finishWritten                what the call at the end of the text answers and leaves
+--     FeedWithin s out f       that what a call answers is within its buffers
+--     Stepped, Ran             what a program carries after one read, and after all so far
 -- Assumes nothing.
 use Prim.Native.Nat.{ℕ, _/_, _<_, _≤_}
 use mathlib.Core.Path.{_≡_}
@@ -96,3 +98,20 @@ module _ (say : Line → List ℕ) (each : ℕ) (s out : List ℕ) where
   -- the buffer of what is said
   abbrev pub finishWritten : List ℕ
   finishWritten = if roomFor each s out then laid out 0 (said say s) else out
+
+-- what a caller needs of an answer to take the parts of its buffers: what was said is within its buffer, and what is carried within the piece
+pub record FeedWithin (s out : List ℕ) (f : Fed) : Type 0 where
+  pub text : f .written ≤ length out
+  pub carries : f .held ≤ length s
+
+-- ## What a program carries from read to read
+
+-- what is carried after a read: what was carried before it, where nothing was read, or what the piece leaves that the bytes x made
+pub data Stepped (most : ℕ) (u v : List ℕ) : Type 0 where
+  ended : v ≡ u → Stepped most u v
+  fed : (x : List ℕ) → v ≡ carried most (u ++ x) → Stepped most u v
+
+-- what is carried after some reads, from nothing on
+pub data Ran (most : ℕ) : List ℕ → Type 0 where
+  start : Ran most []
+  more : {u v : List ℕ} → Ran most u → Stepped most u v → Ran most v

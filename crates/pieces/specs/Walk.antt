@@ -6,14 +6,13 @@
 -- Assumes nothing.
 use Prim.Native.Nat.{ℕ, _+_, _-_, _*_, _/_, _<_, _≤_}
 use mathlib.Core.Path.{_≡_, refl, sym, ap, _∙_}
-use mathlib.Core.Bool.{Bool, true, false}
-use mathlib.Core.List.{List, [], _∷_, _++_, append-nil}
+use mathlib.Core.Bool.{true, false}
+use mathlib.Core.List.{List, [], _∷_, _++_, append-assoc, append-nil}
 use native.Mathlib.Omega.{arith}
-use native.Mathlib.Nat.{mul-add, mul-comm, mul-zero, mul-le-mul-left, le-div-iff-mul-le}
+use native.Mathlib.Nat.{mul-add, mul-comm, mul-le-mul-left, le-div-iff-mul-le}
 use borrow.Author.Tests.{le-leb, lt-leb}
 use lib.ListN.{length, take, drop, length-append, length-take, length-drop, drop-of-length-le}
-use lib.Seq.{take-all}
-use Rattle.lists.specs.Choice.{if_then_else_}
+use lib.Seq.{take-add, take-append-seam}
 use Rattle.lists.specs.Laid.{laid}
 use Rattle.lists.specs.LaidLaws.{laid-none, laid-more, laid-length, laid-then}
 use Rattle.refusals.specs.Refusals.{accepted, noRoom}
@@ -22,9 +21,8 @@ use Rattle.text.specs.LinesLaws.{first-size, lines-fed, lines-open, lines-done}
 use Rattle.laying.specs.declared.Written.{Written}
 use Rattle.laying.specs.Laying.{layAnswer, layLeaves}
 use Rattle.laying.specs.LayingLaws.{lay-fits}
-use Rattle.pieces.specs.declared.Fed.{Fed}
 use Rattle.pieces.specs.declared.Progress.{Progress}
-use Rattle.pieces.specs.Pieces.{sayAll, said, whole, rest, saidWhole, feedAnswer, feedKept, feedWritten, finishAnswer, finishWritten}
+use Rattle.pieces.specs.Pieces.{sayAll, said, whole, rest, saidWhole, carried, FeedWithin, feedAnswer, feedKept, feedWritten, finishAnswer, finishWritten}
 use Rattle.pieces.specs.Cuts.{parts, rest-plain, alone-open}
 
 -- ## The first line from a place on, where more lines follow or none
@@ -161,33 +159,15 @@ room-each each n m some h = let k = le-div-iff-mul-le some .0 h in let c = mul-c
 -- ## The ends of the two calls
 
 module _ (say : Line → List ℕ) (each most : ℕ) (s out : List ℕ) (none : length out / each < length s) where
-  pub feed-short : _≡_ {A = Fed} record { refusal = noRoom; written = 0; held = 0 } (feedAnswer say each most s out)
-      × (s ≡ feedKept say each most s out)
-      × (out ≡ feedWritten say each most s out)
-  feed-short = rw (lt-leb (length s) (length out / each) none) (refl, refl, refl)
+  pub feed-short : ((record { refusal = noRoom; written = 0; held = 0 } ≡ feedAnswer say each most s out) × FeedWithin s out record { refusal = noRoom; written = 0; held = 0 })
+      × ((s ≡ feedKept say each most s out) × (out ≡ feedWritten say each most s out))
+  feed-short = rw (lt-leb (length s) (length out / each) none) ((refl, record { text = omega arith; carries = omega arith }), (refl, refl))
 
-  pub finish-short : _≡_ {A = Written} record { refusal = noRoom; next = 0 } (finishAnswer say each s out) × (out ≡ finishWritten say each s out)
-  finish-short = rw (lt-leb (length s) (length out / each) none) (refl, refl)
+  pub finish-short : ((record { refusal = noRoom; next = 0 } ≡ finishAnswer say each s out) × (0 ≤ length out)) × (out ≡ finishWritten say each s out)
+  finish-short = rw (lt-leb (length s) (length out / each) none) ((refl, omega arith), refl)
 
 module _ (say : Line → List ℕ) (each : ℕ) (some : 0 < each) (s out : List ℕ) (room : length s ≤ length out / each) (p : Progress) (told : Told say each s p) (after : List ℕ)
     (lines : after ≡ laid out 0 (saidWhole say s)) where
-  pub feed-done : (most held : ℕ) (kept : List ℕ) → held ≡ length (take most (drop (p .next) s)) → kept ≡ laid s 0 (take most (drop (p .next) s))
-      → _≡_ {A = Fed} record { refusal = accepted; written = p .written; held = held } (feedAnswer say each most s out)
-      × (kept ≡ feedKept say each most s out)
-      × (after ≡ feedWritten say each most s out)
-  feed-done most held kept h k =
-      let a = rw (told .left) at h in let b = rw (told .left) at k in
-      rw (le-leb (length s) (length out / each) room) (rw (told .text, a) refl, b, lines)
-
-  -- every line had its feed
-  pub finish-whole : length s ≤ p .next
-      → _≡_ {A = Written} record { refusal = accepted; next = p .written } (finishAnswer say each s out) × (after ≡ finishWritten say each s out)
-  unfolding sayAll linesOf
-  finish-whole h =
-      let none : rest (linesOf s) ≡ [] = sym (told .left) ∙ drop-of-length-le s h in
-      let all : said say s ≡ saidWhole say s = parts say s ∙ ap (λ (u : List ℕ). saidWhole say s ++ said say u) none ∙ append-nil (saidWhole say s) in
-      rw (le-leb (length s) (length out / each) room, all) (rw (told .text) refl, lines)
-
   -- what was said for whole lines is within the buffer
   told-fits : p .written ≤ length out
   told-fits =
@@ -196,10 +176,29 @@ module _ (say : Line → List ℕ) (each : ℕ) (some : 0 < each) (s out : List 
       let r = room-each each (length s) (length out) some room in
       omega arith
 
+  pub feed-done : (most held : ℕ) (kept : List ℕ) → held ≡ length (take most (drop (p .next) s)) → kept ≡ laid s 0 (take most (drop (p .next) s))
+      → ((record { refusal = accepted; written = p .written; held = held } ≡ feedAnswer say each most s out) × FeedWithin s out record { refusal = accepted; written = p .written; held = held })
+      × ((kept ≡ feedKept say each most s out) × (after ≡ feedWritten say each most s out))
+  feed-done most held kept h k =
+      let a = rw (told .left) at h in let b = rw (told .left) at k in
+      let size = length-take most (drop (p .next) s) in let back = length-drop (p .next) s in
+      let within : FeedWithin s out record { refusal = accepted; written = p .written; held = held } = record { text = told-fits; carries = omega arith } in
+      rw (le-leb (length s) (length out / each) room) ((rw (told .text, a) refl, within), (b, lines))
+
+  -- every line had its feed
+  pub finish-whole : length s ≤ p .next
+      → ((record { refusal = accepted; next = p .written } ≡ finishAnswer say each s out) × (p .written ≤ length out)) × (after ≡ finishWritten say each s out)
+  unfolding sayAll linesOf
+  finish-whole h =
+      let none : rest (linesOf s) ≡ [] = sym (told .left) ∙ drop-of-length-le s h in
+      let all : said say s ≡ saidWhole say s = parts say s ∙ ap (λ (u : List ℕ). saidWhole say s ++ said say u) none ∙ append-nil (saidWhole say s) in
+      let fit = told-fits in
+      rw (le-leb (length s) (length out / each) room, all) ((rw (told .text) refl, fit), lines)
+
   -- a last line had none
   pub finish-open : Short say each → (u : List ℕ) → u ≡ drop (p .next) s → p .next < length s → (w : Written) (last : List ℕ) →
       let x = say record { chars = u; fed = false } in
-      w ≡ layAnswer after (p .written) x → last ≡ layLeaves after (p .written) x → (w ≡ finishAnswer say each s out) × (last ≡ finishWritten say each s out)
+      w ≡ layAnswer after (p .written) x → last ≡ layLeaves after (p .written) x → ((w ≡ finishAnswer say each s out) × (w .next ≤ length out)) × (last ≡ finishWritten say each s out)
   finish-open short u e h w last a b =
       let l : Line = record { chars = u; fed = false } in
       let x = say l in
@@ -221,7 +220,32 @@ module _ (say : Line → List ℕ) (each : ℕ) (some : 0 < each) (s out : List 
       let f = lay-fits after (p .written) x fits in
       let sum : p .written + length x ≡ length (t ++ x) = rw (length-append t x) (omega arith) in
       let q : 0 + length t ≡ p .written = omega arith in
+      let next : w .next ≡ p .written + length x = ap (λ (v : Written). v .next) (a ∙ f .0) in
+      let ends : w .next ≤ length out = omega arith in
       rw (le-leb (length s) (length out / each) room, all) (
-        a ∙ f .0 ∙ ap (λ (k : ℕ). record { refusal = accepted; next = k }) sum,
+        (a ∙ f .0 ∙ ap (λ (k : ℕ). record { refusal = accepted; next = k }) sum, ends),
         b ∙ f .1 ∙ ap (λ (d : List ℕ). laid d (p .written) x) lines ∙ laid-then out 0 t x (p .written) q fit,
       )
+
+-- ## A program that reads behind what is carried
+
+-- what a call leaves at the front of its buffer is what is carried over, whatever stands behind the piece
+pub front-carried : (say : Line → List ℕ) (each most : ℕ) (s out : List ℕ) → length s ≤ length out / each → (held : ℕ) (kept behind : List ℕ)
+    → held ≡ feedAnswer say each most s out .held → kept ≡ feedKept say each most s out → take held (kept ++ behind) ≡ carried most s
+unfolding laid
+front-carried say each most s out room held kept behind h k =
+    let x = carried most s in
+    let test = le-leb (length s) (length out / each) room in
+    let size : held ≡ length x = h ∙ rw test refl in
+    let front : kept ≡ x ++ drop (0 + length x) s = k ∙ rw test refl in
+    rw (size, front, append-assoc x (drop (0 + length x) s) behind) (take-append-seam x (drop (0 + length x) s ++ behind))
+
+-- the bytes read stand behind those that were carried
+pub read-behind : (before after : List ℕ) (held filled : ℕ) → held ≤ filled → take held after ≡ take held before
+    → take filled after ≡ take held before ++ take (filled - held) (drop held after)
+read-behind before after held filled h same =
+    let sum : held + (filled - held) ≡ filled = omega arith in
+    ap (λ (n : ℕ). take n after) (sym sum) ∙ take-add held (filled - held) after ∙ ap (λ (u : List ℕ). u ++ take (filled - held) (drop held after)) same
+
+pub room-part : (each n m : ℕ) → 0 < each → each * n ≤ m → n ≤ m / each
+room-part each n m some h = let c = mul-comm n each in le-div-iff-mul-le some .1 (omega arith)

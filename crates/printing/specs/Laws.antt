@@ -1,66 +1,39 @@
--- Laws that the proofs of printing rest on.
+-- Laws that the proofs of printing rest on: how long the parts are, and that they are laid one behind the other.
 -- Assumes nothing.
-use Prim.Native.Nat.{ℕ, zero, suc, _+_, _-_, _*_, _/_, _%_, _^_, _<_, _≤_}
+use Prim.Native.Nat.{ℕ, suc, _+_, _-_, _<_, _≤_}
 use mathlib.Core.Path.{_≡_, refl, sym, ap, _∙_}
 use mathlib.Core.Bool.{Bool, true, false, _&&_}
 use mathlib.Core.List.{List, [], _∷_, _++_}
 use native.Mathlib.Omega.{arith}
-use native.Mathlib.Nat.{div-div-eq-div-mul}
-use borrow.Author.Tests.{ltb-true, ltb-false, eq-eqb, ne-eqb, le-leb, lt-leb}
+use borrow.Author.Tests.{eq-eqb, ne-eqb}
 use lib.Dec.{eqb, ltb, lit≤}
-use lib.ListN.{length, getD, set, take, drop, length-append, List·getD-append}
-use lib.Pow.{pow-add}
-use lib.Seq.{getD-append-add}
+use lib.ListN.{length, set, take, drop, length-append}
 use Rattle.lists.specs.Choice.{if_then_else_}
-use Rattle.lists.specs.Fold.{all}
 use Rattle.lists.specs.Laid.{laid}
 use Rattle.lists.specs.LaidLaws.{laid-length, laid-store, laid-read, laid-then}
-use Rattle.refusals.specs.Refusals.{accepted, noRoom, notHex, malformed}
-use Rattle.text.specs.Digits.{isDigit, digitOf, hexDigits}
+use Rattle.refusals.specs.Refusals.{accepted, notHex, malformed}
+use Rattle.text.specs.Digits.{spells, hexDigits}
 use Rattle.text.specs.DigitsLaws.{digits-length}
+use Rattle.text.specs.Decimal.{decimal}
+use Rattle.text.specs.DecimalLaws.{decimal-length, decimal-most}
 use Rattle.text.specs.Lines.{Line, lineFeed}
-use Rattle.frame.specs.ReadLine.{longest, wellFormed, frameIn, carries, noFrame, readDigits, readLine, answered}
+use Rattle.laying.specs.Laying.{layAnswer, layLeaves}
+use Rattle.laying.specs.LayingLaws.{lay-fits, lay-behind}
+use Rattle.frame.specs.ReadLine.{longest, wellFormed, frameIn, carries, noFrame, readDigits, readLine, found, answerOf}
 use Rattle.naming.specs.Naming.{readNamed, lineNamed}
 use Rattle.naming.specs.declared.Name.{Name}
 use Rattle.naming.specs.declared.Name.the-variants.{Empty, Search, Alarm, Nobody, Pad, Other}
 use Rattle.naming.specs.declared.Named.{Named}
 use Rattle.printing.specs.declared.Text.{Text}
-use Rattle.printing.specs.Printing.{space, word, refusedWord, detail, described, printedName, blankText, printedText, nameOfRead}
-use Rattle.text.specs.Decimal.{decimal}
-use Rattle.laying.specs.Laying.{layAnswer, layLeaves}
-
--- one digit by its place
-pub digit-at : (n x i : ℕ) → i < n → getD (hexDigits n x) i 0 ≡ digitOf (x / 2 ^ (4 * (n - 1 - i)) % 16)
-unfolding hexDigits
-digit-at zero x i h = absurd (omega arith)
-digit-at (suc n) x i h = by-test (ltb i n) refl (digit-at n (x / 16) i)
-  where
-    by-test : (t : Bool) → ltb i n ≡ t → (i < n → getD (hexDigits n (x / 16)) i 0 ≡ digitOf (x / 16 / 2 ^ (4 * (n - 1 - i)) % 16))
-        → getD (hexDigits n (x / 16) ++ (digitOf (x % 16) ∷ [])) i 0 ≡ digitOf (x / 2 ^ (4 * (suc n - 1 - i)) % 16)
-    by-test true e higher =
-        let k : i < n = ltb-true i n e in
-        let l : i < length (hexDigits n (x / 16)) = rw (digits-length n (x / 16)) k in
-        let m = 4 * (n - 1 - i) in
-        let s : 4 * (suc n - 1 - i) ≡ 4 + m = omega arith in
-        let d : x / 2 ^ (4 * (suc n - 1 - i)) ≡ x / 16 / 2 ^ m =
-        ap (λ (j : ℕ). x / 2 ^ j) s ∙ ap (λ (j : ℕ). x / j) (pow-add 2 4 m) ∙ sym (div-div-eq-div-mul x 16 (2 ^ m)) in
-        List·getD-append (hexDigits n (x / 16)) (digitOf (x % 16) ∷ []) 0 i l ∙ higher k ∙ ap (λ (j : ℕ). digitOf (j % 16)) (sym d)
-    by-test false e higher =
-        let k = ltb-false i n e in
-        let l = digits-length n (x / 16) in
-        let p : i ≡ length (hexDigits n (x / 16)) + 0 = omega arith in
-        let q : 4 * (suc n - 1 - i) ≡ 0 = omega arith in
-        let d : x / 1 ≡ x = omega arith in
-        ap (λ (j : ℕ). getD (hexDigits n (x / 16) ++ (digitOf (x % 16) ∷ [])) j 0) p ∙ getD-append-add (hexDigits n (x / 16)) (digitOf (x % 16) ∷ []) 0 0
-        ∙ ap (λ (j : ℕ). digitOf (j % 16)) (sym d) ∙ ap (λ (j : ℕ). digitOf (x / 2 ^ j % 16)) (sym q)
+use Rattle.printing.specs.Printing.{space, word, refusedWord, refusedText, detail, described, printedName, blankText, printedText, nameOfRead}
 
 -- ## How long the details are
 
 pub spaced-length : (n x : ℕ) → length (space ∷ hexDigits n x) ≡ suc n
-spaced-length n x = ap suc (digits-length n x)
+spaced-length n x = ap suc (digits-length 16 n x)
 
 pub pad-length : (code raw : ℕ) → length (detail Pad code raw) ≡ 22
-pad-length code raw = length-append (space ∷ hexDigits 16 code) (space ∷ hexDigits 4 raw) ∙ rw (digits-length 16 code, digits-length 4 raw)
+pad-length code raw = length-append (space ∷ hexDigits 16 code) (space ∷ hexDigits 4 raw) ∙ rw (digits-length 16 16 code, digits-length 16 4 raw)
 
 -- nothing laid, by the place behind it
 pub place-none : (at : ℕ) → at ≡ at + 0
@@ -82,25 +55,53 @@ detail-length Nobody code raw = lit≤ tt
 detail-length Pad code raw = let l = pad-length code raw in omega arith
 detail-length Other code raw = lit≤ tt
 
-pub described-length : (n : Named) → length (described n) ≤ 28
-described-length n = by-test (eqb (n .refusal) accepted) (ltb (n .refusal) 10)
+-- the number of a refusal has at most three digits
+module _ (n : ℕ) (small : n < 256) where
+  refused-length : length (refusedText n) ≤ 11
+  refused-length =
+      let d = decimal-length n in
+      let m = decimal-most n 2 (omega arith) in
+      rw (length-append refusedWord (decimal n)) (omega arith)
+
+  -- the text of a refusal, laid in two parts
+  module _ (s : List ℕ) (room : 28 ≤ length s) where
+    behind : 8 + length (decimal n) ≤ length s
+    behind = let d = decimal-length n in let m = decimal-most n 2 (omega arith) in omega arith
+
+    pub refused-laid : layLeaves (layLeaves s 0 refusedWord) 8 (decimal n) ≡ laid s 0 (refusedText n)
+    refused-laid =
+        let first = lay-fits s 0 refusedWord (omega arith) .1 in
+        let second = behind in
+        rw first (lay-behind s 0 refusedWord (decimal n) 8 refl second)
+
+    pub refused-next : layAnswer (layLeaves s 0 refusedWord) 8 (decimal n) .next ≡ length (refusedText n)
+    refused-next =
+        let first = lay-fits s 0 refusedWord (omega arith) .1 in
+        let size = laid-length s 0 refusedWord (omega arith) in
+        let fits = behind in
+        let room-left : 8 + length (decimal n) ≤ length (laid s 0 refusedWord) = omega arith in
+        rw (first, lay-fits (laid s 0 refusedWord) 8 (decimal n) room-left .0) (sym (length-append refusedWord (decimal n)))
+
+pub described-length : (n : Named) → n .refusal < 256 → length (described n) ≤ 28
+described-length n small = by-test (eqb (n .refusal) accepted)
   where
-    by-test : (t u : Bool)
-        → length (if t then word (n .name) ++ detail (n .name) (n .code) (n .raw) else refusedWord ++ (if u then digitOf (n .refusal % 10) ∷ [] else digitOf (n .refusal / 10 % 10) ∷ digitOf (n .refusal % 10) ∷ [])) ≤ 28
-    by-test true u =
+    by-test : (t : Bool) → length (if t then word (n .name) ++ detail (n .name) (n .code) (n .raw) else refusedText (n .refusal)) ≤ 28
+    by-test true =
         let w = word-length (n .name) in let d = detail-length (n .name) (n .code) (n .raw) in
         rw (length-append (word (n .name)) (detail (n .name) (n .code) (n .raw))) (omega arith)
-    by-test false true = lit≤ tt
-    by-test false false = lit≤ tt
+    by-test false = let l = refused-length (n .refusal) small in omega arith
 
--- ## The text of a name or a refusal, laid in two parts
+-- ## The text of a name, laid in two parts
 
 module _ (s : List ℕ) (n : Named) (room : 28 ≤ length s) where
-  pub refused-laid : (n .refusal ≡ accepted → ⊥)
-      → (8 + length (decimal (n .refusal)) ≡ length (described n)) × (laid (laid s 0 refusedWord) 8 (decimal (n .refusal)) ≡ laid s 0 (described n))
-  refused-laid h =
-      let z : 8 ≤ length s = omega arith in
-      rw (ne-eqb (n .refusal) accepted h) (sym (length-append refusedWord (decimal (n .refusal))), laid-then s 0 refusedWord (decimal (n .refusal)) 8 refl z)
+  word-fits : 0 + length (word (n .name)) ≤ length s
+  word-fits = let l = word-length (n .name) in omega arith
+
+  pub word-next : layAnswer s 0 (word (n .name)) .next ≡ 0 + length (word (n .name))
+  word-next = rw (lay-fits s 0 (word (n .name)) word-fits .0)
+
+  pub word-laid : layLeaves s 0 (word (n .name)) ≡ laid s 0 (word (n .name))
+  word-laid = lay-fits s 0 (word (n .name)) word-fits .1
 
   pub named-laid : (e : ℕ) → n .refusal ≡ accepted → e ≡ 0 + length (word (n .name))
       → (e + length (detail (n .name) (n .code) (n .raw)) ≡ length (described n))
@@ -113,13 +114,16 @@ module _ (s : List ℕ) (n : Named) (room : 28 ≤ length s) where
       let a : e + length d ≡ length (w ++ d) = rw (length-append w d) (omega arith) in
       rw (eq-eqb (n .refusal) accepted h) (a, laid-then s 0 w d e (sym k) z)
 
+  pub refused-described : (n .refusal ≡ accepted → ⊥) → refusedText (n .refusal) ≡ described n
+  refused-described h = rw (ne-eqb (n .refusal) accepted h)
+
 -- ## A printed line in the front of 32 bytes
 
-pub text-made : (n : Named) (s : List ℕ) (e : ℕ) → e ≡ length (described n) → s ≡ laid blankText 0 (described n)
+pub text-made : (n : Named) → n .refusal < 256 → (s : List ℕ) (e : ℕ) → e ≡ length (described n) → s ≡ laid blankText 0 (described n)
     → _≡_ {A = Text} record { bytes = set s e lineFeed; count = e + 1 } (printedText n)
 unfolding printedName
-text-made n s e k h =
-    let l = described-length n in
+text-made n small s e k h =
+    let l = described-length n small in
     let p : 0 + length (described n) ≡ e = omega arith in
     let r : e < length blankText = omega arith in
     let b : set s e lineFeed ≡ laid blankText 0 (described n ++ (lineFeed ∷ [])) =
@@ -127,13 +131,13 @@ text-made n s e k h =
     let c : e + 1 ≡ length (described n ++ (lineFeed ∷ [])) = rw (length-append (described n) (lineFeed ∷ [])) (omega arith) in
     rw (b, c)
 
-pub printed-length : (n : Named) → length (printedName n) ≤ 29
+pub printed-length : (n : Named) → n .refusal < 256 → length (printedName n) ≤ 29
 unfolding printedName
-printed-length n = let l = described-length n in rw (length-append (described n) (lineFeed ∷ [])) (omega arith)
+printed-length n small = let l = described-length n small in rw (length-append (described n) (lineFeed ∷ [])) (omega arith)
 
-pub text-fits : (n : Named) → printedText n .count ≤ length (printedText n .bytes)
-text-fits n =
-    let l = printed-length n in
+pub text-fits : (n : Named) → n .refusal < 256 → printedText n .count ≤ length (printedText n .bytes)
+text-fits n small =
+    let l = printed-length n small in
     let r : 0 + length (printedName n) ≤ length blankText = omega arith in
     let k = laid-length blankText 0 (printedName n) r in
     omega arith
@@ -143,27 +147,15 @@ text-read n =
     let z : printedText n .count - 0 ≡ length (printedName n) = omega arith in
     ap (λ (k : ℕ). take k (laid blankText 0 (printedName n))) z ∙ laid-read blankText 0 (printedName n) (omega arith)
 
--- ## The three ways in which laying a text can end
-
-module _ (out : List ℕ) (at : ℕ) (x : List ℕ) where
-  pub lay-short : length out < at + length x → (record { refusal = noRoom; next = 0 } ≡ layAnswer out at x) × (out ≡ layLeaves out at x)
-  lay-short h = rw (lt-leb (at + length x) (length out) h) (refl, refl)
-
-  pub lay-done : (n : ℕ) → n ≡ length x → at + n ≤ length out
-      → (record { refusal = accepted; next = at + n } ≡ layAnswer out at x) × (laid out at x ≡ layLeaves out at x)
-  lay-done n e h =
-      let k : at + length x ≤ length out = omega arith in
-      rw (le-leb (at + length x) (length out) k) (rw e refl, refl)
-
 -- ## A reader's answer, named
 
-pub line-read : (next : ℕ) (l : Line) → nameOfRead (answered next (readLine l)) ≡ lineNamed l
+pub line-read : (next : ℕ) (l : Line) → nameOfRead (answerOf (found (readLine l) next)) ≡ lineNamed l
 unfolding readLine readDigits
-line-read next l = by-test (ltb longest (length (l .chars))) (all isDigit (l .chars) && l .fed) (wellFormed (l .chars))
+line-read next l = by-test (ltb longest (length (l .chars))) (spells 16 (l .chars) && l .fed) (wellFormed (l .chars))
   where
     by-test : (t u v : Bool) →
         let r = if t then noFrame malformed else if u then (if v then carries (frameIn (l .chars)) else noFrame malformed) else noFrame notHex in
-        nameOfRead (answered next r) ≡ readNamed r
+        nameOfRead (answerOf (found r next)) ≡ readNamed r
     by-test true u v = refl
     by-test false true true = refl
     by-test false true false = refl

@@ -1,18 +1,24 @@
 -- What is printed for one line of a recording (the scope, "Frames"): the name; for SEARCH, ALARM and PAD a space and the sixteen digits of the
 -- code, high byte first; for PAD also a space and the four digits of the raw reading, byte 1 first; or REFUSED, a space and the number. A line
 -- feed ends it.
+--     word n                 the scope's word for a name
+--     detail n code raw      what stands behind the word
+--     refusedText n          REFUSED and the number
+--     described n            the text of a name or a refusal
+--     printedName n          the same as a line
+--     printedLine l          what is printed for a line
 -- Assumes nothing.
-use Prim.Native.Nat.{ℕ, _+_, _/_, _%_}
+use Prim.Native.Nat.{ℕ}
 use mathlib.Core.List.{List, [], _∷_, _++_}
-use lib.Dec.{eqb, leb, ltb}
+use lib.Dec.{eqb}
 use lib.ListN.{length, replicate}
 use Rattle.lists.specs.Choice.{if_then_else_}
 use Rattle.lists.specs.Laid.{laid}
-use Rattle.refusals.specs.Refusals.{accepted, noRoom}
-use Rattle.frame.specs.declared.LineRead.{LineRead}
-use Rattle.laying.specs.declared.Written.{Written}
-use Rattle.text.specs.Digits.{digitOf, hexDigits}
+use Rattle.refusals.specs.Refusals.{accepted}
+use Rattle.text.specs.Digits.{hexDigits, codeDigits}
+use Rattle.text.specs.Decimal.{decimal}
 use Rattle.text.specs.Lines.{Line, lineFeed}
+use Rattle.frame.specs.declared.LineRead.{LineRead}
 use Rattle.naming.specs.Naming.{named, refusedName, lineNamed}
 use Rattle.naming.specs.declared.Name.{Name}
 use Rattle.naming.specs.declared.Name.the-variants.{Empty, Search, Alarm, Nobody, Pad, Other}
@@ -35,24 +41,22 @@ refusedWord = 0x52 ∷ 0x45 ∷ 0x46 ∷ 0x55 ∷ 0x53 ∷ 0x45 ∷ 0x44 ∷ 0x2
 abbrev pub space : ℕ
 space = 0x20
 
--- a number below 100 in decimal, without a leading zero
-abbrev pub decimal : ℕ → List ℕ
-decimal n = if ltb n 10 then digitOf (n % 10) ∷ [] else digitOf (n / 10 % 10) ∷ digitOf (n % 10) ∷ []
-
 -- what stands behind the word: the code of a pass, the code and the reading of a scratchpad, nothing for the others
 abbrev pub detail : Name → ℕ → ℕ → List ℕ
 detail Empty code raw = []
-detail Search code raw = space ∷ hexDigits 16 code
-detail Alarm code raw = space ∷ hexDigits 16 code
+detail Search code raw = space ∷ codeDigits code
+detail Alarm code raw = space ∷ codeDigits code
 detail Nobody code raw = []
-detail Pad code raw = (space ∷ hexDigits 16 code) ++ (space ∷ hexDigits 4 raw)
+detail Pad code raw = (space ∷ codeDigits code) ++ (space ∷ hexDigits 4 raw)
 detail Other code raw = []
+
+-- REFUSED and the number, which has as many digits as it needs
+abbrev pub refusedText : ℕ → List ℕ
+refusedText n = refusedWord ++ decimal n
 
 -- the text of a name or a refusal
 abbrev pub described : Named → List ℕ
-described n =
-    if eqb (n .refusal) accepted then word (n .name) ++ detail (n .name) (n .code) (n .raw)
-    else refusedWord ++ decimal (n .refusal)
+described n = if eqb (n .refusal) accepted then word (n .name) ++ detail (n .name) (n .code) (n .raw) else refusedText (n .refusal)
 
 -- the same as a line
 unfoldable pub printedName : Named → List ℕ
@@ -62,24 +66,16 @@ printedName n = described n ++ (lineFeed ∷ [])
 abbrev pub printedLine : Line → List ℕ
 printedLine l = printedName (lineNamed l)
 
+-- ## As the code holds it
+
 -- 32 zeros
 abbrev pub blankText : List ℕ
 blankText = replicate 32 0
 
--- the printed line as the code holds it, in the front of 32 bytes
-abbrev pub textOf : Named → Text
-textOf n = record { bytes = laid blankText 0 (printedName n); count = length (printedName n) }
+-- the printed line in the front of 32 bytes
+abbrev pub printedText : Named → Text
+printedText n = record { bytes = laid blankText 0 (printedName n); count = length (printedName n) }
 
 -- the name of a reader's answer
 abbrev pub nameOfRead : LineRead → Named
 nameOfRead r = if eqb (r .refusal) accepted then named (r .frame) else refusedName (r .refusal)
-
--- ## Text laid into a buffer at a place, where there is room for it
-
--- the place behind the text, or refusal 1
-abbrev pub layAnswer : List ℕ → ℕ → List ℕ → Written
-layAnswer out at text = if leb (at + length text) (length out) then record { refusal = accepted; next = at + length text } else record { refusal = noRoom; next = 0 }
-
--- the buffer with the text, or as it was
-abbrev pub layLeaves : List ℕ → ℕ → List ℕ → List ℕ
-layLeaves out at text = if leb (at + length text) (length out) then laid out at text else out

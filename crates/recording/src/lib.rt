@@ -12,7 +12,7 @@ pub struct Reader<'a> {
 
 // A reader at the first line.
 pub fn open<'a>(bytes: &'a [u8]) -> Reader<'a>
-    ensures made { λ r. ⌜ (r .bytes ≡ bytes .entry) × (r .at ≡ 0) ⌝ }
+    ensures answer { λ r. ⌜ (r .bytes ≡ bytes .entry) × (r .at ≡ 0) ⌝ }
 {
     Reader { bytes, at: 0 }
 }
@@ -21,12 +21,12 @@ pub fn open<'a>(bytes: &'a [u8]) -> Reader<'a>
 pub fn next<'a>(r: Reader<'a>) -> LineRead
     ensures answer { λ a. ⌜ a ≡ lineReadAt (now (r .entry .bytes)) (r .entry .at) ⌝ }
 {
-    frame::read_at(r.bytes, r.at)
+    frame::read_line_at(r.bytes, r.at)
 }
 
 // The same recording at another place, such as the one that `next` answered.
 pub fn moved<'a>(r: Reader<'a>, at: usize) -> Reader<'a>
-    ensures made { λ q. ⌜ (q .bytes ≡ r .entry .bytes) × (q .at ≡ at) ⌝ }
+    ensures answer { λ q. ⌜ (q .bytes ≡ r .entry .bytes) × (q .at ≡ at) ⌝ }
 {
     Reader { bytes: r.bytes, at }
 }

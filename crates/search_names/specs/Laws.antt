@@ -21,7 +21,8 @@ use Rattle.frame.specs.FramesLaws.{recorded-all, blank-held, blank-lineable}
 use Rattle.naming.specs.declared.Name.{Name}
 use Rattle.naming.specs.declared.Name.the-variants.{Search, Alarm}
 use Rattle.naming.specs.Naming.{named, tripleAllowed, triplesAllowed, thirds, readNamed, lineNamed}
-use Rattle.naming.specs.Passes.{lists, Listing, search-named, alarm-named, nobody-named, empty-named}
+use Rattle.naming.specs.Passes.{lists, Listing}
+use Rattle.naming.specs.PassesLaws.{search-named, alarm-named, nobody-named, empty-named}
 use Rattle.search_law.specs.Codes.{Code}
 use Rattle.lists.specs.ChoiceLaws.{beq-true, beq-false}
 use Rattle.lists.specs.Each.{Each, Along}

@@ -1,4 +1,2 @@
 pub mod Streaming
 pub mod Laws
-pub mod Cuts
-pub mod Ends

@@ -2,20 +2,20 @@
 --     decimal-read           the number of the digits of a number
 --     decimal-written        plain decimal read and written again is the same
 -- Assumes nothing.
-use Prim.Native.Nat.{ℕ, zero, suc, _+_, _*_, _/_, _^_, _<_, _≤_}
+use Prim.Native.Nat.{ℕ, zero, suc, _+_, _/_, _^_, _<_, _≤_}
 use mathlib.Core.Path.{_≡_, refl, sym, ap, _∙_}
 use mathlib.Core.Bool.{Bool, true, false, not, _&&_, _||_, false≢true}
 use mathlib.Core.List.{List, [], _∷_}
 use native.Mathlib.Omega.{arith}
 use native.Mathlib.Nat.{pow-suc, pow-le-pow-right}
-use borrow.Author.Tests.{lt-ltb, le-ltb, leb-true, ltb-true, ltb-false, eqb-true, eqb-false, ne-eqb, not-true}
+use borrow.Author.Tests.{lt-ltb, le-ltb, ltb-true, ltb-false, eqb-true, eqb-false, ne-eqb, not-true}
 use lib.Dec.{eqb, leb, ltb, lit<}
-use lib.ListN.{length, getD}
+use lib.ListN.{length}
 use Rattle.lists.specs.Choice.{if_then_else_}
 use Rattle.lists.specs.ChoiceLaws.{and-left, and-right}
 use Rattle.lists.specs.Fold.{fold, all}
 use Rattle.text.specs.Digits.{digits, digitOf, valueOf, isDigit, spells, numberIn, thenDigit}
-use Rattle.text.specs.DigitsLaws.{digits-length, digits-are, number-digits, digits-number, number-below, digit-value}
+use Rattle.text.specs.DigitsLaws.{digits-length, number-digits, digits-number, number-below, digit-value}
 use Rattle.text.specs.Decimal.{lengthWithin, decimalLength, decimal, decimalIn, plainDecimal}
 
 -- ## How many digits
@@ -106,10 +106,6 @@ decimal-digits x n e = ap (λ (k : ℕ). digits 10 k x) e
 pub decimal-read : (x : ℕ) → decimalIn (decimal x) ≡ x
 unfolding decimal
 decimal-read x = number-digits 10 (lit< tt) (omega arith) (decimalLength x) x (within-below x x (omega arith))
-
-pub decimal-plain : (x : ℕ) → spells 10 (decimal x) ≡ true
-unfolding decimal
-decimal-plain x = digits-are 10 (lit< tt) (omega arith) (decimalLength x) x
 
 -- a number that starts at 10 ^ k or above, and more digits behind it
 fold-least : (cs : List ℕ) (x k : ℕ) → 10 ^ k ≤ x → 10 ^ (k + length cs) ≤ fold (thenDigit 10) x cs

@@ -8,16 +8,14 @@ use mathlib.Core.Path.{_≡_, refl, sym, ap, _∙_}
 use mathlib.Core.Bool.{Bool, true, false, _&&_, false≢true}
 use mathlib.Core.List.{List, [], _∷_, _++_, append-assoc, append-nil}
 use native.Mathlib.Omega.{arith}
-use native.Mathlib.Nat.{pow-suc, pow-succ', pow-zero, mod-lt, mod-eq-of-lt, div-add-mod, div-eq-of-lt, mul-add-div, mul-add-mod-self-left, div-lt-iff-lt-mul, mul-le-mul-left, mul-suc, le-of-lt}
+use native.Mathlib.Nat.{pow-suc, pow-succ', pow-zero, mod-lt, mod-eq-of-lt, div-add-mod, div-eq-of-lt, mul-add-div, mul-add-mod-self-left, div-lt-iff-lt-mul, mul-le-mul-left, mul-suc}
 use native.Mathlib.Numerals.{add-one}
 use borrow.Author.Tests.{lt-ltb, le-ltb, le-leb, lt-leb, leb-true, ltb-true, ltb-false}
 use lib.Dec.{ltb, leb, lit<}
-use lib.ListN.{length, take, drop, getD, length-append}
-use lib.Seq.{take-suc, length-take-le, take-length}
+use lib.ListN.{length, take, getD, length-append}
+use lib.Seq.{take-suc, take-length}
 use Rattle.lists.specs.Fold.{fold, all}
 use Rattle.lists.specs.FoldLaws.{fold-append, fold-step, all-append, all-at}
-use Rattle.lists.specs.Laid.{laid}
-use Rattle.lists.specs.LaidLaws.{laid-more}
 use Rattle.bits.specs.Bytes.{Bytes}
 use Rattle.lists.specs.ChoiceLaws.{and-left, and-right}
 use Rattle.text.specs.Digits.{digitOf, valueOf, isDigit, spells, digits, hexDigits, thenDigit, numberIn, hexOf, bytesOf, codeDigits}

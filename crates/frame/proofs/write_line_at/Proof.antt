@@ -20,10 +20,10 @@ long c = simp length-map at (c .good .1 .1 .0 .1 .1 .1 .1 .0 .1 .0 .1)
 sound : (c : tie.Else1) → lineable (c .before .before .before .args .f) ≡ true
 sound c = sym (c .before .can-carry .ensures) ∙ not-false (c .before .can-carry .result) (c .if1 .left)
 
-wide : (c : tie.After-bytes-for) → 7 + 2 * c .bytes-for .result ≡ length (fedLine (c .before .before .before .before .args .f))
+wide : (c : tie.After-bytes-for) → length (fedLine (c .before .before .before .before .args .f)) ≡ 7 + 2 * c .bytes-for .result
 wide c =
     let a = c .before .before .before .before in
-    rw (c .bytes-for .ensures) (sym (fed-length (a .args .f) (long a) (sound (c .before))))
+    rw (c .bytes-for .ensures) (fed-length (a .args .f) (long a) (sound (c .before)))
 
 -- behind the second there is room
 room-there : (c : tie.Else2) →
@@ -71,7 +71,7 @@ returns-2 c =
     let room = c .before .before in
     let width = room .before .before in
     let a = width .before .before .before .before .args in
-    let short = write-short (now (a .s)) (a .at) (a .f) (sound (width .before)) (7 + 2 * width .bytes-for .result) (wide width) (sym (room .has-room .ensures) ∙ not-true (room .has-room .result) (c .before .if2 .taken)) in
+    let short = write-short (now (a .s)) (a .at) (a .f) (7 + 2 * width .bytes-for .result) (sound (width .before)) (wide width) (sym (room .has-room .ensures) ∙ not-true (room .has-room .result) (c .before .if2 .taken)) in
     (c .refuse-write2 .ensures ∙ short .0, short .1)
 
 put-line-requires : tie.Need-put-line-requires
@@ -96,7 +96,7 @@ returns-3 c =
     let room = put .before .before in
     let width = room .before .before .before in
     let a = width .before .before .before .before .args in
-    let done = write-done (now (a .s)) (a .at) (a .f) (sound (width .before)) (7 + 2 * width .bytes-for .result) (wide width) (room-there room) in
+    let done = write-done (now (a .s)) (a .at) (a .f) (7 + 2 * width .bytes-for .result) (sound (width .before)) (wide width) (room-there room) in
     (done .0, put .put-line .ensures ∙ done .1)
 
 pub write-line-at-spec : {M : Type 1} → statement M

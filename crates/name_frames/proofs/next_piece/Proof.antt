@@ -1,6 +1,16 @@
--- What is read stands within the buffer, and so does what is carried over. Assumes nothing.
+-- What is read stands behind the bytes that are carried, and what is carried over afterwards is what the piece that they make leaves. Assumes nothing.
+use Prim.Native.Nat.{_+_, _*_, _-_, _/_, _≤_}
+use mathlib.Core.Path.{_≡_, sym, ap, _∙_}
+use mathlib.Core.List.{_++_}
 use native.Mathlib.Omega.{arith}
-use lib.ListN.{length-take}
+use denote.Ref.{now}
+use lib.Dec.{lit<}
+use lib.ListN.{length, take, drop, length-take}
+use lib.Seq.{length-take-le}
+use Rattle.pieces.specs.Pieces.{carried, ended, fed}
+use Rattle.pieces.specs.Walk.{front-carried, read-behind, room-part}
+use Rattle.printing.specs.Printing.{printedLine}
+use Rattle.streaming.specs.Streaming.{mostPrinted, longestCarried}
 use borrow.Author.Needs.{needs}
 use Rattle.name_frames.proofs.next_piece.Statement.{statement}
 use Rattle.name_frames.proofs.next_piece.Tie as tie
@@ -12,7 +22,9 @@ same-length : tie.Need-same-length
 same-length c = search needs
 
 returns : tie.Need-returns
-returns c = search needs
+returns c =
+    let read = c .before .before .before in
+    (read .before .before .before .before .pre .0, ended (read .read-behind .ensures .1))
 
 slice-relend-prefix-print-piece : tie.Need-slice-relend-prefix-print-piece
 slice-relend-prefix-print-piece c = search needs
@@ -31,11 +43,23 @@ same-length-3 c = search needs
 
 returns-2 : tie.Need-returns-2
 returns-2 c =
-    let p = c .before .before .before .before in
-    let h = simp length-take at (p .print-piece .ensures) in
-    let f = slice-relend-prefix-print-piece (p .before .before .before) in
-    let k = p .before .before .before .before .before .before .read-behind .kept .0 in
-    omega arith
+    let printed = c .before .before .before .before in
+    let read = printed .before .before .before .before .before .before in
+    let a = read .before .before .before .before in
+    let held = a .args .held in
+    let filled = read .read-behind .result in
+    let before = now (a .args .buffer) in
+    let after = read .read-behind .last .0 in
+    let s = take filled after in
+    let within = read .read-behind .ensures .0 .1 in
+    let same = read .read-behind .kept .0 in
+    let size : length s ≡ filled = length-take-le filled after (omega arith) in
+    let wide = a .pre .1 in
+    let room : length s ≤ length (now (a .args .text)) / mostPrinted = room-part mostPrinted (length s) (length (now (a .args .text))) (lit< tt) (omega arith) in
+    let left = front-carried printedLine mostPrinted longestCarried s (now (a .args .text)) room (printed .print-piece .result .held) (printed .print-piece .last .0) (drop filled after) (printed .print-piece .ensures .0 .0) (printed .print-piece .ensures .1 .0) in
+    let piece = read-behind before after held filled (read .read-behind .ensures .0 .0) (read .read-behind .ensures .1) in
+    let few = printed .print-piece .ensures .0 .1 in
+    (omega arith, fed (take (filled - held) (drop held after)) (left ∙ ap (carried longestCarried) piece))
 
 pub next-piece-spec : {M : Type 1} → statement M
 next-piece-spec =

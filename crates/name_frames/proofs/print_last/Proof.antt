@@ -1,4 +1,4 @@
--- The text stands within its buffer. Assumes nothing.
+-- What is printed stands at the front of the text, within it. Assumes nothing.
 use native.Mathlib.Omega.{arith}
 use lib.ListN.{length-take}
 use borrow.Author.Needs.{needs}

@@ -1,6 +1,8 @@
--- The text stands within its buffer. Assumes nothing.
+-- What is printed stands at the front of the text, within it, and what is carried over within the piece. Assumes nothing.
+use mathlib.Core.Path.{ap}
 use native.Mathlib.Omega.{arith}
 use lib.ListN.{length-take}
+use Rattle.pieces.specs.declared.Fed.{Fed}
 use borrow.Author.Needs.{needs}
 use Rattle.name_frames.proofs.print_piece.Statement.{statement}
 use Rattle.name_frames.proofs.print_piece.Tie as tie
@@ -24,7 +26,9 @@ same-length-2 : tie.Need-same-length-2
 same-length-2 c = search needs
 
 returns : tie.Need-returns
-returns c = search needs
+returns c =
+    let fed = c .before .before .before .before .before .before in
+    ((ap (λ (f : Fed). f .held) (fed .feed .ensures .0 .0), fed .feed .ensures .0 .1 .carries), fed .feed .ensures .1)
 
 pub print-piece-spec : {M : Type 1} → statement M
 print-piece-spec =

@@ -14,7 +14,7 @@ name-frame-requires : tie.Need-name-frame-requires
 name-frame-requires c κs = search needs
 
 returns-2 : tie.Need-returns-2
-returns-2 c = simp (eq-eqb _ _ (c .before .before .if1 .left), c .name-frame .ensures)
+returns-2 c = simp (eq-eqb _ _ (c .before .before .if1 .left), c .name-frame .ensures .0)
 
 pub name-read-spec : {M : Type 1} → statement M
 name-read-spec = tie.close (tie.spec refuse-requires returns name-frame-requires returns-2)

@@ -5,7 +5,8 @@ use mathlib.Core.List.{[], _∷_}
 use native.Mathlib.Omega.{arith}
 use denote.Ref.{now}
 use lib.ListN.{length, length-set}
-use Rattle.lists.specs.LaidLaws.{laid-sets, laid-then}
+use Rattle.lists.specs.LaidLaws.{laid-sets}
+use Rattle.laying.specs.LayingLaws.{lay-behind}
 use Rattle.text.specs.Digits.{hexDigits}
 use Rattle.text.specs.DigitsLaws.{digits-length}
 use Rattle.printing.specs.Printing.{space}
@@ -16,25 +17,27 @@ use Rattle.printing.proofs.put_spaced.Tie as tie
 slice-write-s : tie.Need-slice-write-s
 slice-write-s c = search needs
 
-add-put-digits : tie.Need-add-put-digits
-add-put-digits c = search needs
+add-lay-hex : tie.Need-add-lay-hex
+add-lay-hex c = search needs
 
-put-digits-requires : tie.Need-put-digits-requires
-put-digits-requires c κs = simp length-set (search needs)
+lay-hex-requires : tie.Need-lay-hex-requires
+lay-hex-requires c κs = search needs
 
 same-length : tie.Need-same-length
-same-length c = c .before .before .put-digits .kept .0 ∙ simp length-set
+same-length c = c .before .before .lay-hex .kept .0 ∙ simp length-set
 
 returns : tie.Need-returns
 returns c =
-    let d = c .before .before in
-    let a = d .before .before .before in
+    let digits = c .before .before in
+    let a = digits .before .before .before in
+    let s = now (a .args .s) in
+    let at = a .args .at in
     let x = hexDigits (a .args .count) (a .args .number) in
-    let l = digits-length (a .args .count) (a .args .number) in
-    let h : a .args .at + 1 ≤ length (now (a .args .s)) = omega arith in
-    let one = laid-sets (now (a .args .s)) (a .args .at) (space ∷ []) h in
-    d .put-digits .ensures ∙ rw one (laid-then (now (a .args .s)) (a .args .at) (space ∷ []) x (a .args .at + 1) refl h)
+    let size = digits-length 16 (a .args .count) (a .args .number) in
+    let room : at + 1 ≤ length s = omega arith in
+    let one = laid-sets s at (space ∷ []) room in
+    let both : at + 1 + length x ≤ length s = let r = a .pre in omega arith in
+    digits .lay-hex .ensures .1 ∙ rw one (lay-behind s at (space ∷ []) x (at + 1) refl both)
 
 pub put-spaced-spec : {M : Type 1} → statement M
-put-spaced-spec =
-    tie.close (tie.spec slice-write-s add-put-digits put-digits-requires same-length returns)
+put-spaced-spec = tie.close (tie.spec slice-write-s add-lay-hex lay-hex-requires same-length returns)

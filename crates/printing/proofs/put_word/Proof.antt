@@ -1,5 +1,4 @@
 -- Each arm lays the characters of its word. Assumes nothing.
-use mathlib.Core.Path.{refl}
 use borrow.Author.Needs.{needs}
 use Rattle.printing.proofs.put_word.Statement.{statement}
 use Rattle.printing.proofs.put_word.Tie as tie
@@ -7,139 +6,115 @@ use Rattle.printing.proofs.put_word.Tie as tie
 enum-told : tie.Need-enum-told
 enum-told c = search needs
 
-slice-aggregate-put-text : tie.Need-slice-aggregate-put-text
-slice-aggregate-put-text c = search needs
+slice-aggregate-lay : tie.Need-slice-aggregate-lay
+slice-aggregate-lay c = search needs
 
-put-text-requires : tie.Need-put-text-requires
-put-text-requires c κs = search needs
-
-add-result : tie.Need-add-result
-add-result c = search needs
+lay-requires : tie.Need-lay-requires
+lay-requires c κs = search needs
 
 enum-told-2 : tie.Need-enum-told-2
 enum-told-2 c = search needs
 
-slice-aggregate-put-text-2 : tie.Need-slice-aggregate-put-text-2
-slice-aggregate-put-text-2 c = search needs
+slice-aggregate-lay-2 : tie.Need-slice-aggregate-lay-2
+slice-aggregate-lay-2 c = search needs
 
-put-text-requires-2 : tie.Need-put-text-requires-2
-put-text-requires-2 c κs = search needs
-
-add-result-2 : tie.Need-add-result-2
-add-result-2 c = search needs
+lay-requires-2 : tie.Need-lay-requires-2
+lay-requires-2 c κs = search needs
 
 enum-told-3 : tie.Need-enum-told-3
 enum-told-3 c = search needs
 
-slice-aggregate-put-text-3 : tie.Need-slice-aggregate-put-text-3
-slice-aggregate-put-text-3 c = search needs
+slice-aggregate-lay-3 : tie.Need-slice-aggregate-lay-3
+slice-aggregate-lay-3 c = search needs
 
-put-text-requires-3 : tie.Need-put-text-requires-3
-put-text-requires-3 c κs = search needs
-
-add-result-3 : tie.Need-add-result-3
-add-result-3 c = search needs
+lay-requires-3 : tie.Need-lay-requires-3
+lay-requires-3 c κs = search needs
 
 enum-told-4 : tie.Need-enum-told-4
 enum-told-4 c = search needs
 
-slice-aggregate-put-text-4 : tie.Need-slice-aggregate-put-text-4
-slice-aggregate-put-text-4 c = search needs
+slice-aggregate-lay-4 : tie.Need-slice-aggregate-lay-4
+slice-aggregate-lay-4 c = search needs
 
-put-text-requires-4 : tie.Need-put-text-requires-4
-put-text-requires-4 c κs = search needs
-
-add-result-4 : tie.Need-add-result-4
-add-result-4 c = search needs
+lay-requires-4 : tie.Need-lay-requires-4
+lay-requires-4 c κs = search needs
 
 enum-told-5 : tie.Need-enum-told-5
 enum-told-5 c = search needs
 
-slice-aggregate-put-text-5 : tie.Need-slice-aggregate-put-text-5
-slice-aggregate-put-text-5 c = search needs
+slice-aggregate-lay-5 : tie.Need-slice-aggregate-lay-5
+slice-aggregate-lay-5 c = search needs
 
-put-text-requires-5 : tie.Need-put-text-requires-5
-put-text-requires-5 c κs = search needs
-
-add-result-5 : tie.Need-add-result-5
-add-result-5 c = search needs
+lay-requires-5 : tie.Need-lay-requires-5
+lay-requires-5 c κs = search needs
 
 enum-told-6 : tie.Need-enum-told-6
 enum-told-6 c = search needs
 
-slice-aggregate-put-text-6 : tie.Need-slice-aggregate-put-text-6
-slice-aggregate-put-text-6 c = search needs
+slice-aggregate-lay-6 : tie.Need-slice-aggregate-lay-6
+slice-aggregate-lay-6 c = search needs
 
-put-text-requires-6 : tie.Need-put-text-requires-6
-put-text-requires-6 c κs = search needs
-
-add-result-6 : tie.Need-add-result-6
-add-result-6 c = search needs
+lay-requires-6 : tie.Need-lay-requires-6
+lay-requires-6 c κs = search needs
 
 same-length : tie.Need-same-length
 same-length c = search needs
 
 returns : tie.Need-returns
-returns c = rw (c .before .before .before .before .before .enum-told .given .1) (refl, c .before .before .put-text .ensures)
+returns c = let laid = c .before .before in rw (laid .before .before .before .enum-told .given .1) (laid .lay .ensures)
 
 same-length-2 : tie.Need-same-length-2
 same-length-2 c = search needs
 
 returns-2 : tie.Need-returns-2
-returns-2 c = rw (c .before .before .before .before .before .enum-told2 .given .1) (refl, c .before .before .put-text2 .ensures)
+returns-2 c = let laid = c .before .before in rw (laid .before .before .before .enum-told2 .given .1) (laid .lay2 .ensures)
 
 same-length-3 : tie.Need-same-length-3
 same-length-3 c = search needs
 
 returns-3 : tie.Need-returns-3
-returns-3 c = rw (c .before .before .before .before .before .enum-told3 .given .1) (refl, c .before .before .put-text3 .ensures)
+returns-3 c = let laid = c .before .before in rw (laid .before .before .before .enum-told3 .given .1) (laid .lay3 .ensures)
 
 same-length-4 : tie.Need-same-length-4
 same-length-4 c = search needs
 
 returns-4 : tie.Need-returns-4
-returns-4 c = rw (c .before .before .before .before .before .enum-told4 .given .1) (refl, c .before .before .put-text4 .ensures)
+returns-4 c = let laid = c .before .before in rw (laid .before .before .before .enum-told4 .given .1) (laid .lay4 .ensures)
 
 same-length-5 : tie.Need-same-length-5
 same-length-5 c = search needs
 
 returns-5 : tie.Need-returns-5
-returns-5 c = rw (c .before .before .before .before .before .enum-told5 .given .1) (refl, c .before .before .put-text5 .ensures)
+returns-5 c = let laid = c .before .before in rw (laid .before .before .before .enum-told5 .given .1) (laid .lay5 .ensures)
 
 same-length-6 : tie.Need-same-length-6
 same-length-6 c = search needs
 
 returns-6 : tie.Need-returns-6
-returns-6 c = rw (c .before .before .before .before .before .enum-told6 .given .1) (refl, c .before .before .put-text6 .ensures)
+returns-6 c = let laid = c .before .before in rw (laid .before .before .before .enum-told6 .given .1) (laid .lay6 .ensures)
 
 pub put-word-spec : {M : Type 1} → statement M
 put-word-spec =
     tie.close
     (tie.spec
     enum-told
-    slice-aggregate-put-text
-    put-text-requires
-    add-result
+    slice-aggregate-lay
+    lay-requires
     enum-told-2
-    slice-aggregate-put-text-2
-    put-text-requires-2
-    add-result-2
+    slice-aggregate-lay-2
+    lay-requires-2
     enum-told-3
-    slice-aggregate-put-text-3
-    put-text-requires-3
-    add-result-3
+    slice-aggregate-lay-3
+    lay-requires-3
     enum-told-4
-    slice-aggregate-put-text-4
-    put-text-requires-4
-    add-result-4
+    slice-aggregate-lay-4
+    lay-requires-4
     enum-told-5
-    slice-aggregate-put-text-5
-    put-text-requires-5
-    add-result-5
+    slice-aggregate-lay-5
+    lay-requires-5
     enum-told-6
-    slice-aggregate-put-text-6
-    put-text-requires-6
-    add-result-6
+    slice-aggregate-lay-6
+    lay-requires-6
     same-length
     returns
     same-length-2

@@ -1,6 +1,9 @@
 -- The two ends of the call are the two cases of its definition. Assumes nothing.
 use denote.Ref.{now}
-use Rattle.streaming.specs.Ends.{feed-short, feed-done}
+use lib.Dec.{lit<}
+use Rattle.pieces.specs.Walk.{feed-short, feed-done}
+use Rattle.printing.specs.Printing.{printedLine}
+use Rattle.streaming.specs.Streaming.{mostPrinted, longestCarried}
 use borrow.Author.Needs.{needs}
 use Rattle.streaming.proofs.feed.Statement.{statement}
 use Rattle.streaming.proofs.feed.Tie as tie
@@ -8,7 +11,7 @@ use Rattle.streaming.proofs.feed.Tie as tie
 returns : tie.Need-returns
 returns c =
     let a = c .before .before .before in
-    feed-short (now (a .args .s)) (now (a .args .out)) (c .if1 .taken)
+    feed-short printedLine mostPrinted longestCarried (now (a .args .s)) (now (a .args .out)) (c .if1 .taken)
 
 print-whole-requires : tie.Need-print-whole-requires
 print-whole-requires c κs = search needs
@@ -27,7 +30,7 @@ returns-2 c =
     let k = c .before .before in
     let p = k .before .before .before .before in
     let a = p .before .before .before .before .before .before in
-    feed-done (now (a .args .s)) (now (a .args .out)) (p .before .before .before .if1 .left) (p .print-whole .result) (p .print-whole .ensures .0) (p .print-whole .last .1 .0) (p .print-whole .ensures .1) (k .keep-front .result) (k .keep-front .last .0) (k .keep-front .ensures .0) (k .keep-front .ensures .1)
+    feed-done printedLine mostPrinted (lit< tt) (now (a .args .s)) (now (a .args .out)) (p .before .before .before .if1 .left) (p .print-whole .result) (p .print-whole .ensures .0) (p .print-whole .last .1 .0) (p .print-whole .ensures .1) longestCarried (k .keep-front .result) (k .keep-front .last .0) (k .keep-front .ensures .0) (k .keep-front .ensures .1)
 
 pub feed-spec : {M : Type 1} → statement M
 feed-spec =

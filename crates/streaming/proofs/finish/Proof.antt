@@ -1,6 +1,10 @@
 -- The three ends of the call: no room, a last line without a feed, and none. Assumes nothing.
 use denote.Ref.{now}
-use Rattle.streaming.specs.Ends.{part-all, finish-short, finish-open, finish-whole}
+use lib.Dec.{lit<}
+use Rattle.pieces.specs.Walk.{finish-short, finish-open, finish-whole}
+use Rattle.printing.specs.Printing.{printedLine}
+use Rattle.streaming.specs.Streaming.{mostPrinted, longestCarried}
+use Rattle.streaming.specs.Laws.{text-short, part-all}
 use borrow.Author.Needs.{needs}
 use Rattle.streaming.proofs.finish.Statement.{statement}
 use Rattle.streaming.proofs.finish.Tie as tie
@@ -8,7 +12,7 @@ use Rattle.streaming.proofs.finish.Tie as tie
 returns : tie.Need-returns
 returns c =
     let a = c .before .before .before in
-    finish-short (now (a .args .s)) (now (a .args .out)) (c .if1 .taken)
+    finish-short printedLine mostPrinted longestCarried (now (a .args .s)) (now (a .args .out)) (c .if1 .taken)
 
 print-whole-requires : tie.Need-print-whole-requires
 print-whole-requires c κs = search needs
@@ -34,7 +38,7 @@ returns-2 c =
     let t = q .before .before .before in
     let p = t .before .before .before in
     let a = p .before .before .before .before .before in
-    finish-open (now (a .args .s)) (now (a .args .out)) (p .before .before .if1 .left) (p .print-whole .result) (p .print-whole .ensures .0) (p .print-whole .last .1 .0) (p .print-whole .ensures .1) _ (part-all (now (a .args .s)) (p .print-whole .result .next)) (t .if2 .taken) (q .print-line .result) (q .print-line .last .0) (q .print-line .ensures .0) (q .print-line .ensures .1)
+    finish-open printedLine mostPrinted (lit< tt) (now (a .args .s)) (now (a .args .out)) (p .before .before .if1 .left) (p .print-whole .result) (p .print-whole .ensures .0) (p .print-whole .last .1 .0) (p .print-whole .ensures .1) text-short _ (part-all (now (a .args .s)) (p .print-whole .result .next)) (t .if2 .taken) (q .print-line .result) (q .print-line .last .0) (q .print-line .ensures .0) (q .print-line .ensures .1)
 
 same-length-2 : tie.Need-same-length-2
 same-length-2 c = search needs
@@ -43,7 +47,7 @@ returns-3 : tie.Need-returns-3
 returns-3 c =
     let p = c .before .before .before in
     let a = p .before .before .before .before .before in
-    finish-whole (now (a .args .s)) (now (a .args .out)) (p .before .before .if1 .left) (p .print-whole .result) (p .print-whole .ensures .0) (p .print-whole .last .1 .0) (p .print-whole .ensures .1) (c .if2 .left)
+    finish-whole printedLine mostPrinted (lit< tt) (now (a .args .s)) (now (a .args .out)) (p .before .before .if1 .left) (p .print-whole .result) (p .print-whole .ensures .0) (p .print-whole .last .1 .0) (p .print-whole .ensures .1) (c .if2 .left)
 
 pub finish-spec : {M : Type 1} → statement M
 finish-spec =

@@ -4,19 +4,22 @@ use Prim.Native.Nat.{_-_}
 use mathlib.Core.Path.{sym}
 use native.Mathlib.Omega.{arith}
 use lib.ListN.{length}
-use Rattle.streaming.specs.Laws.{Running, running-start, running-more, running-done, running-open}
+use Rattle.pieces.specs.Walk.{Running, running-start, running-more, running-done, running-open}
+use Rattle.printing.specs.Printing.{printedLine}
+use Rattle.streaming.specs.Streaming.{mostPrinted}
+use Rattle.streaming.specs.Laws.{text-short}
 use borrow.Author.Needs.{needs}
 use Rattle.streaming.proofs.print_whole.Statement.{statement}
 use Rattle.streaming.proofs.print_whole.Tie as tie
 
 abbrev Inv-loop : tie.InvT-loop
-Inv-loop s out₀ at₀ written₀ out at written = Running s out₀ at written out
+Inv-loop s out₀ at₀ written₀ out at written = Running printedLine mostPrinted s out₀ at written out
 
 abbrev μ-loop : tie.MeasureT-loop
 μ-loop s out₀ at₀ written₀ out at written = length s - at
 
 loop-holds : tie.Need-loop-holds Inv-loop μ-loop
-loop-holds c = running-start _ _
+loop-holds c = running-start printedLine mostPrinted _ _
 
 line-end-requires : tie.Need-line-end-requires Inv-loop μ-loop
 line-end-requires c κs = search needs
@@ -28,7 +31,7 @@ returns : tie.Need-returns Inv-loop μ-loop
 returns c =
     let d = c .before in
     let l = d .before .before in
-    running-open _ _ _ _ _ (l .loop .inv) (d .line-end .result) (d .before .loop-test .taken) (sym (d .line-end .ensures)) (c .if1 .taken)
+    running-open printedLine mostPrinted _ _ _ _ _ (l .loop .inv) (d .line-end .result) (d .before .loop-test .taken) (sym (d .line-end .ensures)) (c .if1 .taken)
 
 sub-print-line : tie.Need-sub-print-line Inv-loop μ-loop
 sub-print-line c = search needs
@@ -59,14 +62,14 @@ loop-again c =
     let d = p .before .before .before .before in
     let l = d .before .before in
     let a = l .before .before .before in
-    running-more _ _ _ _ _ (a .pre) (l .loop .inv) (d .line-end .result) (d .before .loop-test .taken) (sym (d .line-end .ensures)) (p .before .before .before .if1 .left)
+    running-more printedLine mostPrinted text-short _ _ _ _ _ (a .pre) (l .loop .inv) (d .line-end .result) (d .before .loop-test .taken) (sym (d .line-end .ensures)) (p .before .before .before .if1 .left)
     (p .print-line .result) (p .print-line .last .0) (p .print-line .ensures .0) (p .print-line .ensures .1)
 
 same-length-2 : tie.Need-same-length-2 Inv-loop μ-loop
 same-length-2 c = c .before .loop .inv .size
 
 returns-2 : tie.Need-returns-2 Inv-loop μ-loop
-returns-2 c = running-done _ _ _ _ _ (c .before .loop .inv) (c .loop-test .left)
+returns-2 c = running-done printedLine mostPrinted _ _ _ _ _ (c .before .loop .inv) (c .loop-test .left)
 
 pub print-whole-spec : {M : Type 1} → statement M
 print-whole-spec =

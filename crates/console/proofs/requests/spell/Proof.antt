@@ -7,7 +7,7 @@ use borrow.Author.Tests.{lt-ltb, le-ltb}
 use lib.Dec.{ltb}
 use lib.ListN.{length, drop, getD}
 use Rattle.lists.specs.FoldLaws.{all-passes, all-fails, all-end}
-use Rattle.frame.specs.Hex.{valueOf}
+use Rattle.text.specs.Digits.{valueOf}
 use Rattle.console.specs.Fields.{spells}
 use borrow.Author.Needs.{needs}
 use Rattle.console.proofs.requests.spell.Statement.{statement}

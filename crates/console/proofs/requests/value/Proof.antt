@@ -1,6 +1,6 @@
 -- The five ranges of characters, a law for each. Assumes nothing.
 use native.Mathlib.Omega.{arith}
-use Rattle.frame.specs.HexLaws.{value-below, value-numeral, value-between, value-letter, value-above}
+use Rattle.text.specs.DigitsLaws.{value-below, value-numeral, value-between, value-letter, value-above}
 use borrow.Author.Needs.{needs}
 use Rattle.console.proofs.requests.value.Statement.{statement}
 use Rattle.console.proofs.requests.value.Tie as tie

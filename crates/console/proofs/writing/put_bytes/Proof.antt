@@ -5,7 +5,7 @@ use mathlib.Core.Path.{_≡_, _∙_}
 use native.Mathlib.Omega.{arith}
 use lib.ListN.{length, take}
 use lib.Seq.{take-length}
-use Rattle.frame.specs.Hex.{hexOf}
+use Rattle.text.specs.Digits.{hexOf}
 use Rattle.console.specs.Texts.{written}
 use Rattle.console.specs.TextsLaws.{bytes-begun, bytes-next}
 use borrow.Author.Needs.{needs}

@@ -2,7 +2,7 @@
 use Prim.Native.Nat.{_≤_, _-_, _*_, _/_, _^_}
 use mathlib.Core.Path.{_≡_, refl, _∙_}
 use native.Mathlib.Omega.{arith}
-use Rattle.frame.specs.Hex.{digits}
+use Rattle.text.specs.Digits.{hexDigits as digits}
 use Rattle.console.specs.Texts.{written}
 use Rattle.console.specs.TextsLaws.{code-begun, code-next, code-done}
 use borrow.Author.Needs.{needs}
