@@ -21,7 +21,8 @@ use Rattle.commands.specs.Commands.{searchRom, alarmSearch}
 use Rattle.refusals.specs.Refusals.{accepted}
 use Rattle.family.specs.Layout.{highLimitPlace, lowLimitPlace}
 use Rattle.temperature.specs.declared.Sixteenths.{Sixteenths}
-use Rattle.device.specs.Finish.{storedReading, verdict}
+use Rattle.temperature.specs.Alarm.{verdict}
+use Rattle.scratchpad.specs.Stored.{storedReading}
 use Rattle.device.specs.Power.{emptyPage}
 use Rattle.device.specs.Record.{rowOf}
 use Rattle.device.specs.declared.Device.{Device}

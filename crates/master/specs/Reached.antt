@@ -28,10 +28,10 @@ use Rattle.device.specs.declared.Joining.{Joining}
 use Rattle.device.specs.declared.Page.{Page}
 use Rattle.bench.specs.Bench.{live, vacant, free, placeOf}
 use Rattle.bench.specs.Calls.{refused, changed, addedTo, conversionFinished, copyFinished, powerCycled, deviceAt}
-use Rattle.bench.specs.Laws.{heard-live, restarted-live, slot-cases, reset-cases, Added, added-cases, OneChanged, conversion-cases, copy-cases, cycle-cases}
-use Rattle.bench.specs.Slot.{lineOf, heard, restarted, slotted, resetDone}
-use Rattle.bench.specs.Sound.{codesOf, BenchSound}
-use Rattle.bench.specs.SoundLaws.{heard-codes, restarted-codes, added-codes, one-changed-codes, empty-sound, slotted-sound, reset-done-sound, added-sound, conversion-finished-sound, copy-finished-sound, power-cycled-sound}
+use Rattle.bench_laws.specs.Laws.{heard-live, restarted-live, slot-cases, reset-cases, Added, added-cases, OneChanged, conversion-cases, copy-cases, cycle-cases}
+use Rattle.bench.specs.Slot.{lineBit, heard, restarted, slotted, resetDone}
+use Rattle.bench_laws.specs.Sound.{codesOf, BenchSound}
+use Rattle.bench_laws.specs.SoundLaws.{heard-codes, restarted-codes, added-codes, one-changed-codes, empty-sound, slotted-sound, reset-done-sound, added-sound, conversion-finished-sound, copy-finished-sound, power-cycled-sound}
 use Rattle.bench.specs.declared.Bench.{Bench}
 use Rattle.bench.specs.declared.Changed.{Changed}
 use Rattle.bench.specs.declared.Place.the-variants.{At, Nowhere}
@@ -68,11 +68,11 @@ on l b = record { bench = b; codes = l .codes; book = l .book }
 module _ (l : Ledger) where
   marked-slot : (m : Bool) (b : Bench) → Marked (on l b) → Marked (on l (slotted b m .bench))
   marked-slot m b r = record {
-    codes-are = slot-cases b m (λ s. codesOf (s .bench) ≡ l .codes) (λ f. heard-codes b (lineOf b m) ∙ r .codes-are) (λ f. r .codes-are);
+    codes-are = slot-cases b m (λ s. codesOf (s .bench) ≡ l .codes) (λ f. heard-codes b (lineBit b m) ∙ r .codes-are) (λ f. r .codes-are);
     codes-fit = r .codes-fit;
     pages-are =
         slot-cases b m (λ s. PagesAre (l .book) (live (s .bench)))
-        (λ f. rw (heard-live b (lineOf b m)) (pages-heard (l .book) (lineOf b m) (live b) (r .pages-are))) (λ f. r .pages-are);
+        (λ f. rw (heard-live b (lineBit b m)) (pages-heard (l .book) (lineBit b m) (live b) (r .pages-are))) (λ f. r .pages-are);
   }
 
   marked-reset : (b : Bench) → Marked (on l b) → Marked (on l (resetDone b .bench))

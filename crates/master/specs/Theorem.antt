@@ -32,10 +32,10 @@ use Rattle.device.specs.Sound.{Sound}
 use Rattle.device.specs.declared.Device.{Device}
 use Rattle.device.specs.declared.Page.{Page}
 use Rattle.bench.specs.Bench.{live, free}
-use Rattle.bench.specs.Laws.{reset-accepted, restarted-live}
+use Rattle.bench_laws.specs.Laws.{reset-accepted, restarted-live}
 use Rattle.bench.specs.Slot.{resetDone, restarted, presenceOf}
-use Rattle.bench.specs.Sound.{codesOf, BenchSound}
-use Rattle.bench.specs.SoundLaws.{codes-count}
+use Rattle.bench_laws.specs.Sound.{codesOf, BenchSound}
+use Rattle.bench_laws.specs.SoundLaws.{codes-count}
 use Rattle.bench.specs.declared.Bench.{Bench}
 use Rattle.searching.specs.OnTheBench as bench
 use Rattle.searching.specs.OnTheBench.{onWire, flaggedCodes, searchOn, alarmSearchOn, same-but-stage}

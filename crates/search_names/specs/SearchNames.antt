@@ -31,8 +31,8 @@ use Rattle.search_law.specs.Numbers.{Below}
 use Rattle.search_law.specs.OnTheWire.{shown}
 use Rattle.search_law.specs.Pass.{Triple, triple, found}
 use Rattle.bench.specs.Bench.{live, free}
-use Rattle.bench.specs.Sound.{codesOf, BenchSound}
-use Rattle.bench.specs.SoundLaws.{codes-count}
+use Rattle.bench_laws.specs.Sound.{codesOf, BenchSound}
+use Rattle.bench_laws.specs.SoundLaws.{codes-count}
 use Rattle.bench.specs.declared.Bench.{Bench}
 use Rattle.searching.specs.OnTheBench as bench
 use Rattle.searching.specs.OnTheBench.{flaggedCodes}

@@ -43,22 +43,22 @@ use Rattle.device.specs.Laws.{hear-only-stage}
 use Rattle.device.specs.Power.{resetOf}
 use Rattle.device.specs.declared.Device.{Device}
 use Rattle.bench.specs.Bench.{live, holdsWire, free}
-use Rattle.bench.specs.Laws.{line-live, heard-live, heard-count, restarted-live, restarted-count, free-live, slot-accepted, reset-accepted}
-use Rattle.bench.specs.Slot.{lineOf, heard, slotted, restarted, resetDone}
-use Rattle.bench.specs.Sound.{codesOf, BenchSound}
-use Rattle.bench.specs.SoundLaws.{heard-sound, restarted-sound}
+use Rattle.bench_laws.specs.Laws.{line-live, heard-live, heard-count, restarted-live, restarted-count, free-live, slot-accepted, reset-accepted}
+use Rattle.bench.specs.Slot.{lineBit, heard, slotted, restarted, resetDone}
+use Rattle.bench_laws.specs.Sound.{codesOf, BenchSound}
+use Rattle.bench_laws.specs.SoundLaws.{heard-sound, restarted-sound}
 use Rattle.bench.specs.declared.Bench.{Bench}
 use Rattle.searching.specs.Course.{Course, search-same}
 use Rattle.searching.specs.Thermometers.{thermometers, searchBits, alarmBits, unstaged, Moving, numbersOf, everybody, everybody-keeps, everybody-course, everybody-codes, flagged, flagged-keeps, flagged-course, flagged-codes}
 
 abbrev pub onWire : Bus
-onWire = record { Devices = Bench; line = λ m b. lineOf b m; after = λ m b. heard b (lineOf b m); reset = restarted }
+onWire = record { Devices = Bench; line = λ m b. lineBit b m; after = λ m b. heard b (lineBit b m); reset = restarted }
 
 abbrev pub byCalls : Bus
 byCalls = record { Devices = Bench; line = λ m b. slotted b m .line; after = λ m b. slotted b m .bench; reset = λ b. resetDone b .bench }
 
 abbrev pub onBench : Carries onWire thermometers
-onBench = record { live = live; line-is = λ m b. line-live b m; after-is = λ m b. heard-live b (lineOf b m); reset-is = restarted-live }
+onBench = record { live = live; line-is = λ m b. line-live b m; after-is = λ m b. heard-live b (lineBit b m); reset-is = restarted-live }
 
 -- the searches, of at most `fuel` passes
 abbrev pub searchOn : ℕ → Bench → Search Bench
@@ -100,7 +100,7 @@ some-bits (n ∷ ns) h = refl
 module _ {command : List Bool} (Z : Searchers thermometers command 64) (K : Keeps Z unstaged) (R : Course Z Moving) (fuel : ℕ) (b : Bench) where
   calls-search : free b ≡ true → wireSearch byCalls command fuel 64 b ≡ wireSearch onWire command fuel 64 b
   calls-search h =
-      search-same onBench Z Moving R (λ c. free c ≡ true) (λ m c s f. free-heard c (lineOf c m) s ∙ f) (λ c f. free-restarted c ∙ f)
+      search-same onBench Z Moving R (λ c. free c ≡ true) (λ m c s f. free-heard c (lineBit c m) s ∙ f) (λ c f. free-restarted c ∙ f)
       (λ m c. slotted c m .line) (λ m c. slotted c m .bench) (λ c. resetDone c .bench)
       (λ m c f. ap (λ r. r .line) (slot-accepted c m f)) (λ m c f. ap (λ r. r .bench) (slot-accepted c m f)) (λ c f. ap (λ r. r .bench) (reset-accepted c f)) fuel b h
 
@@ -109,7 +109,7 @@ module _ {command : List Bool} (Z : Searchers thermometers command 64) (K : Keep
 
   counted : wireSearch onWire command fuel 64 b .devices .count ≡ b .count
   counted =
-      search-holds onWire (λ c. c .count ≡ b .count) (λ m c e. heard-count c (lineOf c m) ∙ e) (λ c e. restarted-count c ∙ e) command 64 fuel b refl
+      search-holds onWire (λ c. c .count ≡ b .count) (λ m c e. heard-count c (lineBit c m) ∙ e) (λ c e. restarted-count c ∙ e) command 64 fuel b refl
 
   module _ (ns : List ℕ) (e : participants Z (live b) ≡ map (bitsOf 64) ns) (l : Below 64 ns) (d : Distinct ns) (h : 0 < length ns) (f : length ns ≤ fuel) where
     listed : Numbered 64 ns (wireSearch onWire command fuel 64 b .codes)
@@ -218,7 +218,7 @@ module _ (fuel : ℕ) (b : Bench) where
   search-free = same-free (searchOn fuel b .devices) b search-keeps
 
   pub search-sound : BenchSound b → BenchSound (searchOn fuel b .devices)
-  search-sound = search-holds onWire BenchSound (λ m c. heard-sound c (lineOf c m)) restarted-sound searchBits 64 fuel b
+  search-sound = search-holds onWire BenchSound (λ m c. heard-sound c (lineBit c m)) restarted-sound searchBits 64 fuel b
 
   pub search-codes : codesOf (searchOn fuel b .devices) ≡ codesOf b
   search-codes = same-but-stage (λ d. d .code) (λ d. refl) (live (searchOn fuel b .devices)) (live b) search-keeps
@@ -257,7 +257,7 @@ module _ (fuel : ℕ) (b : Bench) where
   alarm-free = same-free (alarmSearchOn fuel b .devices) b alarm-keeps
 
   pub alarm-sound : BenchSound b → BenchSound (alarmSearchOn fuel b .devices)
-  alarm-sound = search-holds onWire BenchSound (λ m c. heard-sound c (lineOf c m)) restarted-sound alarmBits 64 fuel b
+  alarm-sound = search-holds onWire BenchSound (λ m c. heard-sound c (lineBit c m)) restarted-sound alarmBits 64 fuel b
 
   pub alarm-codes : flaggedCodes (alarmSearchOn fuel b .devices) ≡ flaggedCodes b
   alarm-codes = same-flagged (alarmSearchOn fuel b .devices) b alarm-keeps
