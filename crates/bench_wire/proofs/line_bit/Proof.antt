@@ -5,28 +5,24 @@ use mathlib.Core.Logic.{⊎-elim}
 use mathlib.Core.Path.{_≡_, _∙_}
 use native.Mathlib.Omega.{arith}
 use borrow.Author.Needs.{needs}
-use lib.ListN.{length, length-map, take}
+use lib.ListN.{length, take}
 use Rattle.lists.specs.Fold.{fold}
 use Rattle.lists.specs.FoldLaws.{all-fold, fold-upto-none, fold-upto-more, fold-upto-skip, fold-upto-end}
 use Rattle.device.specs.Offer.{offerOf}
-use Rattle.bench.specs.Slot.{lineBit}
-use Rattle.bench.proofs.line_bit.Statement.{statement}
-use Rattle.bench.proofs.line_bit.Tie as tie
+use Rattle.bench_wire.proofs.line_bit.Statement.{statement}
+use Rattle.bench_wire.proofs.line_bit.Tie as tie
 
 abbrev Inv-loop : tie.InvT-loop
-Inv-loop bit devices count line₀ i₀ line i = (i ≤ 32) × (line ≡ fold (λ b d. b && offerOf d) bit (take (min i count) devices))
+Inv-loop count bit table taken line₀ i₀ line i = (i ≤ 32) × (line ≡ fold (λ b d. b && offerOf d) bit (take (min i count) table))
 
 abbrev μ-loop : tie.MeasureT-loop
-μ-loop bit devices count line₀ i₀ line i = 32 - i
+μ-loop count bit table taken line₀ i₀ line i = 32 - i
 
-long : (c : tie.Start Inv-loop μ-loop) → length (c .args .bench .devices) ≡ 32
-long c = simp length-map at (c .good .0 .1 .1 .0 .1 .0 .1)
-
-cast-count : tie.Need-cast-count Inv-loop μ-loop
-cast-count c = search needs
+long : (c : tie.Start Inv-loop μ-loop) → length (c .args .t1) ≡ 32
+long c = search needs
 
 loop-holds : tie.Need-loop-holds Inv-loop μ-loop
-loop-holds c = (omega arith, fold-upto-none _ _ (c .before .before .args .bench .count) (c .before .before .args .bench .devices))
+loop-holds c = (omega arith, fold-upto-none _ _ (c .args .count) (c .args .t1))
 
 mul-offer : tie.Need-mul-offer Inv-loop μ-loop
 mul-offer c = search needs
@@ -49,9 +45,9 @@ loop-less c = search needs
 loop-again : tie.Need-loop-again Inv-loop μ-loop
 loop-again c =
     let p = c .before .before in
-    let a = p .before .before .before in
+    let a = p .before in
     let l = long a in
-    let h : p .loop .i < length (a .args .bench .devices) = omega arith in (
+    let h : p .loop .i < length (a .args .t1) = omega arith in (
       omega arith,
       ⊎-elim
           (λ w. w .4 ∙ w .3 .ensures ∙ rw (w .2 .ensures, p .loop .inv .1) (fold-upto-more _ _ _ _ _ _ (w .0 .taken) h))
@@ -60,11 +56,10 @@ loop-again c =
     )
 
 returns : tie.Need-returns Inv-loop μ-loop
-unfolding lineBit
 returns c =
-    let a = c .before .before .before .before in
+    let a = c .before .before in
     let l = long a in
-    let h : length (a .args .bench .devices) ≤ c .before .loop .i = omega arith in
+    let h : length (a .args .t1) ≤ c .before .loop .i = omega arith in
     c .before .loop .inv .1 ∙ fold-upto-end _ _ _ _ _ h ∙ all-fold _ _ _
 
 pub line-bit-spec : {M : Type 1} → statement M
@@ -73,7 +68,6 @@ line-bit-spec =
     (tie.spec
     Inv-loop
     μ-loop
-    cast-count
     loop-holds
     mul-offer
     array-copy-out-offer
