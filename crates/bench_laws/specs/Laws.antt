@@ -213,11 +213,6 @@ added-cases b new P long refusal adding = by-code (eqb (codeRefusal (new .code))
     by-code true s = by-place (placeOf b (new .code)) refl s
     by-code false s = refusal (codeRefusal (new .code)) (eqb-false (codeRefusal (new .code)) accepted s)
 
-pub added-live : (b : Bench) (new : Joining) → length (b .devices) ≡ 32 → addedTo b new .refusal ≡ accepted
-    → live (addedTo b new .bench) ≡ live b ++ (joined new ∷ [])
-added-live b new long =
-    added-cases b new (λ c. c .refusal ≡ accepted → live (c .bench) ≡ live b ++ (joined new ∷ [])) long (λ n r e. absurd (r e)) (λ after a e. a .live-is)
-
 pub added-refused : (b : Bench) (new : Joining) → length (b .devices) ≡ 32 → addedTo b new .refusal ≢ accepted → addedTo b new .bench ≡ b
 added-refused b new long = added-cases b new (λ c. c .refusal ≢ accepted → c .bench ≡ b) long (λ n r e. refl) (λ after a e. absurd (e refl))
 

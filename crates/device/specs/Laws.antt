@@ -150,16 +150,11 @@ pub joined-fresh : (new : Joining) → Fresh (new .code) (new .power) (joined ne
 unfolding joined
 joined-fresh new = record { code-is = refl; power-is = refl; quiet = refl; idle = refl; flag-clear = refl; page-empty = refl }
 
--- ## The end of a conversion: it keeps code and EEPROM
+-- ## The end of a conversion
 
-module _ (d : Device) (count : Sixteenths) where
-  pub conversion-code : conversionDone d count .code ≡ d .code
-  unfolding conversionDone
-  conversion-code = refl
-
-  pub conversion-eeprom : conversionDone d count .eeprom ≡ d .eeprom
-  unfolding conversionDone
-  conversion-eeprom = refl
+pub conversion-code : (d : Device) (count : Sixteenths) → conversionDone d count .code ≡ d .code
+unfolding conversionDone
+conversion-code d count = refl
 
 -- ## The end of a copy: the settings are in EEPROM, the device is idle, and nothing else changes
 
