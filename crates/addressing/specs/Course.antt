@@ -32,7 +32,7 @@ use Rattle.device.specs.Record.{withStage, rowOf, busy}
 use Rattle.device.specs.declared.Device.{Device}
 use Rattle.device.specs.declared.Stage.{Stage}
 use Rattle.device.specs.declared.Stage.the-variants.{AwaitRom, SendRom, Match, Search, AwaitFunction, TakeSettings, SendScratchpad, SendStatus, SendPower, Quiet}
-use Rattle.bench.specs.Bench.{holdsWire}
+use Rattle.device.specs.Record.{holdsWire}
 use Rattle.addressing.specs.Unrefused.{addressBits}
 
 abbrev pub Calm : Bool → Device → Type 0

@@ -20,7 +20,8 @@ use Rattle.device.specs.Hear.{hearOf}
 use Rattle.device.specs.Offer.{offerOf}
 use Rattle.device.specs.Power.{resetOf}
 use Rattle.device.specs.declared.Device.{Device}
-use Rattle.bench.specs.Bench.{live, holdsWire, free}
+use Rattle.device.specs.Record.{holdsWire}
+use Rattle.bench.specs.Bench.{live, free}
 use Rattle.bench_laws.specs.Laws.{line-live, heard-live, restarted-live, free-live, slot-accepted, reset-accepted}
 use Rattle.bench.specs.Slot.{lineBit, heard, presenceOf, restarted, resetDone}
 use Rattle.bench.specs.declared.Bench.{Bench}

@@ -2,17 +2,15 @@
 --     live b              the devices on the wire: the first `count` of the table, all of it for a larger count
 --     emptyBench          where every history starts
 --     placeOf b code      where the first device with this code stands, or nowhere
---     holdsWire d         a busy device that is powered from the data wire: no slot can pass
 --     free b              whether no device holds the wire
 use Prim.Native.Nat.{ℕ}
-use mathlib.Core.Bool.{Bool, not, _&&_}
+use mathlib.Core.Bool.{Bool}
 use mathlib.Core.List.{List}
 use lib.Dec.{eqb}
 use lib.ListN.{take, replicate}
 use Rattle.lists.specs.First.{firstWith}
-use Rattle.lists.specs.Fold.{all}
 use Rattle.device.specs.Power.{joined}
-use Rattle.device.specs.Record.{fromLine, busy}
+use Rattle.bench_wire.specs.Wire.{freeWire}
 use Rattle.device.specs.declared.Device.{Device}
 use Rattle.device.specs.declared.Power.the-variants.{External}
 use Rattle.bench.specs.declared.Bench.{Bench}
@@ -32,8 +30,5 @@ emptyBench = record { devices = replicate 32 vacant; count = 0 }
 unfoldable pub placeOf : Bench → ℕ → Place
 placeOf b code = firstWith (λ d. eqb (d .code) code) At Nowhere 0 (live b)
 
-abbrev pub holdsWire : Device → Bool
-holdsWire d = fromLine (d .power) && busy d
-
 unfoldable pub free : Bench → Bool
-free b = all (λ d. not (holdsWire d)) (live b)
+free b = freeWire (live b)

@@ -10,16 +10,13 @@ use mathlib.Core.Bool.{Bool, true, false, not}
 use lib.Dec.{eqb, ltb}
 use lib.ListN.{getD, set}
 use Rattle.lists.specs.Choice.{if_then_else_}
-use Rattle.refusals.specs.Refusals.{accepted, duplicate, benchFull, outOfRange, notFound, mismatch}
+use Rattle.refusals.specs.Refusals.{accepted, duplicate, benchFull, notFound}
 use Rattle.rom.specs.Code.{codeRefusal}
-use Rattle.temperature.specs.Range.{inRange}
-use Rattle.temperature.specs.declared.Reading.the-variants.{InSixteenths}
 use Rattle.temperature.specs.declared.Sixteenths.{Sixteenths}
-use Rattle.device.specs.Finish.{conversionDone, copyDone}
+use Rattle.device.specs.Finish.{ended, conversionEnded, copyEnded}
 use Rattle.device.specs.Power.{powerUp, joined}
-use Rattle.device.specs.declared.Activity.{Activity}
-use Rattle.device.specs.declared.Activity.the-variants.{Idle, Converting, Copying}
 use Rattle.device.specs.declared.Device.{Device}
+use Rattle.device.specs.declared.Ended.{Ended}
 use Rattle.device.specs.declared.Joining.{Joining}
 use Rattle.bench.specs.declared.Bench.{Bench}
 use Rattle.bench.specs.declared.Changed.{Changed}
@@ -61,33 +58,26 @@ deviceAt b i = getD (b .devices) i vacant
 abbrev pub withDevice : Bench → ℕ → Device → Bench
 withDevice b i d = record { devices = set (b .devices) i d; count = b .count }
 
-abbrev pub endConversion : Bench → ℕ → Sixteenths → Activity → Changed
-endConversion b i n Idle = refused mismatch b
-endConversion b i n Converting =
-    if inRange (InSixteenths n) then changed (withDevice b i (conversionDone (deviceAt b i) n)) else refused outOfRange b
-endConversion b i n (Copying s) = refused mismatch b
+-- a device after an attempt to end what it does, back at its place
+abbrev pub putBack : Bench → ℕ → Ended → Changed
+putBack b i e = if eqb (e .refusal) accepted then changed (withDevice b i (e .device)) else refused (e .refusal) b
 
 abbrev pub conversionFinishedAt : Bench → Sixteenths → Place → Changed
-conversionFinishedAt b n (At i) = endConversion b i n (deviceAt b i .activity)
+conversionFinishedAt b n (At i) = putBack b i (conversionEnded (deviceAt b i) n)
 conversionFinishedAt b n Nowhere = refused notFound b
 
 unfoldable pub conversionFinished : Bench → ℕ → Sixteenths → Changed
 conversionFinished b code n = conversionFinishedAt b n (placeOf b code)
 
-abbrev pub endCopy : Bench → ℕ → Activity → Changed
-endCopy b i Idle = refused mismatch b
-endCopy b i Converting = refused mismatch b
-endCopy b i (Copying s) = changed (withDevice b i (copyDone (deviceAt b i) s))
-
 abbrev pub copyFinishedAt : Bench → Place → Changed
-copyFinishedAt b (At i) = endCopy b i (deviceAt b i .activity)
+copyFinishedAt b (At i) = putBack b i (copyEnded (deviceAt b i))
 copyFinishedAt b Nowhere = refused notFound b
 
 unfoldable pub copyFinished : Bench → ℕ → Changed
 copyFinished b code = copyFinishedAt b (placeOf b code)
 
 abbrev pub powerCycledAt : Bench → Place → Changed
-powerCycledAt b (At i) = changed (withDevice b i (powerUp (deviceAt b i)))
+powerCycledAt b (At i) = putBack b i (ended (powerUp (deviceAt b i)))
 powerCycledAt b Nowhere = refused notFound b
 
 unfoldable pub powerCycled : Bench → ℕ → Changed

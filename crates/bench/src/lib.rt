@@ -1,22 +1,15 @@
 // A bench of up to 32 thermometers on one wire. The bench goes in by value and comes back in the
 // answer; its fields are private, so that only these calls make or change one.
 ghost use Prim.Native.Nat.{ℕ, _<_};
-ghost use mathlib.Core.Bool.{_&&_};
 ghost use mathlib.Core.Path.{_≡_};
-ghost use Rattle.bench.specs.Bench.{vacant, emptyBench, placeOf, holdsWire, free};
-ghost use Rattle.bench.specs.Slot.{lineBit, heard, slotted, restarted, resetDone};
-ghost use Rattle.refusals.specs.Refusals.{mismatch};
-ghost use Rattle.device.specs.Power.{powerUp};
-ghost use Rattle.bench.specs.Calls.{refused, changed, putLast, addedTo, deviceAt, withDevice, endConversion, conversionFinished, endCopy, copyFinished, powerCycled, looked};
-use device::Activity;
+ghost use Rattle.bench.specs.Bench.{vacant, emptyBench, placeOf, free};
+ghost use Rattle.bench.specs.Slot.{slotted, resetDone};
+ghost use Rattle.bench.specs.Calls.{putLast, addedTo, deviceAt, putBack, conversionFinished, copyFinished, powerCycled, looked};
 use device::Device;
+use device::Ended;
 use device::Joining;
 use device::Power;
-use temperature::Reading;
 use temperature::Sixteenths;
-
-// How many devices a bench can hold.
-pub const PLACES: usize = 32;
 
 pub struct Bench {
     devices: [Device; 32],
@@ -96,94 +89,12 @@ fn find(bench: Bench, code: u64) -> Place
     Place::Nowhere
 }
 
-fn holds_wire(d: Device) -> bool
-    ensures answer { λ r. ⌜ r ≡ holdsWire d ⌝ }
-{
-    let power = d.power;
-    match power {
-        Power::Line => device::is_busy(d),
-        Power::External => false,
-    }
-}
-
 // Whether no line-powered device is busy, so that a reset or a slot can pass.
 pub fn is_free(bench: Bench) -> bool
     ensures answer { λ r. ⌜ r ≡ free bench ⌝ }
 {
     let devices = bench.devices;
-    let count = bench.count as usize;
-    let mut i: usize = 0;
-    while i < 32 {
-        if i < count {
-            if holds_wire(devices[i]) {
-                return false;
-            }
-        }
-        i += 1;
-    }
-    true
-}
-
-fn both(a: bool, b: bool) -> bool
-    ensures answer { λ r. ⌜ r ≡ (a && b) ⌝ }
-{
-    a && b
-}
-
-// What the line shows when the master offers this bit.
-fn line_bit(bench: Bench, bit: bool) -> bool
-    ensures answer { λ r. ⌜ r ≡ lineBit bench bit ⌝ }
-{
-    let devices = bench.devices;
-    let count = bench.count as usize;
-    let mut line = bit;
-    let mut i: usize = 0;
-    while i < 32 {
-        if i < count {
-            line = both(line, device_offer::offer(devices[i]));
-        }
-        i += 1;
-    }
-    line
-}
-
-// Every device takes the line's bit.
-fn hear_all(bench: Bench, line: bool) -> Bench
-    ensures answer { λ r. ⌜ r ≡ heard bench line ⌝ }
-{
-    let mut devices = bench.devices;
-    let count = bench.count as usize;
-    let mut i: usize = 0;
-    while i < 32 {
-        if i < count {
-            let d = devices[i];
-            devices[i] = device_hear::hear(d, line);
-        }
-        i += 1;
-    }
-    Bench {
-        devices,
-        count: bench.count,
-    }
-}
-
-fn restart_all(bench: Bench) -> Bench
-    ensures answer { λ r. ⌜ r ≡ restarted bench ⌝ }
-{
-    let mut devices = bench.devices;
-    let count = bench.count as usize;
-    let mut i: usize = 0;
-    while i < 32 {
-        if i < count {
-            let d = devices[i];
-            devices[i] = device_power::reset(d);
-        }
-        i += 1;
-    }
-    Bench {
-        devices,
-        count: bench.count,
-    }
+    bench_wire::is_free(devices, bench.count)
 }
 
 // One slot in which the master offers this bit; 1 to read.
@@ -191,12 +102,16 @@ pub fn slot(bench: Bench, bit: bool) -> Slotted
     ensures answer { λ r. ⌜ r ≡ slotted bench bit ⌝ }
 {
     if is_free(bench) {
-        let line = line_bit(bench, bit);
-        let next = hear_all(bench, line);
+        let devices = bench.devices;
+        let line = bench_wire::line_bit(devices, bench.count, bit);
+        let next = bench_wire::hear_all(devices, bench.count, line);
         return Slotted {
             refusal: refusals::ACCEPTED,
             line,
-            bench: next,
+            bench: Bench {
+                devices: next,
+                ..bench
+            },
         };
     }
     Slotted {
@@ -211,11 +126,15 @@ pub fn reset(bench: Bench) -> ResetDone
     ensures answer { λ r. ⌜ r ≡ resetDone bench ⌝ }
 {
     if is_free(bench) {
-        let next = restart_all(bench);
+        let devices = bench.devices;
+        let next = bench_wire::restart_all(devices, bench.count);
         return ResetDone {
             refusal: refusals::ACCEPTED,
             presence: 0 < bench.count,
-            bench: next,
+            bench: Bench {
+                devices: next,
+                ..bench
+            },
         };
     }
     ResetDone {
@@ -274,16 +193,22 @@ fn device_at(bench: Bench, place: usize) -> Device
     devices[place]
 }
 
-fn with_device(bench: Bench, place: usize, d: Device) -> Bench
+// The device at a place after an attempt to end what it does.
+fn put_back(bench: Bench, place: usize, ended: Ended) -> Changed
     requires { ⌜ place < 32 ⌝ }
-    ensures answer { λ r. ⌜ r ≡ withDevice bench place d ⌝ }
+    ensures answer { λ r. ⌜ r ≡ putBack bench place ended ⌝ }
 {
-    let mut devices = bench.devices;
-    devices[place] = d;
-    Bench {
-        devices,
-        count: bench.count,
+    let refusal = ended.refusal;
+    if refusal == refusals::ACCEPTED {
+        let device = ended.device;
+        let mut devices = bench.devices;
+        devices[place] = device;
+        return Changed {
+            refusal: refusals::ACCEPTED,
+            bench: Bench { devices, ..bench },
+        };
     }
+    Changed { refusal, bench }
 }
 
 // A conversion of the device with this code ends with a count of sixteenths.
@@ -292,45 +217,15 @@ pub fn finish_conversion(bench: Bench, code: u64, count: Sixteenths) -> Changed
 {
     let place = find(bench, code);
     match place {
-        Place::At(i) => end_conversion(bench, i, count),
+        Place::At(i) => put_back(
+            bench,
+            i,
+            device_power::end_conversion(device_at(bench, i), count),
+        ),
         Place::Nowhere => Changed {
             refusal: refusals::NOT_FOUND,
             bench,
         },
-    }
-}
-
-fn end_conversion(bench: Bench, place: usize, count: Sixteenths) -> Changed
-    requires { ⌜ place < 32 ⌝ }
-    ensures answer { λ r. ⌜ r ≡ endConversion bench place count (deviceAt bench place .activity) ⌝ }
-{
-    let d = device_at(bench, place);
-    let activity = d.activity;
-    match activity {
-        Activity::Idle => refuse_mismatch(bench),
-        Activity::Converting => {
-            if temperature::in_range(Reading::InSixteenths(count)) {
-                let next = with_device(bench, place, device_power::finish_conversion(d, count));
-                return Changed {
-                    refusal: refusals::ACCEPTED,
-                    bench: next,
-                };
-            }
-            Changed {
-                refusal: refusals::OUT_OF_RANGE,
-                bench,
-            }
-        }
-        Activity::Copying(_) => refuse_mismatch(bench),
-    }
-}
-
-fn refuse_mismatch(bench: Bench) -> Changed
-    ensures answer { λ r. ⌜ r ≡ refused mismatch bench ⌝ }
-{
-    Changed {
-        refusal: refusals::MISMATCH,
-        bench,
     }
 }
 
@@ -340,30 +235,11 @@ pub fn finish_copy(bench: Bench, code: u64) -> Changed
 {
     let place = find(bench, code);
     match place {
-        Place::At(i) => end_copy(bench, i),
+        Place::At(i) => put_back(bench, i, device_power::end_copy(device_at(bench, i))),
         Place::Nowhere => Changed {
             refusal: refusals::NOT_FOUND,
             bench,
         },
-    }
-}
-
-fn end_copy(bench: Bench, place: usize) -> Changed
-    requires { ⌜ place < 32 ⌝ }
-    ensures answer { λ r. ⌜ r ≡ endCopy bench place (deviceAt bench place .activity) ⌝ }
-{
-    let d = device_at(bench, place);
-    let activity = d.activity;
-    match activity {
-        Activity::Idle => refuse_mismatch(bench),
-        Activity::Converting => refuse_mismatch(bench),
-        Activity::Copying(latched) => {
-            let next = with_device(bench, place, device_power::finish_copy(d, latched));
-            Changed {
-                refusal: refusals::ACCEPTED,
-                bench: next,
-            }
-        }
     }
 }
 
@@ -373,22 +249,18 @@ pub fn power_cycle(bench: Bench, code: u64) -> Changed
 {
     let place = find(bench, code);
     match place {
-        Place::At(i) => cycle_at(bench, i),
+        Place::At(i) => {
+            let device = device_power::power_cycle(device_at(bench, i));
+            let ended = Ended {
+                refusal: refusals::ACCEPTED,
+                device,
+            };
+            put_back(bench, i, ended)
+        }
         Place::Nowhere => Changed {
             refusal: refusals::NOT_FOUND,
             bench,
         },
-    }
-}
-
-fn cycle_at(bench: Bench, place: usize) -> Changed
-    requires { ⌜ place < 32 ⌝ }
-    ensures answer { λ r. ⌜ r ≡ changed (withDevice bench place (powerUp (deviceAt bench place))) ⌝ }
-{
-    let d = device_at(bench, place);
-    Changed {
-        refusal: refusals::ACCEPTED,
-        bench: with_device(bench, place, device_power::power_cycle(d)),
     }
 }
 

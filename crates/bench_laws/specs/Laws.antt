@@ -14,7 +14,7 @@ use mathlib.Core.Bool.{Bool, true, false, not, _&&_}
 use mathlib.Core.List.{List, [], _∷_, _++_, map}
 use native.Mathlib.Omega.{arith}
 use native.Mathlib.Numerals.{add-one}
-use borrow.Author.Tests.{eqb-true, eqb-false, ltb-true}
+use borrow.Author.Tests.{eqb-true, eqb-false, ltb-true, ne-eqb}
 use lib.Dec.{eqb, ltb}
 use lib.ListN.{length, getD, set, length-set, length-take}
 use lib.Seq.{take-suc-set, take-set-lt, getD-take}
@@ -24,17 +24,17 @@ use Rattle.lists.specs.Fold.{all}
 use Rattle.lists.specs.FrontLaws.{front-taken, front-length}
 use Rattle.lists.specs.Each.{Each}
 use Rattle.lists.specs.EachLaws.{each-implies}
-use Rattle.refusals.specs.Refusals.{accepted, wireBusy, duplicate, benchFull, outOfRange, notFound, mismatch}
+use Rattle.refusals.specs.Refusals.{accepted, wireBusy, duplicate, benchFull, notFound}
 use Rattle.rom.specs.Code.{codeRefusal, sound}
 use Rattle.temperature.specs.Range.{inRange}
 use Rattle.temperature.specs.declared.Reading.the-variants.{InSixteenths}
 use Rattle.temperature.specs.declared.Sixteenths.{Sixteenths}
-use Rattle.device.specs.Finish.{conversionDone, copyDone}
+use Rattle.device.specs.Finish.{conversionDone, copyDone, notEnded}
+use Rattle.device.specs.Laws.{conversion-ended-cases, copy-ended-cases}
 use Rattle.device.specs.Hear.{hearOf}
 use Rattle.device.specs.Offer.{offerOf}
 use Rattle.device.specs.Power.{resetOf, powerUp, joined}
-use Rattle.device.specs.declared.Activity.{Activity}
-use Rattle.device.specs.declared.Activity.the-variants.{Idle, Converting, Copying}
+use Rattle.device.specs.declared.Activity.the-variants.{Copying}
 use Rattle.device.specs.declared.Device.{Device}
 use Rattle.device.specs.declared.Joining.{Joining}
 use Rattle.device.specs.declared.Settings.{Settings}
@@ -44,9 +44,10 @@ use Rattle.bench.specs.declared.Place.{Place}
 use Rattle.bench.specs.declared.Place.the-variants.{At, Nowhere}
 use Rattle.bench.specs.declared.ResetDone.{ResetDone}
 use Rattle.bench.specs.declared.Slotted.{Slotted}
-use Rattle.bench.specs.Bench.{live, vacant, placeOf, holdsWire, free}
+use Rattle.device.specs.Record.{holdsWire}
+use Rattle.bench.specs.Bench.{live, vacant, placeOf, free}
 use Rattle.bench.specs.Slot.{lineBit, heard, slotted, presenceOf, restarted, resetDone}
-use Rattle.bench.specs.Calls.{changed, refused, withNew, putLast, isThere, addedTo, deviceAt, withDevice, endConversion, conversionFinishedAt, conversionFinished, endCopy, copyFinishedAt, copyFinished, powerCycledAt, powerCycled}
+use Rattle.bench.specs.Calls.{changed, refused, withNew, putLast, isThere, addedTo, deviceAt, withDevice, putBack, conversionFinishedAt, conversionFinished, copyFinishedAt, copyFinished, powerCycledAt, powerCycled}
 
 -- ## A slot and a reset
 
@@ -212,11 +213,6 @@ added-cases b new P long refusal adding = by-code (eqb (codeRefusal (new .code))
     by-code true s = by-place (placeOf b (new .code)) refl s
     by-code false s = refusal (codeRefusal (new .code)) (eqb-false (codeRefusal (new .code)) accepted s)
 
-pub added-live : (b : Bench) (new : Joining) → length (b .devices) ≡ 32 → addedTo b new .refusal ≡ accepted
-    → live (addedTo b new .bench) ≡ live b ++ (joined new ∷ [])
-added-live b new long =
-    added-cases b new (λ c. c .refusal ≡ accepted → live (c .bench) ≡ live b ++ (joined new ∷ [])) long (λ n r e. absurd (r e)) (λ after a e. a .live-is)
-
 pub added-refused : (b : Bench) (new : Joining) → length (b .devices) ≡ 32 → addedTo b new .refusal ≢ accepted → addedTo b new .bench ≡ b
 added-refused b new long = added-cases b new (λ c. c .refusal ≢ accepted → c .bench ≡ b) long (λ n r e. refl) (λ after a e. absurd (e refl))
 
@@ -253,24 +249,19 @@ module _ (b : Bench) (code i : ℕ) (e : placeOf b code ≡ At i) where
   }
 
 module _ (b : Bench) (code : ℕ) (P : Changed → Type 0) (refusal : (n : ℕ) → n ≢ accepted → P (refused n b)) where
+  put-refused : (i n : ℕ) → n ≢ accepted → P (putBack b i (notEnded n (deviceAt b i)))
+  put-refused i n h = rw (ne-eqb n accepted h) (refusal n h)
+
   -- the end of a conversion: only of a device that converts, with a count in range
   pub conversion-cases : (n : Sixteenths) → (inRange (InSixteenths n) ≡ true → (after : Bench) → OneChanged b code (λ d. conversionDone d n) after → P (changed after))
       → P (conversionFinished b code n)
   unfolding conversionFinished
   conversion-cases n done = by-place (placeOf b code) refl
     where
-      by-range : (i : ℕ) (t : Bool) → inRange (InSixteenths n) ≡ t → placeOf b code ≡ At i
-          → P (if t then changed (withDevice b i (conversionDone (deviceAt b i) n)) else refused outOfRange b)
-      by-range i true r e = done r (withDevice b i (conversionDone (deviceAt b i) n)) (one-changed b code i e (λ d. conversionDone d n))
-      by-range i false r e = refusal outOfRange (λ z. omega arith)
-
-      by-activity : (i : ℕ) (a : Activity) → placeOf b code ≡ At i → P (endConversion b i n a)
-      by-activity i Idle e = refusal mismatch (λ z. omega arith)
-      by-activity i Converting e = by-range i (inRange (InSixteenths n)) refl e
-      by-activity i (Copying s) e = refusal mismatch (λ z. omega arith)
-
       by-place : (p : Place) → placeOf b code ≡ p → P (conversionFinishedAt b n p)
-      by-place (At i) e = by-activity i (deviceAt b i .activity) e
+      by-place (At i) e =
+          conversion-ended-cases (deviceAt b i) n (λ x. P (putBack b i x)) (put-refused i)
+          (λ range. done range (withDevice b i (conversionDone (deviceAt b i) n)) (one-changed b code i e (λ d. conversionDone d n)))
       by-place Nowhere e = refusal notFound (λ z. omega arith)
 
   -- the end of a copy: of the settings that the device holds for it
@@ -279,14 +270,10 @@ module _ (b : Bench) (code : ℕ) (P : Changed → Type 0) (refusal : (n : ℕ) 
   unfolding copyFinished one-changed
   copy-cases done = by-place (placeOf b code) refl
     where
-      by-activity : (i : ℕ) (a : Activity) → deviceAt b i .activity ≡ a → placeOf b code ≡ At i → P (endCopy b i a)
-      by-activity i Idle f e = refusal mismatch (λ z. omega arith)
-      by-activity i Converting f e = refusal mismatch (λ z. omega arith)
-      by-activity i (Copying s) f e =
-          done s (withDevice b i (copyDone (deviceAt b i) s)) (one-changed b code i e (λ d. copyDone d s)) (ap (λ d. d .activity) (device-live b code i e) ∙ f)
-
       by-place : (p : Place) → placeOf b code ≡ p → P (copyFinishedAt b p)
-      by-place (At i) e = by-activity i (deviceAt b i .activity) refl e
+      by-place (At i) e =
+          copy-ended-cases (deviceAt b i) (λ x. P (putBack b i x)) (put-refused i) (λ s f.
+          done s (withDevice b i (copyDone (deviceAt b i) s)) (one-changed b code i e (λ d. copyDone d s)) (ap (λ d. d .activity) (device-live b code i e) ∙ f))
       by-place Nowhere e = refusal notFound (λ z. omega arith)
 
   pub cycle-cases : ((after : Bench) → OneChanged b code powerUp after → P (changed after)) → P (powerCycled b code)

@@ -4,17 +4,24 @@
 --     AtLastBit d               the next slot of d ends a function command: the only one that can make it busy, law `hear-starts`
 --     quiet-..                  a quiet device stays as it is and leaves the line alone
 --     Fresh code power d        d as power finds it: laws `power-up-fresh` and `joined-fresh`
---     conversion-.., copy-..    what these keep
+--     conversion-.., copy-..    what these keep, and what the attempt to end them comes to
 -- Assumes nothing.
 use Prim.Native.Nat.{ℕ}
 use mathlib.Core.Path.{_≡_, refl, sym, _∙_}
+use mathlib.Core.Logic.{_≢_}
 use mathlib.Core.Bool.{Bool, true, false, false≢true}
 use mathlib.Core.List.{List}
+use native.Mathlib.Omega.{arith}
+use Rattle.lists.specs.Choice.{if_then_else_}
+use Rattle.refusals.specs.Refusals.{accepted, outOfRange, mismatch}
+use Rattle.temperature.specs.Range.{inRange}
+use Rattle.temperature.specs.declared.Reading.the-variants.{InSixteenths}
 use Rattle.commands.specs.BytesLaws.{shifted-cases}
 use Rattle.temperature.specs.declared.Sixteenths.{Sixteenths}
 use Rattle.device.specs.declared.Activity.{Activity}
-use Rattle.device.specs.declared.Activity.the-variants.{Idle}
+use Rattle.device.specs.declared.Activity.the-variants.{Idle, Converting, Copying}
 use Rattle.device.specs.declared.Device.{Device}
+use Rattle.device.specs.declared.Ended.{Ended}
 use Rattle.device.specs.declared.Joining.{Joining}
 use Rattle.device.specs.declared.Power.{Power}
 use Rattle.device.specs.declared.Settings.{Settings}
@@ -24,7 +31,7 @@ use Rattle.device.specs.Record.{withStage, withActivity, withScratchpad,
 use Rattle.device.specs.Offer.{offerOf}
 use Rattle.device.specs.Hear.{hearRom, hearAt, hearOf}
 use Rattle.device.specs.Power.{emptyPage, powerUp, joined}
-use Rattle.device.specs.Finish.{conversionDone, copyDone}
+use Rattle.device.specs.Finish.{conversionDone, copyDone, ended, notEnded, conversionEndedIn, conversionEnded, copyEndedIn, copyEnded}
 use Rattle.device.specs.Outcomes.{hear-outcome}
 
 -- ## A slot
@@ -143,19 +150,40 @@ pub joined-fresh : (new : Joining) → Fresh (new .code) (new .power) (joined ne
 unfolding joined
 joined-fresh new = record { code-is = refl; power-is = refl; quiet = refl; idle = refl; flag-clear = refl; page-empty = refl }
 
--- ## The end of a conversion: it keeps code and EEPROM
+-- ## The end of a conversion
 
-module _ (d : Device) (count : Sixteenths) where
-  pub conversion-code : conversionDone d count .code ≡ d .code
-  unfolding conversionDone
-  conversion-code = refl
-
-  pub conversion-eeprom : conversionDone d count .eeprom ≡ d .eeprom
-  unfolding conversionDone
-  conversion-eeprom = refl
+pub conversion-code : (d : Device) (count : Sixteenths) → conversionDone d count .code ≡ d .code
+unfolding conversionDone
+conversion-code d count = refl
 
 -- ## The end of a copy: the settings are in EEPROM, the device is idle, and nothing else changes
 
 pub copy-only : (d : Device) (s : Settings) → copyDone d s ≡ withEeprom (withActivity d Idle) s
 unfolding copyDone
 copy-only d s = refl
+
+-- ## An attempt to end them: what holds of every refusal and of the end holds of the attempt
+
+pub conversion-ended-cases : (d : Device) (count : Sixteenths) (P : Ended → Type 0) → ((n : ℕ) → n ≢ accepted → P (notEnded n d))
+    → (inRange (InSixteenths count) ≡ true → P (ended (conversionDone d count))) → P (conversionEnded d count)
+unfolding conversionEnded
+conversion-ended-cases d count P refusal done = in-activity (d .activity)
+  where
+    by-range : (t : Bool) → inRange (InSixteenths count) ≡ t → P (if t then ended (conversionDone d count) else notEnded outOfRange d)
+    by-range true r = done r
+    by-range false r = refusal outOfRange (λ z. omega arith)
+
+    in-activity : (a : Activity) → P (conversionEndedIn d count a)
+    in-activity Idle = refusal mismatch (λ z. omega arith)
+    in-activity Converting = by-range (inRange (InSixteenths count)) refl
+    in-activity (Copying s) = refusal mismatch (λ z. omega arith)
+
+pub copy-ended-cases : (d : Device) (P : Ended → Type 0) → ((n : ℕ) → n ≢ accepted → P (notEnded n d))
+    → ((s : Settings) → d .activity ≡ Copying s → P (ended (copyDone d s))) → P (copyEnded d)
+unfolding copyEnded
+copy-ended-cases d P refusal done = in-activity (d .activity) refl
+  where
+    in-activity : (a : Activity) → d .activity ≡ a → P (copyEndedIn d a)
+    in-activity Idle e = refusal mismatch (λ z. omega arith)
+    in-activity Converting e = refusal mismatch (λ z. omega arith)
+    in-activity (Copying s) e = done s e

@@ -4,8 +4,9 @@
 --     rowOf code       the properties of the code's family
 --     fromLine p       whether a power kind is the scope's "line-powered", from the data wire
 --     busyWith a       whether an activity keeps a device busy; busy d, whether a conversion or a copy is under way
+--     holdsWire d      a busy device that is powered from the data wire: no slot can pass
 use Prim.Native.Nat.{ℕ}
-use mathlib.Core.Bool.{Bool, true, false}
+use mathlib.Core.Bool.{Bool, true, false, _&&_}
 use mathlib.Core.List.{List}
 use Rattle.family.specs.Families.{propertiesOf}
 use Rattle.family.specs.declared.Properties.{Properties}
@@ -51,3 +52,6 @@ busyWith (Copying s) = true
 
 abbrev pub busy : Device → Bool
 busy d = busyWith (d .activity)
+
+abbrev pub holdsWire : Device → Bool
+holdsWire d = fromLine (d .power) && busy d

@@ -1,6 +1,6 @@
 // One thermometer: its record, the record with one part replaced, and the settings that it keeps.
 ghost use mathlib.Core.Path.{_≡_};
-ghost use Rattle.device.specs.Record.{withStage, withActivity, withScratchpad, withEeprom, withAlarm, withPage, rowOf, busy};
+ghost use Rattle.device.specs.Record.{withStage, withActivity, withScratchpad, withEeprom, withAlarm, withPage, rowOf, busy, holdsWire};
 ghost use Rattle.device.specs.Settings.{settingsIn, withSettings};
 use family::Properties;
 use temperature::Reading;
@@ -67,6 +67,13 @@ pub struct Device {
     pub page: Page,
 }
 
+// An attempt to end a conversion or a copy: 0 and the device after it, or the refusal and the device as
+// it was.
+pub struct Ended {
+    pub refusal: u8,
+    pub device: Device,
+}
+
 // What a device joins the bench with.
 pub struct Joining {
     pub code: u64,
@@ -126,6 +133,18 @@ pub fn is_busy(d: Device) -> bool
     }
 }
 
+// Whether no slot can pass: the device is busy and lives on the data wire.
+pub fn holds_wire(d: Device) -> bool
+    ensures answer { λ r. ⌜ r ≡ holdsWire d ⌝ }
+{
+    let power = d.power;
+    match power {
+        Power::Line => is_busy(d),
+        Power::External => false,
+    }
+}
+
+// The properties of the code's family.
 pub fn row_of(code: u64) -> Properties
     ensures answer { λ r. ⌜ r ≡ rowOf code ⌝ }
 {

@@ -193,16 +193,18 @@ fn idle_command(d: Device, command: u8) -> Device
 fn function_command(d: Device, command: u8) -> Device
     ensures answer { λ r. ⌜ r ≡ functionCommand d command ⌝ }
 {
-    if command == commands::READ_SCRATCHPAD {
-        return device::with_stage(d, Stage::SendScratchpad { byte: 0, bit: 0 });
+    match command {
+        commands::READ_SCRATCHPAD => {
+            device::with_stage(d, Stage::SendScratchpad { byte: 0, bit: 0 })
+        }
+        commands::READ_POWER => device::with_stage(d, Stage::SendPower),
+        _ => {
+            if device::is_busy(d) {
+                return device::with_stage(d, Stage::Quiet);
+            }
+            idle_command(d, command)
+        }
     }
-    if command == commands::READ_POWER {
-        return device::with_stage(d, Stage::SendPower);
-    }
-    if device::is_busy(d) {
-        return device::with_stage(d, Stage::Quiet);
-    }
-    idle_command(d, command)
 }
 
 // By what a device that awaits a function command holds of it.

@@ -1,9 +1,10 @@
 // What a reset, power and the end of a conversion or a copy make of one thermometer.
 ghost use mathlib.Core.Path.{_≡_};
 ghost use Rattle.device.specs.Power.{resetOf, poweredUp, powerUp, joined};
-ghost use Rattle.device.specs.Finish.{conversionDone, copyDone};
+ghost use Rattle.device.specs.Finish.{conversionDone, copyDone, notEnded, conversionEnded, copyEnded};
 use device::Activity;
 use device::Device;
+use device::Ended;
 use device::Joining;
 use device::Page;
 use device::Power;
@@ -70,7 +71,7 @@ pub fn join(new: Joining) -> Device
 }
 
 // The device after a conversion that ended with this count.
-pub fn finish_conversion(d: Device, count: Sixteenths) -> Device
+fn finish_conversion(d: Device, count: Sixteenths) -> Device
     ensures answer { λ r. ⌜ r ≡ conversionDone d count ⌝ }
 {
     let pad = d.scratchpad;
@@ -93,8 +94,49 @@ pub fn finish_conversion(d: Device, count: Sixteenths) -> Device
 }
 
 // The device after its copy of these settings.
-pub fn finish_copy(d: Device, latched: Settings) -> Device
+fn finish_copy(d: Device, latched: Settings) -> Device
     ensures answer { λ r. ⌜ r ≡ copyDone d latched ⌝ }
 {
     device::with_eeprom(device::with_activity(d, Activity::Idle), latched)
+}
+
+fn refuse(d: Device, refusal: u8) -> Ended
+    ensures answer { λ r. ⌜ r ≡ notEnded refusal d ⌝ }
+{
+    Ended { refusal, device: d }
+}
+
+// The end of a conversion with this count, of a device that may not be converting.
+pub fn end_conversion(d: Device, count: Sixteenths) -> Ended
+    ensures answer { λ r. ⌜ r ≡ conversionEnded d count ⌝ }
+{
+    let activity = d.activity;
+    match activity {
+        Activity::Idle => refuse(d, refusals::MISMATCH),
+        Activity::Converting => {
+            if temperature::in_range(Reading::InSixteenths(count)) {
+                return Ended {
+                    refusal: refusals::ACCEPTED,
+                    device: finish_conversion(d, count),
+                };
+            }
+            refuse(d, refusals::OUT_OF_RANGE)
+        }
+        Activity::Copying(_) => refuse(d, refusals::MISMATCH),
+    }
+}
+
+// The end of a copy, of a device that may not be copying.
+pub fn end_copy(d: Device) -> Ended
+    ensures answer { λ r. ⌜ r ≡ copyEnded d ⌝ }
+{
+    let activity = d.activity;
+    match activity {
+        Activity::Idle => refuse(d, refusals::MISMATCH),
+        Activity::Converting => refuse(d, refusals::MISMATCH),
+        Activity::Copying(latched) => Ended {
+            refusal: refusals::ACCEPTED,
+            device: finish_copy(d, latched),
+        },
+    }
 }

@@ -1,11 +1,11 @@
--- The stored form of B is the general one at 15; what is kept is in form, for every row; and a byte in form is what its own storing leaves.
+-- The stored form of B is the general one at 15; what is kept is as asked and in form, for every row.
 -- Assumes nothing.
-use Prim.Native.Nat.{ℕ, _*_, _/_, _%_, _^_, _<_}
+use Prim.Native.Nat.{ℕ, _*_, _/_, _%_, _^_}
 use mathlib.Core.Path.{_≡_, refl, sym}
 use mathlib.Core.Bool.{Bool, true, false}
 use native.Mathlib.Omega.{arith}
 use borrow.Author.Tests.{eq-eqb}
-use lib.Bits.{bitAnd, and-high, and-le-r}
+use lib.Bits.{bitAnd, and-high}
 use lib.Dec.{eqb}
 use Rattle.lists.specs.Choice.{if_then_else_}
 use Rattle.family.specs.declared.Properties.{Properties}
@@ -40,10 +40,3 @@ kept-in-form row byte = by-test (row .configurable)
         → (if t then eqb (if t then storedForm byte (row .nibble) else 0) (storedForm (if t then storedForm byte (row .nibble) else 0) (row .nibble)) else true) ≡ true
     by-test true = eq-eqb _ _ (sym (stored-again byte (row .nibble)))
     by-test false = refl
-
-pub kept-byte : (row : Properties) (byte : ℕ) → keptConfiguration row byte < 256
-kept-byte row byte = by-test (row .configurable)
-  where
-    by-test : (t : Bool) → (if t then storedForm byte (row .nibble) else 0) < 256
-    by-test true = omega (arith, and-le-r byte 0x60)
-    by-test false = omega arith

@@ -42,7 +42,8 @@ use Rattle.device.specs.Hear.{hearOf}
 use Rattle.device.specs.Laws.{hear-only-stage}
 use Rattle.device.specs.Power.{resetOf}
 use Rattle.device.specs.declared.Device.{Device}
-use Rattle.bench.specs.Bench.{live, holdsWire, free}
+use Rattle.device.specs.Record.{holdsWire}
+use Rattle.bench.specs.Bench.{live, free}
 use Rattle.bench_laws.specs.Laws.{line-live, heard-live, heard-count, restarted-live, restarted-count, free-live, slot-accepted, reset-accepted}
 use Rattle.bench.specs.Slot.{lineBit, heard, slotted, restarted, resetDone}
 use Rattle.bench_laws.specs.Sound.{codesOf, BenchSound}

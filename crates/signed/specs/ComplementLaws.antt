@@ -79,9 +79,6 @@ signed-bits z f = rw (bits-held z, signed-read (held16 z) (held-below z f)) (hel
 pub bits-signed : (n : ℕ) → n < 65536 → bits16 (signed16 n) ≡ n
 bits-signed n h = rw (bits-held (signed16 n), signed-read n h) (ofZ-toZ w16 n (record { fits = h }))
 
-pub bits-below : (z : ℤ) → Fits16 z → bits16 z < 65536
-bits-below z f = rw (bits-held z) (held-below z f)
-
 pub signed-fits : (n : ℕ) → n < 65536 → Fits16 (signed16 n)
 signed-fits n h = rw (signed-read n h) (toZ-fits w16 n (record { fits = h }))
 

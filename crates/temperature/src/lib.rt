@@ -282,8 +282,7 @@ pub fn reading_of(unit: Unit, low: u8, high: u8) -> Reading
 
 // A count of sixteenths in degrees. Single precision holds every one of them with nothing lost.
 pub fn to_degrees(c: Sixteenths) -> Degrees
-    ensures answer { λ r. ⌜ r ≡ degreesOf c ⌝ }
-    ensures exact { λ r. ⌜ IsSixteenths (r .0) (c .0) ⌝ }
+    ensures answer { λ r. ⌜ (r ≡ degreesOf c) × IsSixteenths (r .0) (c .0) ⌝ }
 {
     let z = c.0;
     Degrees((z as f32) / 16.0)

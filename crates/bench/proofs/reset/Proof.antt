@@ -1,5 +1,5 @@
 -- On a free wire and on one that is held. Assumes nothing.
-use Rattle.bench.specs.Slot.{resetDone}
+use Rattle.bench.specs.Slot.{restarted, resetDone}
 use borrow.Author.Needs.{needs}
 use Rattle.bench.proofs.reset.Statement.{statement}
 use Rattle.bench.proofs.reset.Tie as tie
@@ -11,8 +11,10 @@ restart-all-requires : tie.Need-restart-all-requires
 restart-all-requires c κs = search needs
 
 returns : tie.Need-returns
-unfolding resetDone
-returns c = simp (← c .before .before .before .is-free .ensures, c .before .before .if1 .taken, ← c .before .restart-all .ensures)
+unfolding resetDone restarted
+returns c =
+    let if1 = c .before .before .before in
+    simp (← if1 .before .is-free .ensures, if1 .if1 .taken, ← c .before .restart-all .ensures)
 
 returns-2 : tie.Need-returns-2
 unfolding resetDone

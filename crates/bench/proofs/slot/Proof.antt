@@ -1,5 +1,5 @@
 -- On a free wire and on one that is held. Assumes nothing.
-use Rattle.bench.specs.Slot.{slotted}
+use Rattle.bench.specs.Slot.{lineBit, heard, slotted}
 use borrow.Author.Needs.{needs}
 use Rattle.bench.proofs.slot.Statement.{statement}
 use Rattle.bench.proofs.slot.Tie as tie
@@ -14,8 +14,10 @@ hear-all-requires : tie.Need-hear-all-requires
 hear-all-requires c κs = search needs
 
 returns : tie.Need-returns
-unfolding slotted
-returns c = simp (← c .before .before .before .is-free .ensures, c .before .before .if1 .taken, ← c .before .line-bit .ensures, c .hear-all .ensures)
+unfolding slotted lineBit heard
+returns c =
+    let shown = c .before in let if1 = shown .before .before in
+    simp (← if1 .before .is-free .ensures, if1 .if1 .taken, ← shown .line-bit .ensures, c .hear-all .ensures)
 
 returns-2 : tie.Need-returns-2
 unfolding slotted
