@@ -3,7 +3,7 @@
 ghost use mathlib.Core.Path.{_≡_};
 ghost use Prim.Native.Nat.{_*_, _≤_};
 ghost use lib.ListN.{length, take};
-ghost use Rattle.pieces.specs.Pieces.{feedAnswer, feedKept, feedWritten, finishWritten, Stepped, Ran};
+ghost use Rattle.pieces.specs.Pieces.{feedAnswer, feedKept, feedWritten, finishWritten, Stepped, Ran, Sayable};
 ghost use Rattle.printing.specs.Printing.{printedLine};
 ghost use Rattle.streaming.specs.Streaming.{mostPrinted, longestCarried};
 use libc::STDIN_FILENO;
@@ -31,6 +31,13 @@ fn read_behind(buffer: &mut [u8], held: usize) -> usize
     held + io::count(got, &buffer[held..])
 }
 
+// Hands text to the output: that of the whole lines of a piece, or of what was left at the end.
+fn write_said(said: &[u8]) -> bool
+    requires { ⌜ Sayable printedLine (now said) ⌝ }
+{
+    io::write_all(STDOUT_FILENO, said)
+}
+
 // Prints the lines that have their feed.
 fn print_piece(bytes: &mut [u8], text: &mut [u8]) -> Piece
     ensures answer { λ r. ⌜ (r .held ≡ feedAnswer printedLine mostPrinted longestCarried (now (bytes .entry)) (now (text .entry)) .held) × (r .held ≤ length (now (bytes .entry))) ⌝ }
@@ -40,7 +47,7 @@ fn print_piece(bytes: &mut [u8], text: &mut [u8]) -> Piece
     let fed = streaming::feed(bytes, text);
     let end = fed.written;
     Piece {
-        more: io::write_all(STDOUT_FILENO, &text[..end]),
+        more: write_said(&text[..end]),
         held: fed.held,
     }
 }
@@ -84,7 +91,7 @@ fn print_last(bytes: &[u8], text: &mut [u8])
 {
     let last = streaming::finish(bytes, text);
     let end = last.next;
-    io::write_all(STDOUT_FILENO, &text[..end]);
+    write_said(&text[..end]);
 }
 
 fn print_recording(buffer: &mut [u8], text: &mut [u8])

@@ -12,6 +12,7 @@
 --     finishAnswer, finishWritten                what the call at the end of the text answers and leaves
 --     FeedWithin s out f       that what a call answers is within its buffers
 --     Stepped, Ran             what a program carries after one read, and after all so far
+--     Sayable say t            bytes that a program may hand to its output
 -- Assumes nothing.
 use Prim.Native.Nat.{ℕ, _/_, _<_, _≤_}
 use mathlib.Core.Path.{_≡_}
@@ -115,3 +116,8 @@ pub data Stepped (most : ℕ) (u v : List ℕ) : Type 0 where
 pub data Ran (most : ℕ) : List ℕ → Type 0 where
   start : Ran most []
   more : {u v : List ℕ} → Ran most u → Stepped most u v → Ran most v
+
+-- bytes that a program may hand to its output: what is said for the whole lines of a piece, or for all that was left at the end
+pub data Sayable (say : Line → List ℕ) (t : List ℕ) : Type 0 where
+  of-lines : (s : List ℕ) → t ≡ saidWhole say s → Sayable say t
+  of-all : (s : List ℕ) → t ≡ said say s → Sayable say t

@@ -6,7 +6,7 @@
 -- Assumes nothing.
 use Prim.Native.Nat.{ℕ, _+_, _-_, _*_, _/_, _<_, _≤_}
 use mathlib.Core.Path.{_≡_, refl, sym, ap, _∙_}
-use mathlib.Core.Bool.{true, false}
+use mathlib.Core.Bool.{Bool, true, false}
 use mathlib.Core.List.{List, [], _∷_, _++_, append-assoc, append-nil}
 use native.Mathlib.Omega.{arith}
 use native.Mathlib.Nat.{mul-add, mul-comm, mul-le-mul-left, le-div-iff-mul-le}
@@ -14,7 +14,7 @@ use borrow.Author.Tests.{le-leb, lt-leb}
 use lib.ListN.{length, take, drop, length-append, length-take, length-drop, drop-of-length-le}
 use lib.Seq.{take-add, take-append-seam}
 use Rattle.lists.specs.Laid.{laid}
-use Rattle.lists.specs.LaidLaws.{laid-none, laid-more, laid-length, laid-then}
+use Rattle.lists.specs.LaidLaws.{laid-none, laid-more, laid-length, laid-then, laid-read}
 use Rattle.refusals.specs.Refusals.{accepted, noRoom}
 use Rattle.text.specs.Lines.{Line, linesOf, width, feedAt}
 use Rattle.text.specs.LinesLaws.{first-size, lines-fed, lines-open, lines-done}
@@ -22,7 +22,7 @@ use Rattle.laying.specs.declared.Written.{Written}
 use Rattle.laying.specs.Laying.{layAnswer, layLeaves}
 use Rattle.laying.specs.LayingLaws.{lay-fits}
 use Rattle.pieces.specs.declared.Progress.{Progress}
-use Rattle.pieces.specs.Pieces.{sayAll, said, whole, rest, saidWhole, carried, FeedWithin, feedAnswer, feedKept, feedWritten, finishAnswer, finishWritten}
+use Rattle.pieces.specs.Pieces.{sayAll, said, whole, rest, saidWhole, carried, roomFor, Sayable, of-lines, of-all, FeedWithin, feedAnswer, feedKept, feedWritten, finishAnswer, finishWritten}
 use Rattle.pieces.specs.Cuts.{parts, rest-plain, alone-open}
 
 -- ## The first line from a place on, where more lines follow or none
@@ -249,3 +249,32 @@ read-behind before after held filled h same =
 
 pub room-part : (each n m : ℕ) → 0 < each → each * n ≤ m → n ≤ m / each
 room-part each n m some h = let c = mul-comm n each in le-div-iff-mul-le some .1 (omega arith)
+
+-- what a call left at the front of the buffer of what is said may be handed out, so much of it as the call answered
+module _ (out x : List ℕ) where
+  front-laid : take (length x) (laid out 0 x) ≡ x
+  front-laid = laid-read out 0 x (omega arith)
+
+pub feed-said : (say : Line → List ℕ) (each most : ℕ) (s out : List ℕ) (n : ℕ) (after : List ℕ)
+    → n ≡ feedAnswer say each most s out .written → after ≡ feedWritten say each most s out → Sayable say (take n after)
+unfolding sayAll whole linesOf
+feed-said say each most s out n after h k = by-test (roomFor each s out) refl
+  where
+    by-test : (t : Bool) → roomFor each s out ≡ t → Sayable say (take n after)
+    by-test true e =
+        let count : n ≡ length (saidWhole say s) = h ∙ rw e refl in
+        let front : after ≡ laid out 0 (saidWhole say s) = k ∙ rw e refl in
+        of-lines s (rw (count, front) (front-laid out (saidWhole say s)))
+    by-test false e = let none : n ≡ 0 = h ∙ rw e refl in of-lines [] (rw none refl)
+
+pub finish-said : (say : Line → List ℕ) (each : ℕ) (s out : List ℕ) (n : ℕ) (after : List ℕ)
+    → n ≡ finishAnswer say each s out .next → after ≡ finishWritten say each s out → Sayable say (take n after)
+unfolding sayAll linesOf
+finish-said say each s out n after h k = by-test (roomFor each s out) refl
+  where
+    by-test : (t : Bool) → roomFor each s out ≡ t → Sayable say (take n after)
+    by-test true e =
+        let count : n ≡ length (said say s) = h ∙ rw e refl in
+        let front : after ≡ laid out 0 (said say s) = k ∙ rw e refl in
+        of-all s (rw (count, front) (front-laid out (said say s)))
+    by-test false e = let none : n ≡ 0 = h ∙ rw e refl in of-all [] (rw none refl)

@@ -1,6 +1,12 @@
 -- What is printed stands at the front of the text, within it. Assumes nothing.
+use mathlib.Core.Path.{ap}
 use native.Mathlib.Omega.{arith}
+use denote.Ref.{now}
 use lib.ListN.{length-take}
+use Rattle.laying.specs.declared.Written.{Written}
+use Rattle.pieces.specs.Walk.{finish-said}
+use Rattle.printing.specs.Printing.{printedLine}
+use Rattle.streaming.specs.Streaming.{mostPrinted}
 use borrow.Author.Needs.{needs}
 use Rattle.name_frames.proofs.print_last.Statement.{statement}
 use Rattle.name_frames.proofs.print_last.Tie as tie
@@ -8,14 +14,17 @@ use Rattle.name_frames.proofs.print_last.Tie as tie
 finish-requires : tie.Need-finish-requires
 finish-requires c κs = search needs
 
-slice-reshare-prefix-write-all : tie.Need-slice-reshare-prefix-write-all
-slice-reshare-prefix-write-all c = search needs
+slice-reshare-prefix-write-said : tie.Need-slice-reshare-prefix-write-said
+slice-reshare-prefix-write-said c = search needs
 
-slice-aggregate-write-all : tie.Need-slice-aggregate-write-all
-slice-aggregate-write-all c = simp length-take (omega (arith, slice-reshare-prefix-write-all (c .before)))
+slice-aggregate-write-said : tie.Need-slice-aggregate-write-said
+slice-aggregate-write-said c = simp length-take (omega (arith, slice-reshare-prefix-write-said (c .before)))
 
-write-all-requires : tie.Need-write-all-requires
-write-all-requires c κs = search needs
+write-said-requires : tie.Need-write-said-requires
+write-said-requires c κs =
+    let last = c .before .before .before in
+    let a = last .before .before .before .before in
+    finish-said printedLine mostPrinted (now (a .args .bytes)) (now (a .args .text)) (last .finish .result .next) (last .finish .last .1 .0) (ap (λ (w : Written). w .next) (last .finish .ensures .0 .0)) (last .finish .ensures .1)
 
 same-length : tie.Need-same-length
 same-length c = search needs
@@ -28,8 +37,8 @@ print-last-spec =
     tie.close
     (tie.spec
     finish-requires
-    slice-reshare-prefix-write-all
-    slice-aggregate-write-all
-    write-all-requires
+    slice-reshare-prefix-write-said
+    slice-aggregate-write-said
+    write-said-requires
     same-length
     returns)

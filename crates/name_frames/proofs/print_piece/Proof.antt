@@ -2,7 +2,11 @@
 use mathlib.Core.Path.{ap}
 use native.Mathlib.Omega.{arith}
 use lib.ListN.{length-take}
+use denote.Ref.{now}
 use Rattle.pieces.specs.declared.Fed.{Fed}
+use Rattle.pieces.specs.Walk.{feed-said}
+use Rattle.printing.specs.Printing.{printedLine}
+use Rattle.streaming.specs.Streaming.{mostPrinted, longestCarried}
 use borrow.Author.Needs.{needs}
 use Rattle.name_frames.proofs.print_piece.Statement.{statement}
 use Rattle.name_frames.proofs.print_piece.Tie as tie
@@ -10,14 +14,17 @@ use Rattle.name_frames.proofs.print_piece.Tie as tie
 feed-requires : tie.Need-feed-requires
 feed-requires c κs = search needs
 
-slice-reshare-prefix-write-all : tie.Need-slice-reshare-prefix-write-all
-slice-reshare-prefix-write-all c = search needs
+slice-reshare-prefix-write-said : tie.Need-slice-reshare-prefix-write-said
+slice-reshare-prefix-write-said c = search needs
 
-slice-aggregate-write-all : tie.Need-slice-aggregate-write-all
-slice-aggregate-write-all c = simp length-take (omega (arith, slice-reshare-prefix-write-all (c .before)))
+slice-aggregate-write-said : tie.Need-slice-aggregate-write-said
+slice-aggregate-write-said c = simp length-take (omega (arith, slice-reshare-prefix-write-said (c .before)))
 
-write-all-requires : tie.Need-write-all-requires
-write-all-requires c κs = search needs
+write-said-requires : tie.Need-write-said-requires
+write-said-requires c κs =
+    let fed = c .before .before .before .before .before in
+    let a = fed .before .before .before .before .before in
+    feed-said printedLine mostPrinted longestCarried (now (a .args .bytes)) (now (a .args .text)) (fed .feed .result .written) (fed .feed .last .1 .0) (ap (λ (f : Fed). f .written) (fed .feed .ensures .0 .0)) (fed .feed .ensures .1 .1)
 
 same-length : tie.Need-same-length
 same-length c = search needs
@@ -35,9 +42,9 @@ print-piece-spec =
     tie.close
     (tie.spec
     feed-requires
-    slice-reshare-prefix-write-all
-    slice-aggregate-write-all
-    write-all-requires
+    slice-reshare-prefix-write-said
+    slice-aggregate-write-said
+    write-said-requires
     same-length
     same-length-2
     returns)
