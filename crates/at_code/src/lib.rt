@@ -9,6 +9,7 @@ use bench::Bench;
 use device::Settings;
 use family::Properties;
 use master_rules::Access;
+use scratchpad::NineBytes;
 use temperature::Reading;
 use temperature::Sixteenths;
 
@@ -180,7 +181,7 @@ fn write_settings(row: Properties, bench: Bench, code: u64, s: Settings) -> Benc
 }
 
 // Whether the bytes read back are those asked, the configuration in its stored form.
-fn as_asked(row: Properties, s: Settings, pad: [u8; 9]) -> bool
+fn as_asked(row: Properties, s: Settings, pad: NineBytes) -> bool
     ensures answer { λ r. ⌜ r ≡ asAsked row s pad ⌝ }
 {
     if pad[family::HIGH_LIMIT] != s.high {
@@ -189,10 +190,7 @@ fn as_asked(row: Properties, s: Settings, pad: [u8; 9]) -> bool
     if pad[family::LOW_LIMIT] != s.low {
         return false;
     }
-    if row.configurable {
-        return pad[family::CONFIGURATION] == family::stored_form(s.configuration, row.nibble);
-    }
-    true
+    family::configuration_as_asked(row, s.configuration, pad[family::CONFIGURATION])
 }
 
 // The write and the read that follows it, after a reset that showed presence.

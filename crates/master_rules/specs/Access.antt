@@ -7,7 +7,7 @@
 --     settingsSent row code s b    4Eh and the settings s: high limit, low limit and, where the family has one, configuration
 --     writeAt b code s             a write of the settings s, then a read at the code
 use Prim.Native.Nat.{ℕ, zero, suc}
-use mathlib.Core.Bool.{Bool, true, not, _&&_, _||_}
+use mathlib.Core.Bool.{Bool, true, not, _&&_}
 use mathlib.Core.List.{List, [], _∷_}
 use lib.Dec.{eqb}
 use lib.IntN.{pos}
@@ -17,7 +17,7 @@ use Rattle.bits.specs.Bits.{numberOf}
 use Rattle.commands.specs.Commands.{matchRom, readScratchpad, writeScratchpad}
 use Rattle.refusals.specs.Refusals.{accepted, noPresence, wireBusy, mismatch}
 use Rattle.family.specs.Families.{propertiesOf}
-use Rattle.family.specs.Configuration.{storedForm}
+use Rattle.family.specs.Configuration.{configurationAsAsked}
 use Rattle.family.specs.Layout.{highLimitPlace, lowLimitPlace, configurationPlace}
 use Rattle.family.specs.declared.Properties.{Properties}
 use Rattle.rom.specs.Code.{familyOf, codeRefusal}
@@ -103,7 +103,7 @@ settingsSent row code s b =
 unfoldable pub asAsked : Properties → Settings → List ℕ → Bool
 asAsked row s pad =
     eqb (getD pad highLimitPlace 0) (s .high) && eqb (getD pad lowLimitPlace 0) (s .low)
-    && (not (row .configurable) || eqb (getD pad configurationPlace 0) (storedForm (s .configuration) (row .nibble)))
+    && configurationAsAsked row (s .configuration) (getD pad configurationPlace 0)
 
 -- 13 where a read that was accepted shows other bytes
 abbrev pub compared : Properties → Settings → Access → Access

@@ -1,3 +1,4 @@
+-- The limits one after the other, then the configuration by its family's own comparison. Assumes nothing.
 use Rattle.master_rules.specs.Access.{asAsked}
 use borrow.Author.Tests.{eq-eqb, ne-eqb}
 use borrow.Author.Needs.{needs}
@@ -18,19 +19,15 @@ returns-2 : tie.Need-returns-2
 unfolding asAsked
 returns-2 c = simp (eq-eqb _ _ (c .before .before .if1 .left), ne-eqb _ _ (c .if2 .taken))
 
-array-read-result : tie.Need-array-read-result
-array-read-result c = search needs
+array-read-configuration-as-asked : tie.Need-array-read-configuration-as-asked
+array-read-configuration-as-asked c = search needs
 
-stored-form-requires : tie.Need-stored-form-requires
-stored-form-requires c κs = search needs
+configuration-as-asked-requires : tie.Need-configuration-as-asked-requires
+configuration-as-asked-requires c κs = search needs
 
 returns-3 : tie.Need-returns-3
 unfolding asAsked
-returns-3 c = rw (c .stored-form .ensures, eq-eqb _ _ (c .before .before .before .before .if1 .left), eq-eqb _ _ (c .before .before .if2 .left), c .before .if3 .taken)
-
-returns-4 : tie.Need-returns-4
-unfolding asAsked
-returns-4 c = simp (eq-eqb _ _ (c .before .before .before .if1 .left), eq-eqb _ _ (c .before .if2 .left), c .if3 .left)
+returns-3 c = rw (c .configuration-as-asked .ensures, eq-eqb _ _ (c .before .before .before .if1 .left), eq-eqb _ _ (c .before .if2 .left))
 
 pub as-asked-spec : {M : Type 1} → statement M
 as-asked-spec =
@@ -40,7 +37,6 @@ as-asked-spec =
     returns
     array-read-if2
     returns-2
-    array-read-result
-    stored-form-requires
-    returns-3
-    returns-4)
+    array-read-configuration-as-asked
+    configuration-as-asked-requires
+    returns-3)
