@@ -175,6 +175,7 @@ judged-small family pad = by-test (not (crcRight pad)) (allZeros pad) (not (kind
   where
     row : Properties
     row = propertiesOf family
+
     by-test : (t u v w : Bool)
         → (if t then refusedPad wrongCrc else if u then refusedPad allZero else if v then refusedPad wrongKind else if w then refusedPad outOfRange else record { refusal = accepted; reading = readingIn row pad }) .refusal < 100
     by-test true u v w = lit< tt
