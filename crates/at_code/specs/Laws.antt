@@ -19,7 +19,7 @@ use native.Mathlib.Numerals.{add-one}
 use lib.ListN.{length, set, replicate, replicate-append-replicate, length-replicate}
 use Rattle.lists.specs.Laid.{laid}
 use Rattle.lists.specs.LaidLaws.{laid-store}
-use Rattle.bits.specs.BitsLaws.{number-snoc, number-lt}
+use Rattle.bits.specs.BitsLaws.{number-snoc}
 use Rattle.search_law.specs.Issued.{slots-append, slots-length}
 use Rattle.master_rules.specs.Access.{readSlots, byteShown, afterSlots, bytesShown, addressed, judgedReply, fetched}
 
@@ -49,12 +49,6 @@ byte-more n b =
 
 pub slots-more : (n : ℕ) (b : Bench) → slotted (afterSlots n b) true .bench ≡ afterSlots (n + 1) b
 slots-more n b = sym (ap (λ r. r .devices) (reads-more n b))
-
--- n bits make a number below 2 ^ n
-pub byte-small : (n : ℕ) (b : Bench) → numberOf (shown (readSlots n) b) < 2 ^ n
-byte-small n b =
-    let long : length (shown (readSlots n) b) ≡ n = slots-length calls (readSlots n) b ∙ length-replicate n true in
-    rw long at (number-lt (shown (readSlots n) b))
 
 -- ## Bytes, as the loop over them makes them
 

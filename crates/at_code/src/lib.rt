@@ -1,7 +1,5 @@
 // Reading and writing at a code.
-ghost use Prim.Native.Nat.{_+_, _*_, _^_, _<_};
 ghost use mathlib.Core.Path.{_≡_};
-ghost use Rattle.bits.specs.Bits.{bitNumber};
 ghost use Rattle.master_rules.specs.Wire.{sent};
 ghost use Rattle.master_rules.specs.Access.{refusedAt, addressed, fetched, readBack, admission, readAt, settingsSent, asAsked, writtenAndRead, writeAt};
 ghost use Rattle.at_code.specs.Replies.{byteReadOf, replied};
@@ -23,19 +21,6 @@ struct ByteRead {
 struct Reply {
     pad: [u8; 9],
     bench: Bench,
-}
-
-// One more bit of a number that comes first bit lowest.
-fn with_bit(number: u64, place: u8, bit: bool) -> u64
-    requires { ⌜ (place < 64) × (number < 2 ^ place) ⌝ }
-    ensures answer { λ r. ⌜ r ≡ number + bitNumber bit * 2 ^ place ⌝ }
-{
-    if bit {
-        let weight: u64 = 1 << place;
-        number + weight
-    } else {
-        number
-    }
 }
 
 // The lowest bits of a number, as many as `count` says, first bit lowest.
@@ -78,18 +63,15 @@ fn read_byte(bench: Bench) -> ByteRead
     ensures answer { λ r. ⌜ r ≡ byteReadOf bench ⌝ }
 {
     let mut b = bench;
-    let mut number: u64 = 0;
+    let mut byte: u8 = 0;
     let mut i: u8 = 0;
     while i < 8 {
         let r = bench::slot(b, true);
         b = r.bench;
-        number = with_bit(number, i, r.line);
+        byte = commands::push(byte, r.line);
         i += 1;
     }
-    ByteRead {
-        byte: (number % 256) as u8,
-        bench: b,
-    }
+    ByteRead { byte, bench: b }
 }
 
 fn read_reply(bench: Bench) -> Reply

@@ -1,11 +1,15 @@
--- What holds of each thing that a bit can make of a byte holds of what it makes: `shifted-cases`.
+-- What holds of each thing that a bit can make of a byte holds of what it makes: `shifted-cases`. Bits put in one after another make their number: `shifted-on`.
 -- Assumes nothing.
-use Prim.Native.Nat.{ℕ, _+_}
-use mathlib.Core.Path.{_≡_, refl}
+use Prim.Native.Nat.{ℕ, suc, _+_, _*_, _/_, _^_}
+use mathlib.Core.Path.{_≡_, refl, sym, ap, _∙_}
 use mathlib.Core.Bool.{Bool, true, false}
+use native.Mathlib.Nat.{pow-suc, add-mul, mul-assoc}
+use native.Mathlib.Omega.{arith}
+use lib.Pow.{pow-add}
 use borrow.Author.Tests.{eqb-true}
 use lib.Dec.{ltb, eqb}
 use Rattle.lists.specs.Choice.{if_then_else_}
+use Rattle.bits.specs.Bits.{bitNumber}
 use Rattle.commands.specs.declared.Shifted.{Shifted}
 use Rattle.commands.specs.declared.Shifted.the-variants.{Partial, Whole, Beyond}
 use Rattle.commands.specs.Bytes.{shiftIn, shifted}
@@ -18,3 +22,20 @@ shifted-cases s n l P more whole beyond = by-tests (ltb n 7) (eqb n 7) refl
     by-tests true u e = more
     by-tests false true e = whole (eqb-true n 7 e)
     by-tests false false e = beyond
+
+-- a register with the number n of i bits in its upper end, and the next bit put in
+pub shifted-on : (i k n : ℕ) (l : Bool) → i + k ≡ 7 → shiftIn (n * 2 ^ suc k) l ≡ (n + bitNumber l * 2 ^ i) * 2 ^ k
+shifted-on i k n l e = rw low (by-bit l) ∙ sym (wide (bitNumber l))
+  where
+    low : n * 2 ^ suc k ≡ n * 2 ^ k * 2
+    low = ap (λ (j : ℕ). n * j) (pow-suc 2 k) ∙ sym (mul-assoc n (2 ^ k) 2)
+
+    whole : 2 ^ i * 2 ^ k ≡ 128
+    whole = sym (pow-add 2 i k) ∙ ap (λ (j : ℕ). 2 ^ j) e
+
+    wide : (w : ℕ) → (n + w * 2 ^ i) * 2 ^ k ≡ n * 2 ^ k + w * 128
+    wide w = add-mul n (w * 2 ^ i) (2 ^ k) ∙ ap (λ (j : ℕ). n * 2 ^ k + j) (mul-assoc w (2 ^ i) (2 ^ k) ∙ ap (λ (j : ℕ). w * j) whole)
+
+    by-bit : (l : Bool) → n * 2 ^ k * 2 / 2 + (if l then 128 else 0) ≡ n * 2 ^ k + bitNumber l * 128
+    by-bit true = let m = n * 2 ^ k in omega arith
+    by-bit false = let m = n * 2 ^ k in omega arith

@@ -37,8 +37,8 @@ pub enum Shifted {
     Beyond,
 }
 
-// The first bit ends up lowest.
-fn push(shift: u8, bit: bool) -> u8
+// One more bit into a shift register; of eight the first ends up lowest.
+pub fn push(shift: u8, bit: bool) -> u8
     ensures answer { λ r. ⌜ r ≡ shiftIn shift bit ⌝ }
 {
     if bit { shift / 2 + 128 } else { shift / 2 }
