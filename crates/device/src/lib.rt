@@ -3,6 +3,7 @@ ghost use mathlib.Core.Path.{_≡_};
 ghost use Rattle.device.specs.Record.{withStage, withActivity, withScratchpad, withEeprom, withAlarm, withPage, rowOf, busy, holdsWire};
 ghost use Rattle.device.specs.Settings.{settingsIn, withSettings};
 use family::Properties;
+use scratchpad::EightBytes;
 use temperature::Reading;
 
 // How a device is powered: from the data wire, or by a supply of its own.
@@ -61,7 +62,7 @@ pub struct Device {
     pub power: Power,
     pub stage: Stage,
     pub activity: Activity,
-    pub scratchpad: [u8; 8],
+    pub scratchpad: EightBytes,
     pub eeprom: Settings,
     pub alarm: bool,
     pub page: Page,
@@ -97,7 +98,7 @@ pub fn with_activity(d: Device, activity: Activity) -> Device
     Device { activity, ..d }
 }
 
-pub fn with_scratchpad(d: Device, scratchpad: [u8; 8]) -> Device
+pub fn with_scratchpad(d: Device, scratchpad: EightBytes) -> Device
     ensures answer { λ r. ⌜ r ≡ withScratchpad d scratchpad ⌝ }
 {
     Device { scratchpad, ..d }
@@ -153,7 +154,7 @@ pub fn row_of(code: u64) -> Properties
 
 // ---- The settings
 
-pub fn settings_in(row: Properties, pad: [u8; 8]) -> Settings
+pub fn settings_in(row: Properties, pad: EightBytes) -> Settings
     ensures answer { λ r. ⌜ r ≡ settingsIn row pad ⌝ }
 {
     let high = pad[family::HIGH_LIMIT];
@@ -172,7 +173,7 @@ pub fn settings_in(row: Properties, pad: [u8; 8]) -> Settings
     }
 }
 
-pub fn with_settings(row: Properties, pad: [u8; 8], s: Settings) -> [u8; 8]
+pub fn with_settings(row: Properties, pad: EightBytes, s: Settings) -> EightBytes
     ensures answer { λ r. ⌜ r ≡ withSettings row pad s ⌝ }
 {
     let mut next = pad;
