@@ -51,6 +51,7 @@ use Rattle.device_hear.proofs.hear as hear
 use Rattle.device_hear.proofs.hear.Symbol as hear-def
 use Rattle.device_hear.proofs.hear.Symbol.{name as #hear}
 use Rattle.device_hear.proofs.hear.Met as hear-thm
+use Rattle.device_cell.proofs.hear_in_place.Key.{name as #device_cell·hear-in-place}
 use Rattle.device_cell.proofs.hear_in_place as here
 use Rattle.device_cell.proofs.hear_in_place.Statement as stated
 use Rattle.device_cell.proofs.hear_in_place.Code as code
