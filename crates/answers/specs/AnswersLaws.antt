@@ -6,7 +6,11 @@ use mathlib.Core.Bool.{Bool, true, false}
 use mathlib.Core.List.{List, [], _∷_, _++_, append-assoc, append-nil}
 use native.Mathlib.Omega.{arith}
 use native.Mathlib.Numerals.{add-one}
-use lib.ListN.{length, take, getD, length-append}
+use lib.Dec.{eqb}
+use lib.ListN.{length, take, getD, replicate, length-append}
+use Rattle.lists.specs.Choice.{if_then_else_}
+use Rattle.refusals.specs.Refusals.{accepted}
+use Rattle.bench.specs.declared.Looked.{Looked}
 use lib.Seq.{take-suc}
 use Rattle.text.specs.Decimal.{decimal}
 use Rattle.text.specs.DecimalLaws.{decimal-length, decimal-most}
@@ -16,7 +20,7 @@ use Rattle.temperature.specs.declared.Reading.{Reading}
 use Rattle.device.specs.declared.Activity.{Activity}
 use Rattle.device.specs.declared.Activity.the-variants.{Idle, Converting, Copying}
 use Rattle.device.specs.declared.Settings.{Settings}
-use Rattle.answers.specs.Answers.{flag, badLine, refusalLine, bitLine, searchLine, codeLine, codeLines, readingDigits, accessLine, settingsDigits, busyDigit, recordLine}
+use Rattle.answers.specs.Answers.{flag, badLine, refusalLine, bitLine, searchLine, codeLine, codeLines, readingDigits, accessLine, settingsDigits, busyDigit, recordLine, showLine}
 use Rattle.answers.specs.Laying.{lineRoom}
 
 -- ## Fields
@@ -106,3 +110,13 @@ pub codes-next : (cs : List ℕ) (i : ℕ) → i < length cs → codeLines (take
 unfolding codeLines
 codes-next cs i h =
     rw (add-one i, take-suc cs i 0 h, codes-append (take i cs) (getD cs i 0 ∷ []), append-nil (codeLine (getD cs i 0)))
+
+pub show-short : (l : Looked) → l .refusal < 256 → length (l .device .scratchpad) ≡ 8 → length (showLine l) ≤ lineRoom
+unfolding showLine
+show-short l h k = by-test (eqb (l .refusal) accepted)
+  where
+    by-test : (t : Bool)
+        → length (if t then recordLine accepted (l .device .scratchpad) (l .device .eeprom) (l .device .alarm) (l .device .activity)
+        else recordLine (l .refusal) (replicate 8 0) (record { high = 0; low = 0; configuration = 0 }) false Idle) ≤ lineRoom
+    by-test true = record-short accepted (l .device .scratchpad) (l .device .eeprom) (l .device .alarm) (l .device .activity) (omega arith) k
+    by-test false = record-short (l .refusal) (replicate 8 0) (record { high = 0; low = 0; configuration = 0 }) false Idle h (omega arith)
