@@ -1,9 +1,2 @@
-pub mod Words
-pub mod WordsLaws
-pub mod Fields
-pub mod FieldsLaws
-pub mod Requests
-pub mod RequestsLaws
-pub mod Texts
-pub mod TextsLaws
-pub mod Answers
+pub mod Console
+pub mod ConsoleLaws

@@ -1,61 +1,63 @@
-// The bench console: a line of input read as one call, and the line that answers it.
+// The bench console: a line of input is one call, and its answer is some lines of text.
 ghost use mathlib.Core.Path.{_≡_};
-ghost use Rattle.console.specs.Requests.{requestOf};
+ghost use Prim.Native.Nat.{_≤_};
+ghost use lib.ListN.{length};
+ghost use Rattle.console.specs.Console.{room, answered, answer, leaves, Says};
 
-mod answers;
-mod requests;
-mod writing;
+mod calls;
+mod saying;
+mod searches;
 
-pub use answers::access_line;
-pub use answers::bad_line;
-pub use answers::bit_line;
-pub use answers::code_line;
-pub use answers::refusal_line;
-pub use answers::search_line;
-pub use answers::show_line;
-use device::Joining;
-use device::Settings;
-use temperature::Sixteenths;
+use bench::Bench;
+use requests::Request;
 
-// The most characters of a line, its feed not counted.
-pub const LONGEST: usize = 80;
+// The bytes that an answer is lent: more than any answer needs.
+pub const ROOM: usize = 4096;
 
-// The most places of a list and bytes of a recording that a search is lent.
-pub const MOST_PLACES: usize = 32;
-
-pub const MOST_BYTES: usize = 1824;
-
-// What a line asks for.
-pub enum Request {
-    Bad,
-    Add(Joining),
-    Reset,
-    Slot(bool),
-    Converted { code: u64, count: Sixteenths },
-    Copied(u64),
-    Cycle(u64),
-    Search { places: usize, bytes: usize },
-    Alarm { places: usize, bytes: usize },
-    Read(u64),
-    Write { code: u64, settings: Settings },
-    Show(u64),
-}
-
-// The nine bytes of a scratchpad as a master reads them.
-pub type Pad = [u8; 9];
-
-// The characters of an answer; those from the count on are zero.
-pub struct Text {
-    pub bytes: [u8; 64],
+// What came of a line.
+pub struct Said {
+    pub refusal: u8,
+    // how many bytes of text stand at the front of what was lent, 0 on a refusal
     pub count: usize,
+    pub bench: Bench,
 }
 
-// What a line, without its feed, asks for.
-pub fn parse(line: &[u8]) -> Request
-    ensures answer { λ r. ⌜ r ≡ requestOf (now (line .entry)) ⌝ }
+fn respond(bench: Bench, request: Request, out: &mut [u8]) -> Said
+    requires { ⌜ room ≤ length (now out) ⌝ }
+    ensures { λ r. ⌜ Says (now (out .entry)) (answered bench request) (now (out .exit)) r ⌝ }
 {
-    if LONGEST < line.len() {
-        return Request::Bad;
+    match request {
+        Request::Bad => saying::say_bad(bench, out),
+        Request::Add(new) => calls::add(bench, new, out),
+        Request::Reset => calls::reset(bench, out),
+        Request::Slot(bit) => calls::slot(bench, bit, out),
+        Request::Converted { code, count } => calls::converted(bench, code, count, out),
+        Request::Copied(code) => calls::copied(bench, code, out),
+        Request::Cycle(code) => calls::cycle(bench, code, out),
+        Request::Search { places, bytes } => searches::search(bench, false, places, bytes, out),
+        Request::Alarm { places, bytes } => searches::search(bench, true, places, bytes, out),
+        Request::Read(code) => calls::read(bench, code, out),
+        Request::Write { code, settings } => calls::write(bench, code, settings, out),
+        Request::Show(code) => calls::show(bench, code, out),
     }
-    requests::in_words(line)
+}
+
+// One line, without its feed, and whether it had one: the call that it asks for is made, and the text
+// of the answer is laid at the front of what is lent. No answer is longer than the room.
+pub fn answer(bench: Bench, line: &[u8], fed: bool, out: &mut [u8]) -> Said
+    ensures answer { λ r. ⌜ r ≡ answer bench (record { chars = now (line .entry); fed = fed }) (now (out .entry)) ⌝ }
+    ensures written { λ r. ⌜ now (out .exit) ≡ leaves bench (record { chars = now (line .entry); fed = fed }) (now (out .entry)) ⌝ }
+    ensures kept { λ r. ⌜ r .count ≤ room ⌝ }
+{
+    if out.len() < ROOM {
+        return Said {
+            refusal: refusals::NO_ROOM,
+            count: 0,
+            bench,
+        };
+    }
+    if fed {
+        return respond(bench, requests::parse(line), out);
+    }
+    respond(bench, Request::Bad, out)
 }

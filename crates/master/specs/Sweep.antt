@@ -6,13 +6,17 @@
 --     swept s w                 a sweep after the pass w
 --     listedAfter list n w      the list of n codes after it: the code in the next place, nothing where nobody has answered
 --     sweptAll command b        the sweep after its last pass
+--     search-bounded            on any bench a search lists at most 32 codes and records at most 1,824 bytes, and stays within what it is lent
 use Prim.Native.Nat.{ℕ, zero, suc, _+_, _*_, _-_, _<_, _≤_}
-use mathlib.Core.Path.{_≡_, refl, sym, ap, _∙_}
-use mathlib.Core.Bool.{Bool, true, false, _&&_}
+use mathlib.Core.Path.{_≡_, refl, sym, ap, subst, _∙_}
+use mathlib.Core.Bool.{Bool, true, false, not, _&&_, _||_}
 use mathlib.Core.List.{List, [], _∷_, _++_, map, append-assoc, append-nil}
 use native.Mathlib.Omega.{arith}
+use native.Mathlib.Nat.{le-of-eq}
+use native.Mathlib.Numerals.{add-one}
+use borrow.Author.Tests.{ltb-false}
 use lib.Dec.{ltb}
-use lib.ListN.{length, set, length-append}
+use lib.ListN.{length, set, replicate, length-append, length-replicate}
 use Rattle.lists.specs.Choice.{if_then_else_}
 use Rattle.lists.specs.Fold.{fold}
 use Rattle.lists.specs.FoldLaws.{fold-append}
@@ -20,7 +24,7 @@ use Rattle.lists.specs.Laid.{laid}
 use Rattle.lists.specs.LaidLaws.{laid-none, laid-length, laid-more, laid-store}
 use Rattle.bits.specs.Bits.{bitsOf}
 use Rattle.bits.specs.BitsLaws.{bits-length}
-use Rattle.refusals.specs.Refusals.{accepted}
+use Rattle.refusals.specs.Refusals.{accepted, noRoom, wireBusy}
 use Rattle.frame.specs.Frames.{blankFrame, lineable}
 use Rattle.frame.specs.FramesLaws.{recorded-all, blank-held, blank-lineable}
 use Rattle.frame.specs.Recording.{writeAll}
@@ -35,13 +39,14 @@ use Rattle.search_law.specs.Departure.{takes}
 use Rattle.search_law.specs.PassLoop.{Walk as PassWalk, walk, walkOn, walkEnds, onward, bitStep, steps, startedPass, loopPass}
 use Rattle.search_law.specs.SearchLoop.{Sweep as SearchSweep, sweep, withPass, turns, turns-turn, turns-end, turns-over, turn-pass, loopSearch, SameSearch, loop-search}
 use Rattle.search_law.specs.Wire.{Bus, slots}
+use Rattle.bench.specs.Bench.{free}
 use Rattle.bench.specs.Slot.{resetDone}
 use Rattle.bench.specs.declared.Bench.{Bench}
 use Rattle.master_rules.specs.declared.Searched.{Searched}
 use Rattle.master.specs.declared.Sweep.{Sweep}
 use Rattle.search_pass.specs.declared.Walk.{Walk}
 use Rattle.search_pass.specs.Pass.{walkOf}
-use Rattle.master_rules.specs.Search.{codeLength, mostPasses, fewestPlaces, fewestBytes, frameOf, refusedOutcome, lonelyOutcome, foundOutcome, searchRun, countPass, passesIn, slotsIn, answerOf, listAfter, recordingAfter}
+use Rattle.master_rules.specs.Search.{codeLength, mostPasses, fewestPlaces, fewestBytes, frameOf, Outcome, refusedOutcome, lonelyOutcome, foundOutcome, searchRun, searchOutcome, countPass, passesIn, slotsIn, answerOf, listAfter, recordingAfter}
 use Rattle.searching.specs.Buses.{calls}
 
 -- the most slots of a pass, and the bytes of its line
@@ -394,3 +399,103 @@ module _ (command : ℕ) (b : Bench) where
 pub unrecorded : (recording : List ℕ) → recording ≡ laid recording 0 (writeAll [])
 unfolding writeAll
 unrecorded recording = laid-none recording 0
+
+-- ## How much a search lists and records, on any bench
+
+-- a list and a recording of some length
+unfoldable zeros : ℕ → List ℕ
+zeros n = replicate n 0
+
+zeros-length : (n : ℕ) → length (zeros n) ≡ n
+unfolding zeros
+zeros-length n = length-replicate n 0
+
+-- a sweep after i turns, whatever it finds
+record SweptTo (command : ℕ) (b : Bench) (list₀ recording₀ : List ℕ) (i : ℕ) : Type 0 where
+  s : Sweep
+  list : List ℕ
+  recording : List ℕ
+  holds : Sweeping command b list₀ recording₀ i s list recording
+
+module _ (command : ℕ) (b : Bench) (list₀ recording₀ : List ℕ) (places : fewestPlaces ≤ length list₀) (room : fewestBytes ≤ length recording₀) where
+  swept-next : (i : ℕ) → i < mostPasses → SweptTo command b list₀ recording₀ i → SweptTo command b list₀ recording₀ (i + 1)
+  swept-next i h k = by-going (k .s .going) refl
+    where
+      by-going : (t : Bool) → k .s .going ≡ t → SweptTo command b list₀ recording₀ (i + 1)
+      by-going true g =
+          let w = passFrom command (k .s) (resetDone (k .s .bench) .bench) in
+          record {
+            s = swept (k .s) w;
+            list = listedAfter (k .list) (k .s .codes) w;
+            recording = laid (k .recording) (k .s .bytes) (fedLine (w .shown));
+            holds =
+                sweeping-pass command b list₀ recording₀ i (k .s) (k .list) (k .recording) (k .holds) (resetDone (k .s .bench) .bench) refl h g places room;
+          }
+      by-going false g = record {
+        s = k .s;
+        list = k .list;
+        recording = k .recording;
+        holds = sweeping-over command b list₀ recording₀ i (k .s) (k .list) (k .recording) (k .holds) g;
+      }
+
+  swept-to : (i : ℕ) → i ≤ mostPasses → SweptTo command b list₀ recording₀ i
+  swept-to zero h = record { s = noPass b; list = list₀; recording = recording₀; holds = sweeping-start command b list₀ recording₀ }
+  swept-to (suc i) h = subst (SweptTo command b list₀ recording₀) (add-one i) (swept-next i (omega arith) (swept-to i (omega arith)))
+
+-- the most codes and bytes of any search, and that they stay within what is lent
+pub record Bounded (places room : ℕ) (o : Outcome) : Type 0 where
+  pub codes-most : length (o .listed) ≤ fewestPlaces
+  pub bytes-most : length (writeAll (o .frames)) ≤ fewestBytes
+  pub codes-lent : length (o .listed) ≤ places
+  pub bytes-lent : length (writeAll (o .frames)) ≤ room
+
+module _ (command : ℕ) (b : Bench) where
+  end-bounded : (list₀ recording₀ : List ℕ) (i : ℕ) → mostPasses ≤ i → i ≤ mostPasses → SweptTo command b list₀ recording₀ i
+      → (length (sweptAll command b .codes) ≤ fewestPlaces) × (length (writeAll (framesOf (sweptAll command b))) ≤ fewestBytes)
+  end-bounded list₀ recording₀ i l m k =
+      let e = sweeping-end command b list₀ recording₀ i (k .s) (k .list) (k .recording) (k .holds) l .0 in
+      let codes : k .s .codes ≡ length (sweptAll command b .codes) = ap (λ (u : Sweep). u .codes) e in
+      let bytes : k .s .bytes ≡ length (writeAll (framesOf (sweptAll command b))) = ap (λ (u : Sweep). u .bytes) e in
+      let few = k .holds .few in
+      let codes-few = k .holds .counted .codes-few in
+      let bytes-few = k .holds .counted .bytes-few in
+      (omega arith, omega arith)
+
+  swept-bounded : (length (sweptAll command b .codes) ≤ fewestPlaces) × (length (writeAll (framesOf (sweptAll command b))) ≤ fewestBytes)
+  swept-bounded =
+      let places : fewestPlaces ≤ length (zeros fewestPlaces) = le-of-eq (sym (zeros-length fewestPlaces)) in
+      let room : fewestBytes ≤ length (zeros fewestBytes) = le-of-eq (sym (zeros-length fewestBytes)) in
+      let all : mostPasses ≤ mostPasses = omega arith in
+      end-bounded (zeros fewestPlaces) (zeros fewestBytes) mostPasses all all (swept-to command b (zeros fewestPlaces) (zeros fewestBytes) places room mostPasses all)
+
+module _ (places room : ℕ) where
+  refused-bounded : (n : ℕ) (b : Bench) → Bounded places room (refusedOutcome n b)
+  unfolding writeAll
+  refused-bounded n b = record { codes-most = omega arith; bytes-most = omega arith; codes-lent = omega arith; bytes-lent = omega arith }
+
+  module _ (enough : fewestPlaces ≤ places) (long : fewestBytes ≤ room) where
+    lonely-bounded : (b : Bench) → Bounded places room (lonelyOutcome b)
+    lonely-bounded b =
+        let l = ap (λ (s : Searched). s .bytes) (absence-is 7 b refl) in
+        record { codes-most = omega arith; bytes-most = omega arith; codes-lent = omega arith; bytes-lent = omega arith }
+
+    found-bounded : (command : ℕ) (b : Bench) → Bounded places room (foundOutcome (searchRun command b))
+    found-bounded command b =
+        let k = swept-bounded command b in
+        let codes = ap (λ (s : Searched). s .codes) (found-answer command b) in
+        let bytes = ap (λ (s : Searched). s .bytes) (found-answer command b) in
+        let codes-few = k .0 in
+        let bytes-few = k .1 in
+        record { codes-most = omega arith; bytes-most = omega arith; codes-lent = omega arith; bytes-lent = omega arith }
+
+pub search-bounded : (command : ℕ) (b : Bench) (places room : ℕ) → Bounded places room (searchOutcome command b places room)
+unfolding searchOutcome
+search-bounded command b places room = by-places (ltb places fewestPlaces) refl (ltb room fewestBytes) refl (free b) (resetDone b .presence)
+  where
+    by-places : (s : Bool) → ltb places fewestPlaces ≡ s → (t : Bool) → ltb room fewestBytes ≡ t → (f p : Bool)
+        → Bounded places room (if s || t then refusedOutcome noRoom b else if not f then refusedOutcome wireBusy b else if not p then lonelyOutcome (resetDone b .bench) else foundOutcome (searchRun command b))
+    by-places true e t d f p = refused-bounded places room noRoom b
+    by-places false e true d f p = refused-bounded places room noRoom b
+    by-places false e false d false p = refused-bounded places room wireBusy b
+    by-places false e false d true false = lonely-bounded places room (ltb-false places fewestPlaces e) (ltb-false room fewestBytes d) (resetDone b .bench)
+    by-places false e false d true true = found-bounded places room (ltb-false places fewestPlaces e) (ltb-false room fewestBytes d) command b

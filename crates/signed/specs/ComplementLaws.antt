@@ -3,15 +3,15 @@
 --     read16 n, held16 z      how the code's own numbers of sixteen bits are read and held: law `signed-read` and `bits-held` say that it is as the definitions have it
 -- Assumes nothing.
 use Prim.Native.Nat.{ℕ, zero, suc, _-_, _*_, _^_, _<_, _≤_}
-use mathlib.Core.Path.{_≡_, refl}
+use mathlib.Core.Path.{_≡_, refl, ap, _∙_}
 use mathlib.Core.Bool.{Bool, true, false, false≢true}
 use native.Mathlib.Omega.{arith}
 use native.Mathlib.Nat.{lt-of-lt-of-le}
-use borrow.Author.Tests.{le-ltb, leb-false, ltb-false}
-use lib.Dec.{ltb}
-use lib.IntN.{ℤ, pos, negsuc, _+ℤ_, _-ℤ_, _*ℤ_}
+use borrow.Author.Tests.{le-ltb, leb-false, ltb-false, lt-ltb}
+use lib.Dec.{ltb, lit≤}
+use lib.IntN.{ℤ, pos, negsuc, negℤ, _+ℤ_, _-ℤ_, _*ℤ_}
 use lib.Signed.{mag, mag-shr, leZ, shrZ}
-use mir.Syntax.{Width, w8, w16}
+use mir.Syntax.{Width, w8, w16, w32}
 use mir.Val.{SFits, toZ, ofZ, bits, hbits}
 use mir.ValLaws.{toZ-ofZ, ofZ-toZ, ofZ-fits, toZ-fits, sfits-le, half-full}
 use Rattle.lists.specs.Choice.{if_then_else_}
@@ -129,3 +129,35 @@ module _ (z : ℤ) (s t : ℕ) (positive : 0 < s) (divides : s * t ≡ 32768) wh
     pub floor-code : read16 (held16 (read16 (held16 (shrZ (read16 (held16 z)) s)) *ℤ pos s)) ≡ floorTo s z
     unfolding floorTo
     floor-code = rw (shift-code z s f) (held-back (floorTo s z) floor-fits)
+
+-- ## A number and its negative, as the code makes them of a size
+
+small : (w : Width) (n : ℕ) → n < 2 ^ hbits w → toZ w n ≡ pos n
+small w n h = rw (lt-ltb n (2 ^ hbits w) h)
+
+pub positive-code : (n : ℕ) → n ≤ 32767 → toZ w16 n ≡ pos n
+positive-code n h = small w16 n (omega arith)
+
+negated : (n : ℕ) → pos 0 -ℤ pos n ≡ negℤ (pos n)
+negated zero = refl
+negated (suc n) = sub-below 0 (suc n) (omega arith) ∙ ap negsuc (omega arith)
+
+negative-fits : (w : Width) (n : ℕ) → 1 ≤ 2 ^ hbits w → n ≤ 2 ^ hbits w → SFits w (negℤ (pos n))
+negative-fits w zero one h = record { sfits = one }
+negative-fits w (suc n) one h = record { sfits = h }
+
+module _ (n : ℕ) (h : n ≤ 32768) where
+  negative-wide : pos 0 -ℤ toZ w32 n ≡ negℤ (pos n)
+  negative-wide = rw (small w32 n (omega arith)) (negated n)
+
+  pub negative-wide-fits : SFits w32 (pos 0 -ℤ toZ w32 n)
+  negative-wide-fits = rw negative-wide (negative-fits w32 n (lit≤ tt) (omega arith))
+
+  wide-code : toZ w32 (ofZ w32 (pos 0 -ℤ toZ w32 n)) ≡ negℤ (pos n)
+  wide-code = toZ-ofZ w32 (pos 0 -ℤ toZ w32 n) negative-wide-fits ∙ negative-wide
+
+  pub negative-code-fits : SFits w16 (toZ w32 (ofZ w32 (pos 0 -ℤ toZ w32 n)))
+  negative-code-fits = rw wide-code (negative-fits w16 n (lit≤ tt) h)
+
+  pub negative-code : toZ w16 (ofZ w16 (toZ w32 (ofZ w32 (pos 0 -ℤ toZ w32 n)))) ≡ negℤ (pos n)
+  negative-code = toZ-ofZ w16 (toZ w32 (ofZ w32 (pos 0 -ℤ toZ w32 n))) negative-code-fits ∙ wide-code

@@ -2,19 +2,20 @@
 -- digits are known.
 -- Assumes nothing.
 use Prim.Native.Nat.{ℕ, _+_, _-_, _*_, _/_, _^_, _<_, _≤_}
-use mathlib.Core.Path.{_≡_, sym, ap, _∙_}
-use mathlib.Core.Bool.{true, false, and-false}
+use mathlib.Core.Path.{_≡_, refl, sym, ap, _∙_}
+use mathlib.Core.Bool.{Bool, true, false, _&&_, and-false}
 use mathlib.Core.List.{List, [], _∷_}
 use native.Mathlib.Omega.{arith}
-use native.Mathlib.Nat.{mul-comm, mul-le-mul-right, one-mul, le-div-iff-mul-le, div-lt-iff-lt-mul, pow-le-pow-right}
-use borrow.Author.Tests.{le-leb, lt-leb, lt-ltb, le-ltb, eq-eqb}
-use lib.Dec.{lit<}
+use native.Mathlib.Nat.{mul-comm, mul-le-mul-right, one-mul, le-div-iff-mul-le, div-lt-iff-lt-mul, one-le-pow, pow-le-pow-right}
+use borrow.Author.Tests.{le-leb, lt-leb, lt-ltb, le-ltb, eq-eqb, eqb-true, leb-true}
+use lib.Dec.{eqb, leb, ltb, lit<}
 use lib.ListN.{length, take, drop, getD, take-append-drop}
+use Rattle.lists.specs.Choice.{if_then_else_}
 use Rattle.lists.specs.Fold.{fold}
 use Rattle.lists.specs.FoldLaws.{fold-append, all-from}
 use Rattle.text.specs.Digits.{valueOf, isDigit, spells, thenDigit, numberIn}
 use Rattle.text.specs.DigitsLaws.{number-next, number-below}
-use Rattle.text.specs.Numbers.{noNumber, numberRead, greatest, fixedRead}
+use Rattle.text.specs.Numbers.{noNumber, numberRead, greatest, fixedRead, decimalRead}
 
 -- ## Along the loop
 
@@ -81,3 +82,38 @@ fixed-hex n cs l few s =
     let power : 16 ^ length cs ≤ 16 ^ 16 = let k : length cs ≤ 16 = rw l few in pow-le-pow-right {n = 16} (lit< tt) k in
     let b : numberIn 16 cs ≤ greatest = omega arith in
     rw (eq-eqb (length cs) n l) (sym (read-number 16 greatest cs s b))
+
+-- ## How great a number is that a reader answers
+
+module _ (base bound : ℕ) (cs : List ℕ) where
+  pub number-most : numberRead base bound cs .number ≤ bound
+  number-most = by-test (spells base cs) (leb (numberIn base cs) bound) refl
+    where
+      by-test : (s t : Bool) → leb (numberIn base cs) bound ≡ t → (if s && t then record { valid = true; number = numberIn base cs } else noNumber) .number ≤ bound
+      by-test true true e = leb-true (numberIn base cs) bound e
+      by-test true false e = omega arith
+      by-test false t e = omega arith
+
+pub decimal-at-most : (most bound : ℕ) (cs : List ℕ) → decimalRead most bound cs .number ≤ bound
+decimal-at-most most bound cs = by-test (leb 1 (length cs) && leb (length cs) most) (number-most 10 bound cs)
+  where
+    by-test : (t : Bool) → numberRead 10 bound cs .number ≤ bound → (if t then numberRead 10 bound cs else noNumber) .number ≤ bound
+    by-test true h = h
+    by-test false h = omega arith
+
+-- so many digits stay below that power of the base
+pub fixed-below : (base n : ℕ) (cs : List ℕ) → 0 < base → fixedRead base n cs .number < base ^ n
+fixed-below base n cs some = by-length (eqb (length cs) n) refl
+  where
+    positive : 0 < base ^ n
+    positive = one-le-pow n base some
+
+    by-spelling : (s t : Bool) → spells base cs ≡ s → length cs ≡ n
+        → (if s && t then record { valid = true; number = numberIn base cs } else noNumber) .number < base ^ n
+    by-spelling true true e l = rw (← l) (number-below base cs e)
+    by-spelling true false e l = positive
+    by-spelling false t e l = positive
+
+    by-length : (t : Bool) → eqb (length cs) n ≡ t → (if t then numberRead base greatest cs else noNumber) .number < base ^ n
+    by-length true e = by-spelling (spells base cs) (leb (numberIn base cs) greatest) refl (eqb-true (length cs) n e)
+    by-length false e = positive

@@ -1,0 +1,51 @@
+-- Field after field. Assumes nothing.
+use Rattle.text.specs.Decimal.{decimal}
+use Rattle.answers.specs.Answers.{searchLine}
+use Rattle.answers.specs.LayingLaws.{puts-field}
+use borrow.Author.Needs.{needs}
+use Rattle.answers.proofs.lines.put_counts.Statement.{statement}
+use Rattle.answers.proofs.lines.put_counts.Tie as tie
+
+put-number-requires : tie.Need-put-number-requires
+put-number-requires c κs = search needs
+
+put-number-requires-2 : tie.Need-put-number-requires-2
+put-number-requires-2 c κs = search needs
+
+put-number-requires-3 : tie.Need-put-number-requires-3
+put-number-requires-3 c κs = search needs
+
+put-number-requires-4 : tie.Need-put-number-requires-4
+put-number-requires-4 c κs = search needs
+
+put-number-requires-5 : tie.Need-put-number-requires-5
+put-number-requires-5 c κs = search needs
+
+same-length : tie.Need-same-length
+same-length c = search needs
+
+returns : tie.Need-returns
+unfolding searchLine
+returns c =
+    let bytes = c .before .before in
+    let slots = bytes .before .before .before .before in
+    let passes = slots .before .before .before .before in
+    let codes = passes .before .before .before .before in
+    let refusal = codes .before .before .before .before in
+    let a = refusal .before .before .before .args in
+    puts-field (decimal (a .refusal)) 0x20 (refusal .put-number .ensures)
+    (puts-field (decimal (a .codes)) 0x20 (codes .put-number2 .ensures)
+    (puts-field (decimal (a .passes)) 0x20 (passes .put-number3 .ensures)
+    (puts-field (decimal (a .slots)) 0x20 (slots .put-number4 .ensures) (bytes .put-number5 .ensures))))
+
+pub put-counts-spec : {M : Type 1} → statement M
+put-counts-spec =
+    tie.close
+    (tie.spec
+    put-number-requires
+    put-number-requires-2
+    put-number-requires-3
+    put-number-requires-4
+    put-number-requires-5
+    same-length
+    returns)

@@ -1,0 +1,20 @@
+-- What is laid all or nothing is put where it fits. Assumes nothing.
+use Rattle.answers.specs.LayingLaws.{puts-laid}
+use borrow.Author.Needs.{needs}
+use Rattle.answers.proofs.putting.put_char.Statement.{statement}
+use Rattle.answers.proofs.putting.put_char.Tie as tie
+
+slice-aggregate-lay : tie.Need-slice-aggregate-lay
+slice-aggregate-lay c = search needs
+
+lay-requires : tie.Need-lay-requires
+lay-requires c κs = search needs
+
+same-length : tie.Need-same-length
+same-length c = search needs
+
+returns : tie.Need-returns
+returns c = let lay = c .before .before .lay in puts-laid _ _ _ _ _ (lay .ensures .0) (lay .ensures .1)
+
+pub put-char-spec : {M : Type 1} → statement M
+put-char-spec = tie.close (tie.spec slice-aggregate-lay lay-requires same-length returns)
