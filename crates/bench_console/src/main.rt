@@ -74,9 +74,8 @@ fn read_some(s: Session, line: &mut [u8], out: &mut [u8]) -> Session {
     take(s, line, &chunk[..n], out)
 }
 
-// A proved loop ends; this one counts down from more reads than any run makes. At the end a last line
-// without a feed is answered.
-fn run(line: &mut [u8], out: &mut [u8]) {
+// A proved loop ends; this one counts down from more reads than any run makes.
+fn run(line: &mut [u8], out: &mut [u8]) -> Session {
     let mut s = Session {
         bench: bench::new(),
         held: 0,
@@ -86,12 +85,17 @@ fn run(line: &mut [u8], out: &mut [u8]) {
     while reads > 0 {
         s = read_some(s, line, out);
         if !s.going {
-            reads = 1;
+            return s;
         }
         reads -= 1;
     }
+    s
+}
+
+// A last line without a feed.
+fn finish(s: Session, line: &[u8], out: &mut [u8]) {
+    let bench = s.bench;
     if s.held > 0 {
-        let bench = s.bench;
         answer_line(bench, line, s.held, false, out);
     }
 }
@@ -99,5 +103,6 @@ fn run(line: &mut [u8], out: &mut [u8]) {
 fn main() {
     let mut line = [0u8; MOST_HELD];
     let mut out = [0u8; ROOM];
-    run(&mut line, &mut out);
+    let s = run(&mut line, &mut out);
+    finish(s, &line, &mut out);
 }
