@@ -1,2 +1,4 @@
 pub mod Console
 pub mod ConsoleLaws
+pub mod Gathering
+pub mod GatheringLaws

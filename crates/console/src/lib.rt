@@ -5,14 +5,27 @@ ghost use lib.ListN.{length};
 ghost use Rattle.console.specs.Console.{room, answered, answer, leaves, Says};
 
 mod calls;
+mod gathering;
 mod saying;
 mod searches;
 
 use bench::Bench;
+pub use gathering::take_byte;
 use requests::Request;
 
 // The bytes that an answer is lent: more than any answer needs.
 pub const ROOM: usize = 4096;
+
+// As much of a line as tells that it is over-long: one character more than it may have.
+pub const MOST_HELD: usize = 81;
+
+// What came of a byte.
+pub struct Gathered {
+    // how many characters are held
+    pub held: usize,
+    // whether the line has ended
+    pub whole: bool,
+}
 
 // What came of a line.
 pub struct Said {

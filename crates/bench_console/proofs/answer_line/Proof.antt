@@ -4,14 +4,17 @@ use borrow.Author.Needs.{needs}
 use Rattle.bench_console.proofs.answer_line.Statement.{statement}
 use Rattle.bench_console.proofs.answer_line.Tie as tie
 
-slice-aggregate-parse : tie.Need-slice-aggregate-parse
-slice-aggregate-parse c = search (needs, length-take-le)
-
-parse-requires : tie.Need-parse-requires
-parse-requires c κs = search needs
+slice-aggregate-answer : tie.Need-slice-aggregate-answer
+slice-aggregate-answer c = search (needs, length-take-le)
 
 answer-requires : tie.Need-answer-requires
 answer-requires c κs = search needs
+
+write-front-requires : tie.Need-write-front-requires
+write-front-requires c κs = search needs
+
+same-length : tie.Need-same-length
+same-length c = search needs
 
 returns : tie.Need-returns
 returns c = search needs
@@ -21,4 +24,11 @@ returns-2 c = search needs
 
 pub answer-line-spec : {M : Type 1} → statement M
 answer-line-spec =
-    tie.close (tie.spec slice-aggregate-parse parse-requires answer-requires returns returns-2)
+    tie.close
+    (tie.spec
+    slice-aggregate-answer
+    answer-requires
+    write-front-requires
+    same-length
+    returns
+    returns-2)

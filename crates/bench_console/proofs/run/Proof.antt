@@ -1,4 +1,4 @@
--- The line keeps its room. The measure is how many reads are left. Assumes nothing.
+-- The buffers keep their lengths. The measure is how many reads are left. Assumes nothing.
 use mathlib.Core.Path.{_≡_}
 use lib.ListN.{length}
 use borrow.Author.Needs.{needs}
@@ -6,10 +6,10 @@ use Rattle.bench_console.proofs.run.Statement.{statement}
 use Rattle.bench_console.proofs.run.Tie as tie
 
 abbrev Inv-loop : tie.InvT-loop
-Inv-loop line₀ s₀ reads₀ line s reads = length line ≡ length line₀
+Inv-loop line₀ out₀ s₀ reads₀ line out s reads = (length line ≡ length line₀) × (length out ≡ length out₀)
 
 abbrev μ-loop : tie.MeasureT-loop
-μ-loop line₀ s₀ reads₀ line s reads = reads
+μ-loop line₀ out₀ s₀ reads₀ line out s reads = reads
 
 new-requires : tie.Need-new-requires Inv-loop μ-loop
 new-requires c κs = search needs
@@ -23,6 +23,9 @@ read-some-requires c κs = search needs
 same-length : tie.Need-same-length Inv-loop μ-loop
 same-length c = search needs
 
+same-length-2 : tie.Need-same-length-2 Inv-loop μ-loop
+same-length-2 c = search needs
+
 returns : tie.Need-returns Inv-loop μ-loop
 returns c = search needs
 
@@ -35,8 +38,11 @@ loop-less c = search needs
 loop-again : tie.Need-loop-again Inv-loop μ-loop
 loop-again c = search needs
 
-same-length-2 : tie.Need-same-length-2 Inv-loop μ-loop
-same-length-2 c = search needs
+same-length-3 : tie.Need-same-length-3 Inv-loop μ-loop
+same-length-3 c = search needs
+
+same-length-4 : tie.Need-same-length-4 Inv-loop μ-loop
+same-length-4 c = search needs
 
 returns-2 : tie.Need-returns-2 Inv-loop μ-loop
 returns-2 c = search needs
@@ -51,9 +57,11 @@ run-spec =
     loop-holds
     read-some-requires
     same-length
+    same-length-2
     returns
     sub-reads
     loop-less
     loop-again
-    same-length-2
+    same-length-3
+    same-length-4
     returns-2)

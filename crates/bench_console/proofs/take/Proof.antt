@@ -1,4 +1,4 @@
--- The loop's invariant: `i` is within what was read. The measure is what is left of it. Assumes nothing.
+-- The loop's invariant: `i` is within what was read, and both buffers keep their lengths. The measure is what is left of it. Assumes nothing.
 use Prim.Native.Nat.{_≤_, _-_}
 use mathlib.Core.Path.{_≡_}
 use lib.ListN.{length}
@@ -7,10 +7,10 @@ use Rattle.bench_console.proofs.take.Statement.{statement}
 use Rattle.bench_console.proofs.take.Tie as tie
 
 abbrev Inv-loop : tie.InvT-loop
-Inv-loop line₀ chunk s₀ i₀ line s i = (i ≤ length chunk) × (length line ≡ length line₀)
+Inv-loop line₀ chunk out₀ s₀ i₀ line out s i = (i ≤ length chunk) × (length line ≡ length line₀) × (length out ≡ length out₀)
 
 abbrev μ-loop : tie.MeasureT-loop
-μ-loop line₀ chunk s₀ i₀ line s i = length chunk - i
+μ-loop line₀ chunk out₀ s₀ i₀ line out s i = length chunk - i
 
 loop-holds : tie.Need-loop-holds Inv-loop μ-loop
 loop-holds c = search needs
@@ -33,6 +33,9 @@ loop-again c = search needs
 same-length : tie.Need-same-length Inv-loop μ-loop
 same-length c = search needs
 
+same-length-2 : tie.Need-same-length-2 Inv-loop μ-loop
+same-length-2 c = search needs
+
 returns : tie.Need-returns Inv-loop μ-loop
 returns c = search needs
 
@@ -49,4 +52,5 @@ take-spec =
     loop-less
     loop-again
     same-length
+    same-length-2
     returns)
