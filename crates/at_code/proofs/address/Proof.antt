@@ -1,3 +1,4 @@
+-- Three sends one behind the other: 55h, the code, the command. Assumes nothing.
 use borrow.Author.Needs.{needs}
 use Rattle.master_rules.specs.Access.{addressed}
 use Rattle.at_code.proofs.address.Statement.{statement}
