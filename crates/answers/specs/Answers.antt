@@ -17,12 +17,11 @@ use Rattle.lists.specs.Choice.{if_then_else_}
 use Rattle.refusals.specs.Refusals.{accepted}
 use Rattle.text.specs.Ascii.{ascii}
 use Rattle.text.specs.Decimal.{decimal}
-use Rattle.text.specs.Digits.{hexDigits, codeDigits, hexOf}
+use Rattle.text.specs.Digits.{codeDigits, hexOf}
 use Rattle.temperature.specs.declared.Reading.{Reading}
 use Rattle.temperature.specs.Register.{registerOf}
 use Rattle.device.specs.declared.Activity.{Activity}
 use Rattle.device.specs.declared.Activity.the-variants.{Idle, Converting, Copying}
-use Rattle.device.specs.declared.Device.{Device}
 use Rattle.device.specs.declared.Settings.{Settings}
 use Rattle.bench.specs.declared.Looked.{Looked}
 

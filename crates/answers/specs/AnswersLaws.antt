@@ -14,7 +14,6 @@ use Rattle.bench.specs.declared.Looked.{Looked}
 use lib.Seq.{take-suc}
 use Rattle.text.specs.Decimal.{decimal}
 use Rattle.text.specs.DecimalLaws.{decimal-length, decimal-most}
-use Rattle.text.specs.Digits.{codeDigits, hexOf}
 use Rattle.text.specs.DigitsLaws.{digits-length, hex-length}
 use Rattle.temperature.specs.declared.Reading.{Reading}
 use Rattle.device.specs.declared.Activity.{Activity}

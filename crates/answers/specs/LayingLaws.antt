@@ -2,13 +2,11 @@
 -- Assumes nothing.
 use Prim.Native.Nat.{ℕ, _+_, _≤_}
 use mathlib.Core.Path.{_≡_, refl, sym, ap, _∙_}
-use mathlib.Core.Bool.{Bool, true, false}
+use mathlib.Core.Bool.{true, false}
 use mathlib.Core.List.{List, [], _∷_, _++_, append-assoc}
 use native.Mathlib.Omega.{arith}
 use borrow.Author.Tests.{leb-true}
-use lib.Dec.{leb}
 use lib.ListN.{length, length-append}
-use Rattle.lists.specs.Choice.{if_then_else_}
 use Rattle.lists.specs.Laid.{laid}
 use Rattle.lists.specs.LaidLaws.{laid-length, laid-then}
 use Rattle.refusals.specs.Refusals.{accepted, noRoom}

@@ -1,14 +1,14 @@
 -- What is held of a line tells what the whole line asks for, however long it is; and the buffer holds just that.
 -- Assumes nothing.
-use Prim.Native.Nat.{ℕ, suc, _+_, _<_, _≤_, min}
+use Prim.Native.Nat.{ℕ, _<_, _≤_}
 use mathlib.Core.Path.{_≡_, refl, sym, ap, _∙_}
 use mathlib.Core.Bool.{Bool, true, false}
-use mathlib.Core.List.{List, [], _∷_, _++_, append-nil, append-assoc}
+use mathlib.Core.List.{List, [], _∷_, _++_}
 use native.Mathlib.Omega.{arith}
 use native.Mathlib.Numerals.{add-one}
 use borrow.Author.Tests.{leb-true, leb-false, lt-leb, le-ltb, lt-ltb, ne-eqb}
 use lib.Dec.{leb}
-use lib.ListN.{length, set, take, length-take, length-append}
+use lib.ListN.{length, take, length-take, length-append}
 use lib.Seq.{take-all, take-append-le, take-suc-set, length-take-le}
 use Rattle.text.specs.Lines.{lineFeed}
 use Rattle.requests.specs.Requests.{requestOf, longest}

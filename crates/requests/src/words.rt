@@ -1,6 +1,5 @@
 // The words of a line.
 ghost use mathlib.Core.Path.{_≡_};
-ghost use mathlib.Core.List.{[]};
 ghost use Prim.Native.Nat.{_+_, _<_, _≤_};
 ghost use lib.ListN.{length, drop};
 ghost use Rattle.requests.specs.Words.{spaceAt, wordsEnded, wordsOf, wordOf, same};

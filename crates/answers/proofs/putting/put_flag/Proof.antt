@@ -1,8 +1,6 @@
 -- The mark is put behind the digit. Assumes nothing.
-use mathlib.Core.List.{List, [], _∷_}
 use mathlib.Core.Path.{subst}
 use denote.Ref.{now}
-use Rattle.answers.specs.Answers.{flag}
 use Rattle.answers.specs.Laying.{Puts}
 use Rattle.answers.specs.LayingLaws.{puts-then}
 use borrow.Author.Needs.{needs}

@@ -1,7 +1,5 @@
 -- A line has a first word, so what is left of the words are the fields. Assumes nothing.
 use denote.Ref.{now}
-use mathlib.Core.Path.{sym, ap, _∙_}
-use native.Mathlib.Omega.{arith}
 use Rattle.requests.specs.Words.{same}
 use Rattle.requests.specs.WordsLaws.{words-some}
 use borrow.Author.Needs.{needs}

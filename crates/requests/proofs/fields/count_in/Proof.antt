@@ -1,6 +1,6 @@
 -- A number of five digits with its sign fits sixteen bits where its reader takes it; behind a minus stands the rest of the word. Assumes nothing.
 use denote.Ref.{now}
-use Prim.Native.Nat.{_≤_, _-_}
+use Prim.Native.Nat.{_-_}
 use lib.ListN.{length, take, drop}
 use Rattle.text.specs.Numbers.{decimalRead}
 use mathlib.Core.Path.{_≡_, refl, sym, ap, _∙_}

@@ -1,7 +1,7 @@
 -- The loop's invariant: the words have one length, and what is left of both from `i` on is the same just where the words are. The measure is what is left.
 -- Assumes nothing.
-use Prim.Native.Nat.{_≤_, _<_, _-_}
-use mathlib.Core.Path.{_≡_, refl, sym, _∙_}
+use Prim.Native.Nat.{_≤_, _-_}
+use mathlib.Core.Path.{_≡_, sym, _∙_}
 use native.Mathlib.Omega.{arith}
 use lib.ListN.{length, drop}
 use Rattle.requests.specs.Words.{same}

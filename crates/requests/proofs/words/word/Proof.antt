@@ -1,7 +1,7 @@
 -- The word starts where the passed words end, and ends at the next space. Where there are no more words, the part is empty. Assumes nothing.
 use denote.Ref.{now}
 use native.Mathlib.Omega.{arith}
-use lib.ListN.{length, drop, length-drop}
+use lib.ListN.{drop, length-drop}
 use mathlib.Core.Path.{refl}
 use Rattle.requests.specs.Words.{wordsOf}
 use Rattle.requests.specs.WordsLaws.{space-within, word-here, word-past}
