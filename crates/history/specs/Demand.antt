@@ -47,11 +47,11 @@ unheard command = bitsOf 8 command ++ true ∷ true ∷ []
 -- ## The three ways a search can end
 
 -- the slots of a pass that lists a code, and the bytes of its line; those of a pass that nobody answers; the bytes of a reset without presence
-abbrev pub passSlots : ℕ
-passSlots = 200
+abbrev pub slotsPerCode : ℕ
+slotsPerCode = 200
 
-abbrev pub passBytes : ℕ
-passBytes = 57
+abbrev pub bytesPerCode : ℕ
+bytesPerCode = 57
 
 abbrev pub unheardSlots : ℕ
 unheardSlots = 10
@@ -80,7 +80,7 @@ pub record Unanswered (command : ℕ) (b : Bench) (o : Outcome) : Type 0 where
   pub makes : Makes (unheard command ∷ []) b o
 
 pub record Listing (command : ℕ) (codes : List ℕ) (b : Bench) (o : Outcome) : Type 0 where
-  pub told : Told o (length codes) (length codes) (passSlots * length codes) (passBytes * length codes)
+  pub told : Told o (length codes) (length codes) (slotsPerCode * length codes) (bytesPerCode * length codes)
   pub all-listed : List·Permᴰ codes (o .listed)
   pub in-order : Pairs Sooner (o .listed)
   pub makes : Makes (map (passOf command) (o .listed)) b o

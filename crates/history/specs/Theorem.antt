@@ -45,7 +45,7 @@ use Rattle.searching.specs.Course.{Course}
 use Rattle.master_rules.specs.Search.{fewestPlaces, fewestBytes, codeLength, mostPasses, frameOf, lonelyOutcome, foundOutcome, searchRun, searchOutcome, passesIn, slotsIn}
 use Rattle.history.specs.Counted.{passes-counted, slots-counted, bytes-counted}
 use Rattle.history.specs.History.{Call, Typed, ledger, after, added, page, alarmed}
-use Rattle.history.specs.Demand.{alarms, unheard, passSlots, passBytes, unheardSlots, Lonely, Unanswered, Listing, Comes, storedOf, SearchClaim, Claim, SearchPromise, AlarmPromise}
+use Rattle.history.specs.Demand.{alarms, unheard, slotsPerCode, bytesPerCode, unheardSlots, Lonely, Unanswered, Listing, Comes, storedOf, SearchClaim, Claim, SearchPromise, AlarmPromise}
 use Rattle.master_rules.specs.Issued.{issued}
 use Rattle.history.specs.IssuedLaws.{issued-passes, granted-passes, granted-unheard, granted-reset}
 use Rattle.master_rules.specs.SearchLaws.{nobody-there, passes-made}
@@ -102,7 +102,7 @@ module _ (command : ℕ) (Z : Searchers thermometers (bitsOf 8 command) 64) (R :
         let eight = bits-length 8 command in
         let many : length (ruled .lines) ≡ length codes = complete .passes-are ∙ length-map codes (bitsOf 64) in
         let found : length (ruled .codes) ≡ length codes = sym (k ∙ length-map (ruled .codes) numberOf) in
-        let wide : Each (λ l. length l ≡ passSlots) (ruled .lines) = rw eight at (complete .slots-are) in
+        let wide : Each (λ l. length l ≡ slotsPerCode) (ruled .lines) = rw eight at (complete .slots-are) in
         let n = passes-counted 200 (ruled .lines) wide (lit≤ tt) in
         let m = slots-counted 200 (ruled .lines) wide (lit≤ tt) in
         let w = bytes-counted 200 (ruled .lines) wide (lit≤ tt) in
@@ -116,8 +116,8 @@ module _ (command : ℕ) (Z : Searchers thermometers (bitsOf 8 command) 64) (R :
             refusal-is = refl;
             codes-are = sym k;
             passes-are = n ∙ many;
-            slots-are = m ∙ ap (λ (i : ℕ). passSlots * i) many;
-            bytes-are = w ∙ ap (λ (i : ℕ). passBytes * i) many;
+            slots-are = m ∙ ap (λ (i : ℕ). slotsPerCode * i) many;
+            bytes-are = w ∙ ap (λ (i : ℕ). bytesPerCode * i) many;
           };
           all-listed = numbered .all-listed;
           in-order = numbered .ordered;

@@ -25,15 +25,58 @@ refuse-requires c κs = search needs
 
 returns : tie.Need-returns
 unfolding writtenAndRead
-returns c = simp (← c .before .before .before .before .before .before .before .before .before .before .family-of .ensures, ← c .before .before .before .before .before .before .before .before .before .properties-of .ensures, ← c .before .before .before .before .before .before .before .before .write-settings .ensures, ← c .before .before .before .before .before .before .before .read-back .ensures, eq-eqb _ _ (c .before .before .before .before .before .if1 .taken), ← c .before .before .before .as-asked .ensures, c .before .before .if2 .taken, c .refuse .ensures)
+returns c =
+    let differs = c .before .before in
+    let compared = differs .before in
+    let accepts = compared .before .before in
+    let back = accepts .before .before in
+    let wrote = back .before in
+    let row = wrote .before in
+    let family = row .before in
+    simp (
+      ← family .family-of .ensures,
+      ← row .properties-of .ensures,
+      ← wrote .write-settings .ensures,
+      ← back .read-back .ensures,
+      eq-eqb _ _ (accepts .if1 .taken),
+      ← compared .as-asked .ensures,
+      differs .if2 .taken,
+      c .refuse .ensures,
+    )
 
 returns-2 : tie.Need-returns-2
 unfolding writtenAndRead
-returns-2 c = simp (← c .before .before .before .before .before .before .before .before .family-of .ensures, ← c .before .before .before .before .before .before .before .properties-of .ensures, ← c .before .before .before .before .before .before .write-settings .ensures, ← c .before .before .before .before .before .read-back .ensures, eq-eqb _ _ (c .before .before .before .if1 .taken), ← c .before .as-asked .ensures, c .if2 .left)
+returns-2 c =
+    let compared = c .before in
+    let accepts = compared .before .before in
+    let back = accepts .before .before in
+    let wrote = back .before in
+    let row = wrote .before in
+    let family = row .before in
+    simp (
+      ← family .family-of .ensures,
+      ← row .properties-of .ensures,
+      ← wrote .write-settings .ensures,
+      ← back .read-back .ensures,
+      eq-eqb _ _ (accepts .if1 .taken),
+      ← compared .as-asked .ensures,
+      c .if2 .left,
+    )
 
 returns-3 : tie.Need-returns-3
 unfolding writtenAndRead
-returns-3 c = simp (← c .before .before .before .before .before .family-of .ensures, ← c .before .before .before .before .properties-of .ensures, ← c .before .before .before .write-settings .ensures, ← c .before .before .read-back .ensures, ne-eqb _ _ (c .if1 .left))
+returns-3 c =
+    let back = c .before .before in
+    let wrote = back .before in
+    let row = wrote .before in
+    let family = row .before in
+    simp (
+      ← family .family-of .ensures,
+      ← row .properties-of .ensures,
+      ← wrote .write-settings .ensures,
+      ← back .read-back .ensures,
+      ne-eqb _ _ (c .if1 .left),
+    )
 
 pub write-and-compare-spec : {M : Type 1} → statement M
 write-and-compare-spec =

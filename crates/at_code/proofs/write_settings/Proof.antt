@@ -27,11 +27,20 @@ send-requires-3 c κs = search needs
 
 returns : tie.Need-returns
 unfolding settingsSent
-returns c = rw (c .send3 .ensures, c .before .before .before .send2 .ensures, c .before .before .before .before .before .send .ensures, c .before .before .before .before .before .before .before .address .ensures, c .before .before .if1 .taken)
+returns c =
+    let configurable = c .before .before in
+    let low = configurable .before in
+    let high = low .before .before in
+    let opened = high .before .before in
+    rw (c .send3 .ensures, low .send2 .ensures, high .send .ensures, opened .address .ensures, configurable .if1 .taken)
 
 returns-2 : tie.Need-returns-2
 unfolding settingsSent
-returns-2 c = rw (c .before .send2 .ensures, c .before .before .before .send .ensures, c .before .before .before .before .before .address .ensures, c .if1 .left)
+returns-2 c =
+    let low = c .before in
+    let high = low .before .before in
+    let opened = high .before .before in
+    rw (low .send2 .ensures, high .send .ensures, opened .address .ensures, c .if1 .left)
 
 pub write-settings-spec : {M : Type 1} → statement M
 write-settings-spec =
