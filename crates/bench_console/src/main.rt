@@ -1,8 +1,8 @@
 // Drives a bench by lines: one call a line on standard input, its answer on standard output at once.
 // It only moves bytes: `console` says where a line ends, reads it, makes the call and forms the answer.
 use bench::Bench;
-use console::MOST_HELD;
-use console::ROOM;
+use gathering::MOST_HELD;
+use search_answers::ROOM;
 use libc::STDIN_FILENO;
 use libc::STDOUT_FILENO;
 
@@ -33,7 +33,7 @@ fn answer_line(bench: Bench, line: &[u8], held: usize, fed: bool, out: &mut [u8]
 
 fn take_byte(s: Session, line: &mut [u8], byte: u8, out: &mut [u8]) -> Session {
     let bench = s.bench;
-    let gathered = console::take_byte(line, s.held, byte);
+    let gathered = gathering::take_byte(line, s.held, byte);
     if gathered.whole {
         return Session {
             bench: answer_line(bench, line, gathered.held, true, out),

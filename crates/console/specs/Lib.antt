@@ -1,4 +1,1 @@
 pub mod Console
-pub mod ConsoleLaws
-pub mod Gathering
-pub mod GatheringLaws

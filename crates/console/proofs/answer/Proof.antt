@@ -1,10 +1,13 @@
--- By the definition's own tests. Assumes nothing.
+-- By the room, as the definition tests it, and by what the line asks for. Assumes nothing.
 use denote.Ref.{now}
-use mathlib.Core.Path.{_≡_}
+use mathlib.Core.List.{List}
+use mathlib.Core.Path.{_≡_, subst}
 use Rattle.text.specs.Lines.{Line}
+use Rattle.requests.specs.declared.Request.{Request}
 use Rattle.requests.specs.declared.Request.the-variants.{Bad}
-use Rattle.console.specs.Console.{asked}
-use Rattle.console.specs.ConsoleLaws.{answer-said, answer-refused}
+use Rattle.search_answers.specs.Whole.{Says}
+use Rattle.search_answers.specs.WholeLaws.{whole-said, whole-refused}
+use Rattle.console.specs.Console.{answered, asked}
 use borrow.Author.Needs.{needs}
 use Rattle.console.proofs.answer.Statement.{statement}
 use Rattle.console.proofs.answer.Tie as tie
@@ -12,7 +15,8 @@ use Rattle.console.proofs.answer.Tie as tie
 returns : tie.Need-returns
 returns c =
     let a = c .before .before .before .args in
-    let none = answer-refused (a .bench) (record { chars = now (a .line); fed = a .fed }) (now (a .out)) (now (a .out)) (record { refusal = 1; count = 0; bench = a .bench }) (c .if1 .taken) in
+    let line : Line = record { chars = now (a .line); fed = a .fed } in
+    let none = whole-refused (a .bench) (answered (a .bench) (asked line)) (now (a .out)) (c .if1 .taken) in
     (none .0, (none .1, none .2))
 
 parse-requires : tie.Need-parse-requires
@@ -31,7 +35,9 @@ returns-2 c =
     let a = fed .before .before .before .before .args in
     let line : Line = record { chars = now (a .line); fed = a .fed } in
     let request : call .before .before .parse .result ≡ asked line = rw (fed .if2 .taken) (call .before .before .parse .ensures) in
-    let done = answer-said (a .bench) line (now (a .out)) (call .respond .last .1 .1 .0) (call .respond .result) (fed .before .if1 .left) (call .before .before .parse .result) request (call .respond .ensures) in
+    let out' = call .respond .last .1 .1 .0 in
+    let says = subst (λ (q : Request). Says (now (a .out)) (answered (a .bench) q) out' (call .respond .result)) request (call .respond .ensures) in
+    let done = whole-said (a .bench) (answered (a .bench) (asked line)) (now (a .out)) (fed .before .if1 .left) out' (call .respond .result) says in
     (done .0, (done .1, done .2))
 
 respond-requires-2 : tie.Need-respond-requires-2
@@ -47,7 +53,9 @@ returns-3 c =
     let a = unfed .before .before .before .before .args in
     let line : Line = record { chars = now (a .line); fed = a .fed } in
     let request : Bad ≡ asked line = rw (unfed .if2 .left) in
-    let done = answer-said (a .bench) line (now (a .out)) (call .respond2 .last .1 .1 .0) (call .respond2 .result) (unfed .before .if1 .left) Bad request (call .respond2 .ensures) in
+    let out' = call .respond2 .last .1 .1 .0 in
+    let says = subst (λ (q : Request). Says (now (a .out)) (answered (a .bench) q) out' (call .respond2 .result)) request (call .respond2 .ensures) in
+    let done = whole-said (a .bench) (answered (a .bench) (asked line)) (now (a .out)) (unfed .before .if1 .left) out' (call .respond2 .result) says in
     (done .0, (done .1, done .2))
 
 pub answer-spec : {M : Type 1} → statement M

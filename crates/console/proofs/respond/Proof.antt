@@ -1,4 +1,15 @@
--- Request by request. Assumes nothing.
+-- Request by request: the answer to what the call came to is said, and the call came to what its promise says. Assumes nothing.
+use denote.Ref.{now}
+use mathlib.Core.Path.{subst}
+use Rattle.bench.specs.declared.Changed.{Changed}
+use Rattle.bench.specs.declared.Looked.{Looked}
+use Rattle.bench.specs.declared.ResetDone.{ResetDone}
+use Rattle.bench.specs.declared.Slotted.{Slotted}
+use Rattle.master_rules.specs.declared.Access.{Access}
+use Rattle.answers.specs.Answers.{badLine, showLine}
+use Rattle.call_answers.specs.Said.{says, ofChange, ofReset, ofSlot, ofAccess}
+use Rattle.search_answers.specs.Whole.{Says}
+use Rattle.search_answers.specs.WholeLaws.{whole-says, line-says}
 use Rattle.console.specs.Console.{answered}
 use borrow.Author.Needs.{needs}
 use Rattle.console.proofs.respond.Statement.{statement}
@@ -7,8 +18,8 @@ use Rattle.console.proofs.respond.Tie as tie
 enum-told : tie.Need-enum-told
 enum-told c = search needs
 
-say-bad-requires : tie.Need-say-bad-requires
-say-bad-requires c κs = search needs
+bad-requires : tie.Need-bad-requires
+bad-requires c κs = search needs
 
 enum-known-request : tie.Need-enum-known-request
 enum-known-request c = search needs
@@ -16,11 +27,17 @@ enum-known-request c = search needs
 add-requires : tie.Need-add-requires
 add-requires c κs = search needs
 
+change-requires : tie.Need-change-requires
+change-requires c κs = search needs
+
 enum-told-2 : tie.Need-enum-told-2
 enum-told-2 c = search needs
 
 reset-requires : tie.Need-reset-requires
 reset-requires c κs = search needs
+
+reset-requires-2 : tie.Need-reset-requires-2
+reset-requires-2 c κs = search needs
 
 enum-known-request-2 : tie.Need-enum-known-request-2
 enum-known-request-2 c = search needs
@@ -28,53 +45,74 @@ enum-known-request-2 c = search needs
 slot-requires : tie.Need-slot-requires
 slot-requires c κs = search needs
 
+slot-requires-2 : tie.Need-slot-requires-2
+slot-requires-2 c κs = search needs
+
 enum-known-request-3 : tie.Need-enum-known-request-3
 enum-known-request-3 c = search needs
 
-converted-requires : tie.Need-converted-requires
-converted-requires c κs = search needs
+finish-conversion-requires : tie.Need-finish-conversion-requires
+finish-conversion-requires c κs = search needs
+
+change-requires-2 : tie.Need-change-requires-2
+change-requires-2 c κs = search needs
 
 enum-known-request-4 : tie.Need-enum-known-request-4
 enum-known-request-4 c = search needs
 
-copied-requires : tie.Need-copied-requires
-copied-requires c κs = search needs
+finish-copy-requires : tie.Need-finish-copy-requires
+finish-copy-requires c κs = search needs
+
+change-requires-3 : tie.Need-change-requires-3
+change-requires-3 c κs = search needs
 
 enum-known-request-5 : tie.Need-enum-known-request-5
 enum-known-request-5 c = search needs
 
-cycle-requires : tie.Need-cycle-requires
-cycle-requires c κs = search needs
+power-cycle-requires : tie.Need-power-cycle-requires
+power-cycle-requires c κs = search needs
+
+change-requires-4 : tie.Need-change-requires-4
+change-requires-4 c κs = search needs
 
 enum-known-request-6 : tie.Need-enum-known-request-6
 enum-known-request-6 c = search needs
 
-search-requires : tie.Need-search-requires
-search-requires c κs = search needs
+found-requires : tie.Need-found-requires
+found-requires c κs = search needs
 
 enum-known-request-7 : tie.Need-enum-known-request-7
 enum-known-request-7 c = search needs
 
-search-requires-2 : tie.Need-search-requires-2
-search-requires-2 c κs = search needs
+found-requires-2 : tie.Need-found-requires-2
+found-requires-2 c κs = search needs
 
 enum-known-request-8 : tie.Need-enum-known-request-8
 enum-known-request-8 c = search needs
 
-read-requires : tie.Need-read-requires
-read-requires c κs = search needs
+read-at-requires : tie.Need-read-at-requires
+read-at-requires c κs = search needs
+
+access-requires : tie.Need-access-requires
+access-requires c κs = search needs
 
 enum-known-request-9 : tie.Need-enum-known-request-9
 enum-known-request-9 c = search needs
 
-write-requires : tie.Need-write-requires
-write-requires c κs = search needs
+write-at-requires : tie.Need-write-at-requires
+write-at-requires c κs = search needs
+
+access-requires-2 : tie.Need-access-requires-2
+access-requires-2 c κs = search needs
 
 enum-known-request-10 : tie.Need-enum-known-request-10
 enum-known-request-10 c = search needs
 
-show-requires : tie.Need-show-requires
-show-requires c κs = search needs
+look-requires : tie.Need-look-requires
+look-requires c κs = search needs
+
+device-requires : tie.Need-device-requires
+device-requires c κs = search needs
 
 same-length : tie.Need-same-length
 same-length c = search needs
@@ -83,55 +121,87 @@ returns : tie.Need-returns
 unfolding answered
 returns c =
     let arm = c .before .before in
-    rw (arm .before .before .enum-told .given .1) (arm .say-bad .ensures)
+    let told = arm .before .before .enum-told .given .1 in
+    let start = arm .before .before .before .before .before in
+    rw told (line-says (now (start .args .out)) (start .pre) (says badLine (start .args .bench)) (arm .bad .last .1 .0) (arm .bad .result) (arm .bad .ensures .0) (arm .bad .ensures .1 .0) (arm .bad .ensures .1 .1))
 
 same-length-2 : tie.Need-same-length-2
 same-length-2 c = search needs
 
 returns-2 : tie.Need-returns-2
+unfolding answered
 returns-2 c =
     let arm = c .before .before in
-    rw (arm .before .before .before .request .given .1) (arm .add .ensures)
+    let call = arm .before .before in
+    let told = arm .before .before .before .before .request .given .1 in
+    let start = arm .before .before .before .before .before .before .before in
+    let said = line-says (now (start .args .out)) (start .pre) (ofChange (call .add .result)) (arm .change .last .1 .0) (arm .change .result) (arm .change .ensures .0) (arm .change .ensures .1 .0) (arm .change .ensures .1 .1) in
+    rw told (subst (λ (r : Changed). Says (now (start .args .out)) (ofChange r) (arm .change .last .1 .0) (arm .change .result)) (call .add .ensures) said)
 
 same-length-3 : tie.Need-same-length-3
 same-length-3 c = search needs
 
 returns-3 : tie.Need-returns-3
+unfolding answered
 returns-3 c =
     let arm = c .before .before in
-    rw (arm .before .before .enum-told2 .given .1) (arm .reset .ensures)
+    let call = arm .before .before in
+    let told = arm .before .before .before .enum-told2 .given .1 in
+    let start = arm .before .before .before .before .before .before in
+    let said = line-says (now (start .args .out)) (start .pre) (ofReset (call .reset .result)) (arm .reset2 .last .1 .0) (arm .reset2 .result) (arm .reset2 .ensures .0) (arm .reset2 .ensures .1 .0) (arm .reset2 .ensures .1 .1) in
+    rw told (subst (λ (r : ResetDone). Says (now (start .args .out)) (ofReset r) (arm .reset2 .last .1 .0) (arm .reset2 .result)) (call .reset .ensures) said)
 
 same-length-4 : tie.Need-same-length-4
 same-length-4 c = search needs
 
 returns-4 : tie.Need-returns-4
+unfolding answered
 returns-4 c =
     let arm = c .before .before in
-    rw (arm .before .before .before .request2 .given .1) (arm .slot .ensures)
+    let call = arm .before .before in
+    let told = arm .before .before .before .before .request2 .given .1 in
+    let start = arm .before .before .before .before .before .before .before in
+    let said = line-says (now (start .args .out)) (start .pre) (ofSlot (call .slot .result)) (arm .slot2 .last .1 .0) (arm .slot2 .result) (arm .slot2 .ensures .0) (arm .slot2 .ensures .1 .0) (arm .slot2 .ensures .1 .1) in
+    rw told (subst (λ (r : Slotted). Says (now (start .args .out)) (ofSlot r) (arm .slot2 .last .1 .0) (arm .slot2 .result)) (call .slot .ensures) said)
 
 same-length-5 : tie.Need-same-length-5
 same-length-5 c = search needs
 
 returns-5 : tie.Need-returns-5
+unfolding answered
 returns-5 c =
     let arm = c .before .before in
-    rw (arm .before .before .before .request3 .given .1) (arm .converted .ensures)
+    let call = arm .before .before in
+    let told = arm .before .before .before .before .request3 .given .1 in
+    let start = arm .before .before .before .before .before .before .before in
+    let said = line-says (now (start .args .out)) (start .pre) (ofChange (call .finish-conversion .result)) (arm .change2 .last .1 .0) (arm .change2 .result) (arm .change2 .ensures .0) (arm .change2 .ensures .1 .0) (arm .change2 .ensures .1 .1) in
+    rw told (subst (λ (r : Changed). Says (now (start .args .out)) (ofChange r) (arm .change2 .last .1 .0) (arm .change2 .result)) (call .finish-conversion .ensures) said)
 
 same-length-6 : tie.Need-same-length-6
 same-length-6 c = search needs
 
 returns-6 : tie.Need-returns-6
+unfolding answered
 returns-6 c =
     let arm = c .before .before in
-    rw (arm .before .before .before .request4 .given .1) (arm .copied .ensures)
+    let call = arm .before .before in
+    let told = arm .before .before .before .before .request4 .given .1 in
+    let start = arm .before .before .before .before .before .before .before in
+    let said = line-says (now (start .args .out)) (start .pre) (ofChange (call .finish-copy .result)) (arm .change3 .last .1 .0) (arm .change3 .result) (arm .change3 .ensures .0) (arm .change3 .ensures .1 .0) (arm .change3 .ensures .1 .1) in
+    rw told (subst (λ (r : Changed). Says (now (start .args .out)) (ofChange r) (arm .change3 .last .1 .0) (arm .change3 .result)) (call .finish-copy .ensures) said)
 
 same-length-7 : tie.Need-same-length-7
 same-length-7 c = search needs
 
 returns-7 : tie.Need-returns-7
+unfolding answered
 returns-7 c =
     let arm = c .before .before in
-    rw (arm .before .before .before .request5 .given .1) (arm .cycle .ensures)
+    let call = arm .before .before in
+    let told = arm .before .before .before .before .request5 .given .1 in
+    let start = arm .before .before .before .before .before .before .before in
+    let said = line-says (now (start .args .out)) (start .pre) (ofChange (call .power-cycle .result)) (arm .change4 .last .1 .0) (arm .change4 .result) (arm .change4 .ensures .0) (arm .change4 .ensures .1 .0) (arm .change4 .ensures .1 .1) in
+    rw told (subst (λ (r : Changed). Says (now (start .args .out)) (ofChange r) (arm .change4 .last .1 .0) (arm .change4 .result)) (call .power-cycle .ensures) said)
 
 same-length-8 : tie.Need-same-length-8
 same-length-8 c = search needs
@@ -140,7 +210,9 @@ returns-8 : tie.Need-returns-8
 unfolding answered
 returns-8 c =
     let arm = c .before .before in
-    rw (arm .before .before .before .request6 .given .1) (arm .search .ensures)
+    let told = arm .before .before .before .request6 .given .1 in
+    let start = arm .before .before .before .before .before .before in
+    rw told (whole-says (now (start .args .out)) (start .pre) _ (arm .found .last .1 .1 .1 .1 .0) (arm .found .result) (start .args .bench) (arm .found .ensures .0) (arm .found .ensures .1 .0) (arm .found .ensures .1 .1))
 
 same-length-9 : tie.Need-same-length-9
 same-length-9 c = search needs
@@ -149,60 +221,86 @@ returns-9 : tie.Need-returns-9
 unfolding answered
 returns-9 c =
     let arm = c .before .before in
-    rw (arm .before .before .before .request7 .given .1) (arm .search2 .ensures)
+    let told = arm .before .before .before .request7 .given .1 in
+    let start = arm .before .before .before .before .before .before in
+    rw told (whole-says (now (start .args .out)) (start .pre) _ (arm .found2 .last .1 .1 .1 .1 .0) (arm .found2 .result) (start .args .bench) (arm .found2 .ensures .0) (arm .found2 .ensures .1 .0) (arm .found2 .ensures .1 .1))
 
 same-length-10 : tie.Need-same-length-10
 same-length-10 c = search needs
 
 returns-10 : tie.Need-returns-10
+unfolding answered
 returns-10 c =
     let arm = c .before .before in
-    rw (arm .before .before .before .request8 .given .1) (arm .read .ensures)
+    let call = arm .before .before in
+    let told = arm .before .before .before .before .request8 .given .1 in
+    let start = arm .before .before .before .before .before .before .before in
+    let said = line-says (now (start .args .out)) (start .pre) (ofAccess (call .read-at .result)) (arm .access .last .1 .0) (arm .access .result) (arm .access .ensures .0) (arm .access .ensures .1 .0) (arm .access .ensures .1 .1) in
+    rw told (subst (λ (r : Access). Says (now (start .args .out)) (ofAccess r) (arm .access .last .1 .0) (arm .access .result)) (call .read-at .ensures) said)
 
 same-length-11 : tie.Need-same-length-11
 same-length-11 c = search needs
 
 returns-11 : tie.Need-returns-11
+unfolding answered
 returns-11 c =
     let arm = c .before .before in
-    rw (arm .before .before .before .request9 .given .1) (arm .write .ensures)
+    let call = arm .before .before in
+    let told = arm .before .before .before .before .request9 .given .1 in
+    let start = arm .before .before .before .before .before .before .before in
+    let said = line-says (now (start .args .out)) (start .pre) (ofAccess (call .write-at .result)) (arm .access2 .last .1 .0) (arm .access2 .result) (arm .access2 .ensures .0) (arm .access2 .ensures .1 .0) (arm .access2 .ensures .1 .1) in
+    rw told (subst (λ (r : Access). Says (now (start .args .out)) (ofAccess r) (arm .access2 .last .1 .0) (arm .access2 .result)) (call .write-at .ensures) said)
 
 same-length-12 : tie.Need-same-length-12
 same-length-12 c = search needs
 
 returns-12 : tie.Need-returns-12
+unfolding answered
 returns-12 c =
     let arm = c .before .before in
-    rw (arm .before .before .before .request10 .given .1) (arm .show .ensures)
+    let call = arm .before .before in
+    let told = arm .before .before .before .before .request10 .given .1 in
+    let start = arm .before .before .before .before .before .before .before in
+    let said = line-says (now (start .args .out)) (start .pre) (says (showLine (call .look .result)) (start .args .bench)) (arm .device .last .1 .1 .0) (arm .device .result) (arm .device .ensures .0) (arm .device .ensures .1 .0) (arm .device .ensures .1 .1) in
+    rw told (subst (λ (r : Looked). Says (now (start .args .out)) (says (showLine r) (start .args .bench)) (arm .device .last .1 .1 .0) (arm .device .result)) (call .look .ensures) said)
 
 pub respond-spec : {M : Type 1} → statement M
 respond-spec =
     tie.close
     (tie.spec
     enum-told
-    say-bad-requires
+    bad-requires
     enum-known-request
     add-requires
+    change-requires
     enum-told-2
     reset-requires
+    reset-requires-2
     enum-known-request-2
     slot-requires
+    slot-requires-2
     enum-known-request-3
-    converted-requires
+    finish-conversion-requires
+    change-requires-2
     enum-known-request-4
-    copied-requires
+    finish-copy-requires
+    change-requires-3
     enum-known-request-5
-    cycle-requires
+    power-cycle-requires
+    change-requires-4
     enum-known-request-6
-    search-requires
+    found-requires
     enum-known-request-7
-    search-requires-2
+    found-requires-2
     enum-known-request-8
-    read-requires
+    read-at-requires
+    access-requires
     enum-known-request-9
-    write-requires
+    write-at-requires
+    access-requires-2
     enum-known-request-10
-    show-requires
+    look-requires
+    device-requires
     same-length
     returns
     same-length-2

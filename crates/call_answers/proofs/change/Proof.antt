@@ -1,0 +1,26 @@
+-- The line as it is laid, and it is short. Assumes nothing.
+use denote.Ref.{now}
+use Rattle.answers.specs.Answers.{refusalLine}
+use Rattle.answers.specs.AnswersLaws.{refusal-short}
+use Rattle.call_answers.specs.SaidLaws.{said-so, said-short}
+use borrow.Author.Needs.{needs}
+use Rattle.call_answers.proofs.change.Statement.{statement}
+use Rattle.call_answers.proofs.change.Tie as tie
+
+refusal-line-requires : tie.Need-refusal-line-requires
+refusal-line-requires c κs = search needs
+
+same-length : tie.Need-same-length
+same-length c = search needs
+
+returns : tie.Need-returns
+returns c =
+    let line = c .before .before in
+    let a = line .before .before .before .before in
+    let short = refusal-short (a .args .done .refusal) (search needs) in
+    let answer = line .refusal-line .ensures .0 in
+    let said = said-so (now (a .args .out)) (refusalLine (a .args .done .refusal)) (line .refusal-line .result) (a .args .done .bench) answer in
+    (said, (line .refusal-line .ensures .1, said-short (now (a .args .out)) (refusalLine (a .args .done .refusal)) (line .refusal-line .result) (a .args .done .bench) answer short))
+
+pub change-spec : {M : Type 1} → statement M
+change-spec = tie.close (tie.spec refusal-line-requires same-length returns)

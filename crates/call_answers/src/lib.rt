@@ -1,0 +1,108 @@
+// What a call came to, said in one line at the front of what is lent, with the bench after it.
+ghost use mathlib.Core.Path.{_≡_};
+ghost use Prim.Native.Nat.{_≤_};
+ghost use Rattle.answers.specs.Answers.{badLine, showLine};
+ghost use Rattle.answers.specs.Laying.{lineRoom};
+ghost use Rattle.call_answers.specs.Said.{says, lineSaid, lineLeft, ofChange, ofReset, ofSlot, ofAccess};
+use bench::Bench;
+use bench::Changed;
+use bench::Looked;
+use bench::ResetDone;
+use bench::Slotted;
+use master_rules::Access;
+
+// What came of a line.
+pub struct Said {
+    pub refusal: u8,
+    // how many bytes of text stand at the front of what was lent, 0 on a refusal
+    pub count: usize,
+    pub bench: Bench,
+}
+
+// A line that asks for nothing that there is.
+pub fn bad(bench: Bench, out: &mut [u8]) -> Said
+    ensures answer { λ r. ⌜ r ≡ lineSaid (says badLine bench) (now (out .entry)) ⌝ }
+    ensures written { λ r. ⌜ now (out .exit) ≡ lineLeft (says badLine bench) (now (out .entry)) ⌝ }
+    ensures kept { λ r. ⌜ r .count ≤ lineRoom ⌝ }
+{
+    let w = answers::bad_line(out, 0);
+    Said {
+        refusal: w.refusal,
+        count: w.next,
+        bench,
+    }
+}
+
+// An adding, a finish or a power cycle.
+pub fn change(done: Changed, out: &mut [u8]) -> Said
+    ensures answer { λ r. ⌜ r ≡ lineSaid (ofChange done) (now (out .entry)) ⌝ }
+    ensures written { λ r. ⌜ now (out .exit) ≡ lineLeft (ofChange done) (now (out .entry)) ⌝ }
+    ensures kept { λ r. ⌜ r .count ≤ lineRoom ⌝ }
+{
+    let bench = done.bench;
+    let w = answers::refusal_line(out, 0, done.refusal);
+    Said {
+        refusal: w.refusal,
+        count: w.next,
+        bench,
+    }
+}
+
+pub fn reset(done: ResetDone, out: &mut [u8]) -> Said
+    ensures answer { λ r. ⌜ r ≡ lineSaid (ofReset done) (now (out .entry)) ⌝ }
+    ensures written { λ r. ⌜ now (out .exit) ≡ lineLeft (ofReset done) (now (out .entry)) ⌝ }
+    ensures kept { λ r. ⌜ r .count ≤ lineRoom ⌝ }
+{
+    let bench = done.bench;
+    let w = answers::bit_line(out, 0, done.refusal, done.presence);
+    Said {
+        refusal: w.refusal,
+        count: w.next,
+        bench,
+    }
+}
+
+pub fn slot(done: Slotted, out: &mut [u8]) -> Said
+    ensures answer { λ r. ⌜ r ≡ lineSaid (ofSlot done) (now (out .entry)) ⌝ }
+    ensures written { λ r. ⌜ now (out .exit) ≡ lineLeft (ofSlot done) (now (out .entry)) ⌝ }
+    ensures kept { λ r. ⌜ r .count ≤ lineRoom ⌝ }
+{
+    let bench = done.bench;
+    let w = answers::bit_line(out, 0, done.refusal, done.line);
+    Said {
+        refusal: w.refusal,
+        count: w.next,
+        bench,
+    }
+}
+
+// A read or a write at a code.
+pub fn access(done: Access, out: &mut [u8]) -> Said
+    ensures answer { λ r. ⌜ r ≡ lineSaid (ofAccess done) (now (out .entry)) ⌝ }
+    ensures written { λ r. ⌜ now (out .exit) ≡ lineLeft (ofAccess done) (now (out .entry)) ⌝ }
+    ensures kept { λ r. ⌜ r .count ≤ lineRoom ⌝ }
+{
+    let bench = done.bench;
+    let pad = done.pad;
+    let reading = done.reading;
+    let w = answers::access_line(out, 0, done.refusal, pad, reading);
+    Said {
+        refusal: w.refusal,
+        count: w.next,
+        bench,
+    }
+}
+
+// A device that was looked at.
+pub fn device(bench: Bench, looked: Looked, out: &mut [u8]) -> Said
+    ensures answer { λ r. ⌜ r ≡ lineSaid (says (showLine looked) bench) (now (out .entry)) ⌝ }
+    ensures written { λ r. ⌜ now (out .exit) ≡ lineLeft (says (showLine looked) bench) (now (out .entry)) ⌝ }
+    ensures kept { λ r. ⌜ r .count ≤ lineRoom ⌝ }
+{
+    let w = answers::show_line(out, 0, looked);
+    Said {
+        refusal: w.refusal,
+        count: w.next,
+        bench,
+    }
+}

@@ -1,0 +1,4 @@
+pub mod Whole
+pub mod WholeLaws
+pub mod Found
+pub mod FoundLaws
