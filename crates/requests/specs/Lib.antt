@@ -1,6 +1,2 @@
-pub mod Words
-pub mod WordsLaws
-pub mod Fields
-pub mod FieldsLaws
 pub mod Requests
 pub mod RequestsLaws

@@ -12,13 +12,13 @@ use lib.ListN.{length}
 use Rattle.lists.specs.Choice.{if_then_else_}
 use Rattle.text.specs.Ascii.{ascii}
 use Rattle.text.specs.declared.NumberRead.{NumberRead}
-use Rattle.requests.specs.declared.CountRead.{CountRead}
-use Rattle.requests.specs.declared.PowerRead.{PowerRead}
+use Rattle.fields.specs.declared.CountRead.{CountRead}
+use Rattle.fields.specs.declared.PowerRead.{PowerRead}
 use Rattle.requests.specs.declared.Request.{Request}
 use Rattle.requests.specs.declared.Request.the-variants.{Bad, Add, Reset, Slot, Converted, Copied, Cycle, Search, Alarm, Read, Write, Show}
-use Rattle.requests.specs.declared.SettingsRead.{SettingsRead}
-use Rattle.requests.specs.Words.{same, wordOf, wordsOf}
-use Rattle.requests.specs.Fields.{codeIn, bitIn, placesIn, bytesIn, countIn, settingsIn, powerIn, mostPlaces, mostBytes}
+use Rattle.fields.specs.declared.SettingsRead.{SettingsRead}
+use Rattle.words.specs.Words.{same, wordOf, wordsOf}
+use Rattle.fields.specs.Fields.{codeIn, bitIn, placesIn, bytesIn, countIn, settingsIn, powerIn, mostPlaces, mostBytes}
 
 -- ## The requests, by what was read of their fields
 

@@ -10,9 +10,9 @@ use lib.ListN.{length}
 use Rattle.lists.specs.ChoiceLaws.{and-left, and-right}
 use Rattle.text.specs.Ascii.{ascii}
 use Rattle.requests.specs.declared.Request.the-variants.{Bad, Reset, Copied, Cycle, Search, Alarm, Read, Show}
-use Rattle.requests.specs.Words.{same, wordOf}
-use Rattle.requests.specs.WordsLaws.{same-equal}
-use Rattle.requests.specs.Fields.{codeIn, bitIn, placesIn, bytesIn, countIn, settingsIn, powerIn, mostPlaces, mostBytes}
+use Rattle.words.specs.Words.{same, wordOf}
+use Rattle.words.specs.WordsLaws.{same-equal}
+use Rattle.fields.specs.Fields.{codeIn, bitIn, placesIn, bytesIn, countIn, settingsIn, powerIn, mostPlaces, mostBytes}
 use Rattle.requests.specs.Requests.{asks, slotAsked, convertedAsked, atCode, lent, writeAsked, addAsked, ofMaster, ofBench}
 
 module _ (name : List ℕ) (n : ℕ) (ws : List (List ℕ)) (e : asks name n ws ≡ true) where

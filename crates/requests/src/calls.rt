@@ -1,22 +1,22 @@
 // The calls, by name, number of fields and request.
 ghost use mathlib.Core.Path.{_≡_};
-ghost use Rattle.requests.specs.Words.{wordsOf, wordOf};
-ghost use Rattle.requests.specs.Fields.{codeIn, bitIn, placesIn, bytesIn, countIn, settingsIn, powerIn};
+ghost use Rattle.words.specs.Words.{wordsOf, wordOf};
+ghost use Rattle.fields.specs.Fields.{codeIn, bitIn, placesIn, bytesIn, countIn, settingsIn, powerIn};
 ghost use Rattle.requests.specs.declared.Request.the-variants.{Copied, Cycle, Search, Alarm, Read, Show};
 ghost use Rattle.requests.specs.Requests.{asks, slotAsked, convertedAsked, atCode, lent, writeAsked, addAsked, ofMaster, ofBench};
-use crate::MOST_BYTES;
-use crate::MOST_PLACES;
+use fields::MOST_BYTES;
+use fields::MOST_PLACES;
 use crate::Request;
-use crate::fields::bit_in;
-use crate::fields::bytes_in;
-use crate::fields::code_in;
-use crate::fields::count_in;
-use crate::fields::places_in;
-use crate::fields::power_in;
-use crate::fields::settings_in;
-use crate::words::count;
-use crate::words::same;
-use crate::words::word;
+use fields::bit_in;
+use fields::bytes_in;
+use fields::code_in;
+use fields::count_in;
+use fields::places_in;
+use fields::power_in;
+use fields::settings_in;
+use words::count;
+use words::same;
+use words::word;
 use device::Joining;
 
 // ---- Requests, by their fields

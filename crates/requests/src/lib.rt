@@ -3,21 +3,13 @@ ghost use mathlib.Core.Path.{_≡_};
 ghost use Rattle.requests.specs.Requests.{requestOf};
 
 mod calls;
-mod fields;
-mod words;
 
 use device::Joining;
-use device::Power;
 use device::Settings;
 use temperature::Sixteenths;
 
 // The most characters of a line, its feed not counted.
 pub const LONGEST: usize = 80;
-
-// The most places of a list and bytes of a recording that a search is lent.
-pub const MOST_PLACES: usize = 32;
-
-pub const MOST_BYTES: usize = 1824;
 
 // What a line asks for.
 pub enum Request {
@@ -33,22 +25,6 @@ pub enum Request {
     Read(u64),
     Write { code: u64, settings: Settings },
     Show(u64),
-}
-
-// What was read of a field: whether it is one, and its value where it is.
-pub struct CountRead {
-    pub valid: bool,
-    pub count: Sixteenths,
-}
-
-pub struct PowerRead {
-    pub valid: bool,
-    pub power: Power,
-}
-
-pub struct SettingsRead {
-    pub valid: bool,
-    pub settings: Settings,
 }
 
 // What a line, without its feed, asks for.

@@ -1,13 +1,13 @@
 -- By the tests of the three fields. Assumes nothing.
 use mathlib.Core.Path.{ap, _∙_}
-use Rattle.requests.specs.Fields.{codeIn, powerIn}
+use Rattle.fields.specs.Fields.{codeIn, powerIn}
 use borrow.Author.Needs.{needs}
 use Rattle.requests.proofs.calls.add.Statement.{statement}
 use Rattle.requests.proofs.calls.add.Tie as tie
-use Rattle.requests.proofs.fields.code_in.Reads as code-in-reads
-use Rattle.requests.proofs.fields.power_in.Reads as power-in-reads
-use Rattle.requests.proofs.fields.settings_in.Reads as settings-in-reads
-use Rattle.requests.proofs.words.word.Reads as word-reads
+use Rattle.fields.proofs.code_in.Reads as code-in-reads
+use Rattle.fields.proofs.power_in.Reads as power-in-reads
+use Rattle.fields.proofs.settings_in.Reads as settings-in-reads
+use Rattle.words.proofs.word.Reads as word-reads
 
 word-requires : tie.Need-word-requires
 word-requires c κs = search needs

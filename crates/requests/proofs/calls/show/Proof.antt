@@ -1,11 +1,11 @@
 -- By the test of the field. Assumes nothing.
 use mathlib.Core.Path.{ap, _∙_}
-use Rattle.requests.specs.Fields.{codeIn}
+use Rattle.fields.specs.Fields.{codeIn}
 use borrow.Author.Needs.{needs}
 use Rattle.requests.proofs.calls.show.Statement.{statement}
 use Rattle.requests.proofs.calls.show.Tie as tie
-use Rattle.requests.proofs.fields.code_in.Reads as code-in-reads
-use Rattle.requests.proofs.words.word.Reads as word-reads
+use Rattle.fields.proofs.code_in.Reads as code-in-reads
+use Rattle.words.proofs.word.Reads as word-reads
 
 word-requires : tie.Need-word-requires
 word-requires c κs = search needs

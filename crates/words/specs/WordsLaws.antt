@@ -1,0 +1,171 @@
+-- Words as loops find, count and compare them.
+-- Assumes nothing.
+use Prim.Native.Nat.{ℕ, suc, _+_, _-_, _<_, _≤_}
+use mathlib.Core.Path.{_≡_, refl, sym, ap, _∙_}
+use mathlib.Core.Bool.{Bool, true, false, _&&_, false≢true}
+use mathlib.Core.List.{List, [], _∷_}
+use native.Mathlib.Omega.{arith}
+use native.Mathlib.Numerals.{add-one}
+use borrow.Author.Tests.{eq-eqb, ne-eqb, eqb-true}
+use lib.Dec.{eqb}
+use lib.ListN.{length, take, drop, getD, drop-of-length-le, length-drop, List·getD-eq-default}
+use lib.Seq.{drop-cons, drop-drop, getD-drop}
+use Rattle.lists.specs.Choice.{if_then_else_}
+use Rattle.lists.specs.ChoiceLaws.{and-left, and-right}
+use Rattle.words.specs.Words.{space, lengthened, wordsOf, wordOf, same, spaceAt, wordsEnded}
+
+-- ## The place of a space, as a loop finds it
+
+module _ (s : List ℕ) (i : ℕ) where
+  pub space-here : i < length s → getD s i 0 ≡ space → i + spaceAt (drop i s) ≡ i
+  unfolding spaceAt
+  space-here h e = rw (drop-cons s i 0 h, eq-eqb (getD s i 0) space e) (omega arith)
+
+  pub space-on : i < length s → (getD s i 0 ≡ space → ⊥) → i + spaceAt (drop i s) ≡ i + 1 + spaceAt (drop (i + 1) s)
+  unfolding spaceAt
+  space-on h e = rw (drop-cons s i 0 h, ne-eqb (getD s i 0) space e, add-one i) (omega arith)
+
+  pub space-end : length s ≤ i → i + spaceAt (drop i s) ≡ i
+  unfolding spaceAt
+  space-end h = rw (drop-of-length-le s h) (omega arith)
+
+-- ## How many words there are, as a loop counts them
+
+lengthened-count : (c : ℕ) (ws : List (List ℕ)) → 1 ≤ length ws → length (lengthened c ws) ≡ length ws
+lengthened-count c [] h = absurd (omega arith)
+lengthened-count c (w ∷ ws) h = refl
+
+pub words-some : (s : List ℕ) → 1 ≤ length (wordsOf s)
+unfolding wordsOf
+words-some [] = omega arith
+words-some (c ∷ s) = by-test (eqb c space) (words-some s)
+  where
+    by-test : (t : Bool) → 1 ≤ length (wordsOf s) → 1 ≤ length (if t then [] ∷ wordsOf s else lengthened c (wordsOf s))
+    by-test true h = omega arith
+    by-test false h = rw (lengthened-count c (wordsOf s) h) h
+
+module _ (s : List ℕ) (i : ℕ) where
+  pub words-on : i < length s → length (wordsOf (drop i s)) ≡ wordsEnded (getD s i 0) + length (wordsOf (drop (i + 1) s))
+  unfolding wordsOf
+  words-on h = rw (drop-cons s i 0 h, add-one i) (by-test (eqb (getD s i 0) space))
+    where
+      by-test : (t : Bool)
+          → length (if t then [] ∷ wordsOf (drop (suc i) s) else lengthened (getD s i 0) (wordsOf (drop (suc i) s)))
+          ≡ (if t then 1 else 0) + length (wordsOf (drop (suc i) s))
+      by-test true = omega arith
+      by-test false = lengthened-count (getD s i 0) (wordsOf (drop (suc i) s)) (words-some (drop (suc i) s)) ∙ omega arith
+
+  pub ended-few : (n : ℕ) → n ≡ wordsEnded (getD s i 0) → n ≤ 1
+  ended-few n e = rw e (by-test (eqb (getD s i 0) space))
+    where
+      by-test : (t : Bool) → (if t then 1 else 0) ≤ 1
+      by-test true = omega arith
+      by-test false = omega arith
+
+  pub words-end : length s ≤ i → length (wordsOf (drop i s)) ≡ 1
+  unfolding wordsOf
+  words-end h = rw (drop-of-length-le s h)
+
+-- ## The first word, and the others
+
+pub space-within : (s : List ℕ) → spaceAt s ≤ length s
+unfolding spaceAt
+space-within [] = omega arith
+space-within (c ∷ s) = by-test (eqb c space) (space-within s)
+  where
+    by-test : (t : Bool) → spaceAt s ≤ length s → (if t then 0 else suc (spaceAt s)) ≤ suc (length s)
+    by-test true h = omega arith
+    by-test false h = omega arith
+
+pub words-first : (s : List ℕ) → getD (wordsOf s) 0 [] ≡ take (spaceAt s) s
+unfolding wordsOf spaceAt
+words-first [] = refl
+words-first (c ∷ s) = by-test (eqb c space) (words-first s)
+  where
+    front : (ws : List (List ℕ)) → 1 ≤ length ws → getD (lengthened c ws) 0 [] ≡ c ∷ getD ws 0 []
+    front [] h = absurd (omega arith)
+    front (w ∷ ws) h = refl
+
+    by-test : (t : Bool) → getD (wordsOf s) 0 [] ≡ take (spaceAt s) s
+        → getD (if t then [] ∷ wordsOf s else lengthened c (wordsOf s)) 0 [] ≡ take (if t then 0 else suc (spaceAt s)) (c ∷ s)
+    by-test true e = refl
+    by-test false e = front (wordsOf s) (words-some s) ∙ ap (λ (w : List ℕ). c ∷ w) e
+
+-- where there is a second word, the first ends at a space, and the others are the words behind it
+pub words-rest : (s : List ℕ) → 1 < length (wordsOf s) → (spaceAt s < length s) × (wordsOf (drop (spaceAt s + 1) s) ≡ drop 1 (wordsOf s))
+unfolding wordsOf spaceAt
+words-rest [] h = absurd (omega arith)
+words-rest (c ∷ s) h = by-test (eqb c space) (λ k. words-rest s k) h
+  where
+    after : (ws : List (List ℕ)) → drop 1 (lengthened c ws) ≡ drop 1 ws
+    after [] = refl
+    after (w ∷ ws) = refl
+
+    by-test : (t : Bool) → (1 < length (wordsOf s) → (spaceAt s < length s) × (wordsOf (drop (spaceAt s + 1) s) ≡ drop 1 (wordsOf s)))
+        → 1 < length (if t then [] ∷ wordsOf s else lengthened c (wordsOf s))
+        → ((if t then 0 else suc (spaceAt s)) < suc (length s))
+        × (wordsOf (drop ((if t then 0 else suc (spaceAt s)) + 1) (c ∷ s)) ≡ drop 1 (if t then [] ∷ wordsOf s else lengthened c (wordsOf s)))
+    by-test true rest k = (omega arith, refl)
+    by-test false rest k =
+        let more = rest (rw (lengthened-count c (wordsOf s) (words-some s)) at k) in
+        let e : suc (spaceAt s) + 1 ≡ suc (spaceAt s + 1) = omega arith in
+        (omega arith, rw (e, after (wordsOf s)) (more .1))
+
+-- a loop from one word to the next: behind the end of word j starts word j + 1
+module _ (s : List ℕ) (k at j e : ℕ) (h : at ≤ length s) (so : wordsOf (drop at s) ≡ drop j (wordsOf s)) (ends : e ≡ at + spaceAt (drop at s)) where
+  pub word-next : j < k → k < length (wordsOf s) → (e + 1 ≤ length s) × (wordsOf (drop (e + 1) s) ≡ drop (j + 1) (wordsOf s))
+  word-next l m =
+      let some : 1 < length (wordsOf (drop at s)) = rw (so, length-drop j (wordsOf s)) (omega arith) in
+      let rest = words-rest (drop at s) some in
+      let room = length-drop at s in
+      let place : at + (spaceAt (drop at s) + 1) ≡ e + 1 = omega arith in
+      let within = rest .0 in (
+        omega arith,
+        ap (λ (n : ℕ). wordsOf (drop n s)) (sym place) ∙ ap wordsOf (sym (drop-drop (spaceAt (drop at s) + 1) at s)) ∙ rest .1 ∙ ap (drop 1) so
+            ∙ drop-drop 1 j (wordsOf s),
+      )
+
+  -- the word that starts at a place is the list's next
+  pub word-here : (n : ℕ) → n ≡ e - at → take n (drop at s) ≡ getD (wordsOf s) j []
+  word-here n d =
+      let m : n ≡ spaceAt (drop at s) = omega arith in
+      rw m (sym (words-first (drop at s)) ∙ ap (λ (ws : List (List ℕ)). getD ws 0 []) so ∙ getD-drop j (wordsOf s) 0 [] ∙ ap (λ (i : ℕ). getD (wordsOf s) i []) (omega arith))
+
+-- ## Two words compared, as a loop compares them
+
+pub same-lengths : (v w : List ℕ) → (length v ≡ length w → ⊥) → same v w ≡ false
+unfolding same
+same-lengths [] [] h = absurd (h refl)
+same-lengths [] (y ∷ w) h = refl
+same-lengths (x ∷ v) [] h = refl
+same-lengths (x ∷ v) (y ∷ w) h = both (eqb x y) (same-lengths v w (λ e. h (ap suc e)))
+  where
+    both : (t : Bool) → same v w ≡ false → (t && same v w) ≡ false
+    both true e = e
+    both false e = refl
+
+module _ (v w : List ℕ) (i : ℕ) (h : i < length v) (k : i < length w) where
+  pub same-on : getD v i 0 ≡ getD w i 0 → same (drop i v) (drop i w) ≡ same (drop (i + 1) v) (drop (i + 1) w)
+  unfolding same
+  same-on e = rw (drop-cons v i 0 h, drop-cons w i 0 k, eq-eqb (getD v i 0) (getD w i 0) e, add-one i)
+
+  pub same-not : (getD v i 0 ≡ getD w i 0 → ⊥) → same (drop i v) (drop i w) ≡ false
+  unfolding same
+  same-not e = rw (drop-cons v i 0 h, drop-cons w i 0 k, ne-eqb (getD v i 0) (getD w i 0) e)
+
+pub same-past : (v w : List ℕ) (i : ℕ) → length v ≤ i → length w ≤ i → same (drop i v) (drop i w) ≡ true
+unfolding same
+same-past v w i h k = rw (drop-of-length-le v h, drop-of-length-le w k)
+
+pub same-equal : (v w : List ℕ) → same v w ≡ true → v ≡ w
+unfolding same
+same-equal [] [] e = refl
+same-equal [] (y ∷ w) e = absurd (false≢true e)
+same-equal (x ∷ v) [] e = absurd (false≢true e)
+same-equal (x ∷ v) (y ∷ w) e =
+    let head : x ≡ y = eqb-true x y (and-left (eqb x y) (same v w) e) in
+    rw (head, same-equal v w (and-right (eqb x y) (same v w) e))
+
+-- past the last word there is the empty one
+pub word-past : (ws : List (List ℕ)) (k : ℕ) → length ws ≤ k → [] ≡ wordOf ws k
+word-past ws k h = sym (List·getD-eq-default ws [] h)
