@@ -2,9 +2,9 @@
 // It only moves bytes: `console` says where a line ends, reads it, makes the call and forms the answer.
 use bench::Bench;
 use gathering::MOST_HELD;
-use search_answers::ROOM;
 use libc::STDIN_FILENO;
 use libc::STDOUT_FILENO;
+use search_answers::ROOM;
 
 // A run so far: the bench, how many characters of the line not yet ended are held, and whether input
 // may follow.

@@ -1,284 +1,8 @@
 // What one thermometer becomes when the line has shown a bit.
-ghost use mathlib.Core.Bool.{Bool·beq};
 ghost use mathlib.Core.Path.{_≡_};
-ghost use Rattle.bits.specs.Bits.{bitAt};
-ghost use Rattle.device.specs.declared.Phase.the-variants.{TakeBit};
-ghost use Rattle.device.specs.Settings.{settingsCount, settingByte};
-ghost use Rattle.device.specs.Hear.{afterSendRom, afterMatch, afterSearch, afterScratchpad};
-ghost use Rattle.device.specs.Hear.{romCommand, hearRom, copying, recalled, idleCommand, functionCommand, hearFunction};
-ghost use Rattle.device.specs.Hear.{storeSetting, hearSettings, hearOf};
-use commands::Shifted;
-use device::Activity;
+ghost use Rattle.device.specs.Hear.{hearOf};
 use device::Device;
-use device::Phase;
 use device::Stage;
-use family::Properties;
-
-fn after_send_rom(i: u8) -> Stage
-    ensures answer { λ r. ⌜ r ≡ afterSendRom i ⌝ }
-{
-    if i < 63 {
-        return Stage::SendRom(i + 1);
-    }
-    if i == 63 {
-        return Stage::AwaitFunction { shift: 0, count: 0 };
-    }
-    Stage::Quiet
-}
-
-fn after_match(code: u64, i: u8, line: bool) -> Stage
-    ensures answer { λ r. ⌜ r ≡ afterMatch code i line ⌝ }
-{
-    if same_bit(code, i, line) {
-        if i < 63 {
-            return Stage::Match(i + 1);
-        }
-        if i == 63 {
-            return Stage::AwaitFunction { shift: 0, count: 0 };
-        }
-    }
-    Stage::Quiet
-}
-
-fn same_bit(code: u64, i: u8, line: bool) -> bool
-    ensures answer { λ r. ⌜ r ≡ Bool·beq (bitAt code i) line ⌝ }
-{
-    let own = rom::bit_of(code, i);
-    if own { line } else { !line }
-}
-
-fn after_search(code: u64, i: u8, phase: Phase, line: bool) -> Stage
-    ensures answer { λ r. ⌜ r ≡ afterSearch code i phase line ⌝ }
-{
-    match phase {
-        Phase::SendBit => Stage::Search {
-            bit: i,
-            phase: Phase::SendComplement,
-        },
-        Phase::SendComplement => Stage::Search {
-            bit: i,
-            phase: Phase::TakeBit,
-        },
-        Phase::TakeBit => after_taking(code, i, line),
-    }
-}
-
-// The third slot of a bit in a search.
-fn after_taking(code: u64, i: u8, line: bool) -> Stage
-    ensures answer { λ r. ⌜ r ≡ afterSearch code i TakeBit line ⌝ }
-{
-    if same_bit(code, i, line) {
-        if i < 63 {
-            return Stage::Search {
-                bit: i + 1,
-                phase: Phase::SendBit,
-            };
-        }
-        if i == 63 {
-            return Stage::AwaitFunction { shift: 0, count: 0 };
-        }
-    }
-    Stage::Quiet
-}
-
-fn after_scratchpad(k: u8, j: u8) -> Stage
-    ensures answer { λ r. ⌜ r ≡ afterScratchpad k j ⌝ }
-{
-    if 9 <= k {
-        return Stage::Quiet;
-    }
-    if 8 <= j {
-        return Stage::Quiet;
-    }
-    if j < 7 {
-        return Stage::SendScratchpad {
-            byte: k,
-            bit: j + 1,
-        };
-    }
-    if k < 8 {
-        return Stage::SendScratchpad {
-            byte: k + 1,
-            bit: 0,
-        };
-    }
-    Stage::Quiet
-}
-
-fn rom_command(alarm: bool, command: u8) -> Stage
-    ensures answer { λ r. ⌜ r ≡ romCommand alarm command ⌝ }
-{
-    match command {
-        commands::READ_ROM => Stage::SendRom(0),
-        commands::MATCH_ROM => Stage::Match(0),
-        commands::SKIP_ROM => Stage::AwaitFunction { shift: 0, count: 0 },
-        commands::SEARCH_ROM => Stage::Search {
-            bit: 0,
-            phase: Phase::SendBit,
-        },
-        commands::ALARM_SEARCH => {
-            if alarm {
-                Stage::Search {
-                    bit: 0,
-                    phase: Phase::SendBit,
-                }
-            } else {
-                Stage::Quiet
-            }
-        }
-        _ => Stage::Quiet,
-    }
-}
-
-// By what a device that awaits a ROM command holds of it.
-fn hear_rom(d: Device, taken: Shifted) -> Device
-    ensures answer { λ r. ⌜ r ≡ hearRom d taken ⌝ }
-{
-    match taken {
-        Shifted::Partial { shift, count } => device::with_stage(
-            d,
-            Stage::AwaitRom { shift, count },
-        ),
-        Shifted::Whole(command) => device::with_stage(d, rom_command(d.alarm, command)),
-        Shifted::Beyond => device::with_stage(d, Stage::Quiet),
-    }
-}
-
-// 48h: the settings as they stand are on their way to EEPROM.
-fn copying(d: Device) -> Device
-    ensures answer { λ r. ⌜ r ≡ copying d ⌝ }
-{
-    let pad = d.scratchpad;
-    let latched = device::settings_in(device::row_of(d.code), pad);
-    device::with_activity(d, Activity::Copying(latched))
-}
-
-// B8h: the settings of EEPROM are back in the scratchpad.
-fn recalled(d: Device) -> Device
-    ensures answer { λ r. ⌜ r ≡ recalled d ⌝ }
-{
-    let pad = d.scratchpad;
-    let eeprom = d.eeprom;
-    device::with_scratchpad(
-        d,
-        device::with_settings(device::row_of(d.code), pad, eeprom),
-    )
-}
-
-// A function command given to a device that is not busy.
-fn idle_command(d: Device, command: u8) -> Device
-    ensures answer { λ r. ⌜ r ≡ idleCommand d command ⌝ }
-{
-    match command {
-        commands::CONVERT => {
-            device::with_stage(
-                device::with_activity(d, Activity::Converting),
-                Stage::SendStatus,
-            )
-        }
-        commands::WRITE_SCRATCHPAD => device::with_stage(
-            d,
-            Stage::TakeSettings {
-                place: 0,
-                shift: 0,
-                count: 0,
-            },
-        ),
-        commands::COPY_SCRATCHPAD => device::with_stage(copying(d), Stage::SendStatus),
-        commands::RECALL_EEPROM => device::with_stage(recalled(d), Stage::Quiet),
-        _ => device::with_stage(d, Stage::Quiet),
-    }
-}
-
-fn function_command(d: Device, command: u8) -> Device
-    ensures answer { λ r. ⌜ r ≡ functionCommand d command ⌝ }
-{
-    match command {
-        commands::READ_SCRATCHPAD => {
-            device::with_stage(d, Stage::SendScratchpad { byte: 0, bit: 0 })
-        }
-        commands::READ_POWER => device::with_stage(d, Stage::SendPower),
-        _ => {
-            if device::is_busy(d) {
-                return device::with_stage(d, Stage::Quiet);
-            }
-            idle_command(d, command)
-        }
-    }
-}
-
-// By what a device that awaits a function command holds of it.
-fn hear_function(d: Device, taken: Shifted) -> Device
-    ensures answer { λ r. ⌜ r ≡ hearFunction d taken ⌝ }
-{
-    match taken {
-        Shifted::Partial { shift, count } => device::with_stage(
-            d,
-            Stage::AwaitFunction { shift, count },
-        ),
-        Shifted::Whole(command) => function_command(d, command),
-        Shifted::Beyond => device::with_stage(d, Stage::Quiet),
-    }
-}
-
-fn settings_count(row: Properties) -> u8
-    ensures answer { λ r. ⌜ r ≡ settingsCount row ⌝ }
-{
-    if row.configurable { 3 } else { 2 }
-}
-
-fn setting_byte(row: Properties, k: u8, byte: u8) -> u8
-    ensures answer { λ r. ⌜ r ≡ settingByte row k byte ⌝ }
-{
-    if k == 2 {
-        return family::kept_configuration(row, byte);
-    }
-    byte
-}
-
-// A whole byte has arrived: it is stored, and the next one is awaited or all are there.
-fn store_setting(d: Device, k: u8, byte: u8) -> Device
-    ensures answer { λ r. ⌜ r ≡ storeSetting d k byte ⌝ }
-{
-    let row = device::row_of(d.code);
-    let last = settings_count(row);
-    if last <= k {
-        return device::with_stage(d, Stage::Quiet);
-    }
-    let mut pad = d.scratchpad;
-    let place = family::HIGH_LIMIT + k as usize;
-    pad[place] = setting_byte(row, k, byte);
-    let next = device::with_scratchpad(d, pad);
-    if k + 1 < last {
-        return device::with_stage(
-            next,
-            Stage::TakeSettings {
-                place: k + 1,
-                shift: 0,
-                count: 0,
-            },
-        );
-    }
-    device::with_stage(next, Stage::Quiet)
-}
-
-// By what a device that takes setting k holds of it.
-fn hear_settings(d: Device, k: u8, taken: Shifted) -> Device
-    ensures answer { λ r. ⌜ r ≡ hearSettings d k taken ⌝ }
-{
-    match taken {
-        Shifted::Partial { shift, count } => device::with_stage(
-            d,
-            Stage::TakeSettings {
-                place: k,
-                shift,
-                count,
-            },
-        ),
-        Shifted::Whole(byte) => store_setting(d, k, byte),
-        Shifted::Beyond => device::with_stage(d, Stage::Quiet),
-    }
-}
 
 // The device after a slot in which the line showed this bit.
 pub fn hear(d: Device, line: bool) -> Device
@@ -286,14 +10,17 @@ pub fn hear(d: Device, line: bool) -> Device
 {
     let stage = d.stage;
     match stage {
-        Stage::AwaitRom { shift, count } => hear_rom(d, commands::shift_in(shift, count, line)),
-        Stage::SendRom(i) => device::with_stage(d, after_send_rom(i)),
-        Stage::Match(i) => device::with_stage(d, after_match(d.code, i, line)),
+        Stage::AwaitRom { shift, count } => device_rom::hear_rom(
+            d,
+            commands::shift_in(shift, count, line),
+        ),
+        Stage::SendRom(i) => device::with_stage(d, device_rom::after_send_rom(i)),
+        Stage::Match(i) => device::with_stage(d, device_rom::after_match(d.code, i, line)),
         Stage::Search { bit, phase } => device::with_stage(
             d,
-            after_search(d.code, bit, phase, line),
+            device_rom::after_search(d.code, bit, phase, line),
         ),
-        Stage::AwaitFunction { shift, count } => hear_function(
+        Stage::AwaitFunction { shift, count } => device_function::hear_function(
             d,
             commands::shift_in(shift, count, line),
         ),
@@ -301,8 +28,11 @@ pub fn hear(d: Device, line: bool) -> Device
             place,
             shift,
             count,
-        } => hear_settings(d, place, commands::shift_in(shift, count, line)),
-        Stage::SendScratchpad { byte, bit } => device::with_stage(d, after_scratchpad(byte, bit)),
+        } => device_function::hear_settings(d, place, commands::shift_in(shift, count, line)),
+        Stage::SendScratchpad { byte, bit } => device::with_stage(
+            d,
+            device_function::after_scratchpad(byte, bit),
+        ),
         Stage::SendStatus => d,
         Stage::SendPower => d,
         Stage::Quiet => d,

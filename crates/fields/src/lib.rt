@@ -2,11 +2,11 @@
 ghost use mathlib.Core.Path.{_≡_};
 ghost use mathlib.Core.Bool.{_&&_};
 ghost use Rattle.fields.specs.Fields.{codeIn, byteIn, bitIn, placesIn, bytesIn, isNegative, countIn, settingsIn, powerIn};
-use words::same;
 use device::Power;
 use device::Settings;
 use temperature::Sixteenths;
 use text::NumberRead;
+use words::same;
 
 // The most places of a list and bytes of a recording that a search is lent.
 pub const MOST_PLACES: usize = 32;

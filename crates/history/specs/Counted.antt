@@ -13,9 +13,9 @@ use Rattle.lists.specs.Choice.{if_then_else_}
 use Rattle.lists.specs.Fold.{fold}
 use Rattle.frame.specs.Frames.{blankFrame, bytesFor, mostSlots, pushedAll, Recorded}
 use Rattle.frame.specs.FramesLaws.{recorded-all}
-use Rattle.frame.specs.Recording.{writeAll}
-use Rattle.frame.specs.Writing.{fedLine}
-use Rattle.frame.specs.WritingLaws.{fed-length}
+use Rattle.frame_lines.specs.Recording.{writeAll}
+use Rattle.frame_lines.specs.Writing.{fedLine}
+use Rattle.frame_lines.specs.WritingLaws.{fed-length}
 use Rattle.frame.specs.declared.Frame.{Frame}
 use Rattle.lists.specs.Each.{Each}
 use Rattle.master_rules.specs.Search.{frameOf, countPass, passesIn, slotsIn}

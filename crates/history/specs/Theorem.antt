@@ -17,8 +17,8 @@ use Rattle.bits.specs.BitsLaws.{bits-length}
 use Rattle.commands.specs.Commands.{searchRom, alarmSearch}
 use Rattle.frame.specs.Frames.{blankFrame, noBits}
 use Rattle.text.specs.Digits.{digits, hexOf}
-use Rattle.frame.specs.Recording.{writeAll}
-use Rattle.frame.specs.Writing.{charactersOf}
+use Rattle.frame_lines.specs.Recording.{writeAll}
+use Rattle.frame_lines.specs.Writing.{charactersOf}
 use Rattle.rom.specs.Code.{codeBits}
 use Rattle.lists.specs.Each.{Each, those}
 use Rattle.search_law.specs.Complete.{Complete}

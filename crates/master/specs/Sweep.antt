@@ -27,9 +27,9 @@ use Rattle.bits.specs.BitsLaws.{bits-length}
 use Rattle.refusals.specs.Refusals.{accepted, noRoom, wireBusy}
 use Rattle.frame.specs.Frames.{blankFrame, lineable}
 use Rattle.frame.specs.FramesLaws.{recorded-all, blank-held, blank-lineable}
-use Rattle.frame.specs.Recording.{writeAll}
-use Rattle.frame.specs.Writing.{fedLine, lineWriteAnswer, lineWriteLeaves}
-use Rattle.frame.specs.WritingLaws.{fed-length, write-done}
+use Rattle.frame_lines.specs.Recording.{writeAll}
+use Rattle.frame_lines.specs.Writing.{fedLine, lineWriteAnswer, lineWriteLeaves}
+use Rattle.frame_lines.specs.WritingLaws.{fed-length, write-done}
 use Rattle.frame.specs.declared.Frame.{Frame}
 use Rattle.laying.specs.declared.Written.{Written}
 use Rattle.search_law.specs.Issued.{slots-length}

@@ -4,8 +4,8 @@ ghost use mathlib.Core.Path.{_≡_};
 ghost use lib.ListN.{length};
 ghost use Rattle.lists.specs.Laid.{laid};
 ghost use Rattle.commands.specs.Commands.{searchRom, alarmSearch};
-ghost use Rattle.frame.specs.Recording.{writeAll};
-ghost use Rattle.frame.specs.Writing.{fedLine};
+ghost use Rattle.frame_lines.specs.Recording.{writeAll};
+ghost use Rattle.frame_lines.specs.Writing.{fedLine};
 ghost use Rattle.bench.specs.Slot.{resetDone};
 ghost use Rattle.master_rules.specs.Search.{mostPasses, fewestPlaces, fewestBytes, refusedOutcome, lonelyOutcome, searchOutcome, answerOf, listAfter, recordingAfter};
 ghost use Rattle.history.specs.Demand.{SearchPromise, AlarmPromise};
@@ -74,7 +74,7 @@ fn turn(s: Sweep, restarted: Bench, command: u8, list: &mut [u64], recording: &m
     let shown = w.shown;
     let after = w.bench;
     let slots = shown.count;
-    let written = frame::write_line_at(recording, s.bytes as usize, shown);
+    let written = frame_lines::write_line_at(recording, s.bytes as usize, shown);
     let codes = enter(list, s.codes, w.answered, w.code);
     Sweep {
         going: goes_on(w.answered, w.last),
@@ -144,7 +144,7 @@ fn record_absence(bench: Bench, recording: &mut [u8]) -> Searched
     ensures answer { λ r. ⌜ r ≡ answerOf (lonelyOutcome bench) ⌝ }
     ensures written { λ r. ⌜ now (recording .exit) ≡ recordingAfter (now (recording .entry)) (lonelyOutcome bench) ⌝ }
 {
-    let written = frame::write_line_at(recording, 0, frame::blank(false));
+    let written = frame_lines::write_line_at(recording, 0, frame::blank(false));
     Searched {
         refusal: refusals::ACCEPTED,
         codes: 0,

@@ -16,7 +16,7 @@ use Rattle.lists.specs.Laid.{laid}
 use Rattle.bits.specs.Bits.{bitsOf, numberOf}
 use Rattle.refusals.specs.Refusals.{accepted, noRoom, wireBusy}
 use Rattle.frame.specs.Frames.{blankFrame, pushedAll}
-use Rattle.frame.specs.Recording.{writeAll}
+use Rattle.frame_lines.specs.Recording.{writeAll}
 use Rattle.frame.specs.declared.Frame.{Frame}
 use Rattle.search_law.specs.Wire.{Search, wireSearch}
 use Rattle.bench.specs.Bench.{free}

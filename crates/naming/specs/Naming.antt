@@ -21,7 +21,7 @@ use Rattle.scratchpad.specs.declared.Judged.{Judged}
 use Rattle.frame.specs.declared.Frame.{Frame}
 use Rattle.frame.specs.Frames.{slotBit}
 use Rattle.text.specs.Lines.{Line}
-use Rattle.frame.specs.ReadLine.{LineContent, carries, noFrame, readLine}
+use Rattle.frame_lines.specs.ReadLine.{LineContent, carries, noFrame, readLine}
 use Rattle.naming.specs.declared.Name.{Name}
 use Rattle.naming.specs.declared.Name.the-variants.{Empty, Search, Alarm, Nobody, Pad, Other}
 use Rattle.naming.specs.declared.Named.{Named}

@@ -19,7 +19,7 @@ use Rattle.text.specs.DecimalLaws.{decimal-length, decimal-most}
 use Rattle.text.specs.Lines.{Line, lineFeed}
 use Rattle.laying.specs.Laying.{layAnswer, layLeaves}
 use Rattle.laying.specs.LayingLaws.{lay-fits, lay-behind}
-use Rattle.frame.specs.ReadLine.{longest, wellFormed, frameIn, carries, noFrame, readDigits, readLine, found, answerOf}
+use Rattle.frame_lines.specs.ReadLine.{longest, wellFormed, frameIn, carries, noFrame, readDigits, readLine, found, answerOf}
 use Rattle.naming.specs.Naming.{readNamed, lineNamed}
 use Rattle.naming.specs.declared.Name.{Name}
 use Rattle.naming.specs.declared.Name.the-variants.{Empty, Search, Alarm, Nobody, Pad, Other}

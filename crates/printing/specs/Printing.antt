@@ -18,7 +18,7 @@ use Rattle.refusals.specs.Refusals.{accepted}
 use Rattle.text.specs.Digits.{hexDigits, codeDigits}
 use Rattle.text.specs.Decimal.{decimal}
 use Rattle.text.specs.Lines.{Line, lineFeed}
-use Rattle.frame.specs.declared.LineRead.{LineRead}
+use Rattle.frame_lines.specs.declared.LineRead.{LineRead}
 use Rattle.naming.specs.Naming.{named, refusedName, lineNamed}
 use Rattle.naming.specs.declared.Name.{Name}
 use Rattle.naming.specs.declared.Name.the-variants.{Empty, Search, Alarm, Nobody, Pad, Other}

@@ -7,7 +7,7 @@ ghost use Rattle.lists.specs.Laid.{laid};
 ghost use Rattle.text.specs.Digits.{hexDigits};
 ghost use Rattle.laying.specs.Laying.{layAnswer, layLeaves};
 ghost use Rattle.printing.specs.Printing.{space, word, detail, refusedText, described, printedName, printedLine, printedText, nameOfRead};
-use frame::LineRead;
+use frame_lines::LineRead;
 use laying::Written;
 use naming::Name;
 use naming::Named;
@@ -136,6 +136,6 @@ pub fn print_line(out: &mut [u8], at: usize, line: &[u8], fed: bool) -> Written
     ensures answer { λ r. ⌜ r ≡ layAnswer (now (out .entry)) at (printedLine record { chars = now (line .entry); fed = fed }) ⌝ }
     ensures written { λ r. ⌜ now (out .exit) ≡ layLeaves (now (out .entry)) at (printedLine record { chars = now (line .entry); fed = fed }) ⌝ }
 {
-    let named = name_read(frame::read_line(line, fed, 0));
+    let named = name_read(frame_lines::read_line(line, fed, 0));
     print_named(out, at, named)
 }

@@ -2,8 +2,8 @@
 // parser of `frame`, which takes plain bytes and a place; these functions take the struct apart and
 // call it. `first_line`, with plain parameters, needs no reader at its caller's side.
 ghost use mathlib.Core.Path.{_≡_};
-ghost use Rattle.frame.specs.ReadLine.{lineReadAt};
-use frame::LineRead;
+ghost use Rattle.frame_lines.specs.ReadLine.{lineReadAt};
+use frame_lines::LineRead;
 
 pub struct Reader<'a> {
     pub bytes: &'a [u8],
@@ -21,7 +21,7 @@ pub fn open<'a>(bytes: &'a [u8]) -> Reader<'a>
 pub fn next<'a>(r: Reader<'a>) -> LineRead
     ensures answer { λ a. ⌜ a ≡ lineReadAt (now (r .entry .bytes)) (r .entry .at) ⌝ }
 {
-    frame::read_line_at(r.bytes, r.at)
+    frame_lines::read_line_at(r.bytes, r.at)
 }
 
 // The same recording at another place, such as the one that `next` answered.

@@ -4,9 +4,10 @@ ghost use Rattle.words.specs.Words.{wordsOf, wordOf};
 ghost use Rattle.fields.specs.Fields.{codeIn, bitIn, placesIn, bytesIn, countIn, settingsIn, powerIn};
 ghost use Rattle.requests.specs.declared.Request.the-variants.{Copied, Cycle, Search, Alarm, Read, Show};
 ghost use Rattle.requests.specs.Requests.{asks, slotAsked, convertedAsked, atCode, lent, writeAsked, addAsked, ofMaster, ofBench};
+use crate::Request;
+use device::Joining;
 use fields::MOST_BYTES;
 use fields::MOST_PLACES;
-use crate::Request;
 use fields::bit_in;
 use fields::bytes_in;
 use fields::code_in;
@@ -17,7 +18,6 @@ use fields::settings_in;
 use words::count;
 use words::same;
 use words::word;
-use device::Joining;
 
 // ---- Requests, by their fields
 

@@ -5,7 +5,7 @@ use mathlib.Core.Bool.{Bool}
 use mathlib.Core.List.{List, _++_}
 use Rattle.lists.specs.Choice.{if_then_else_}
 use Rattle.commands.specs.Commands.{searchRom, alarmSearch}
-use Rattle.frame.specs.Recording.{writeAll}
+use Rattle.frame_lines.specs.Recording.{writeAll}
 use Rattle.master_rules.specs.Search.{Outcome, answerOf}
 use Rattle.answers.specs.Answers.{searchLine, codeLines}
 use Rattle.call_answers.specs.Said.{Answered, says}

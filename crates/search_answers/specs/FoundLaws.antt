@@ -15,7 +15,7 @@ use Rattle.refusals.specs.Refusals.{accepted}
 use Rattle.laying.specs.Laying.{layAnswer, layLeaves}
 use Rattle.laying.specs.LayingLaws.{lay-fits}
 use Rattle.laying.specs.declared.Written.{Written}
-use Rattle.frame.specs.Recording.{writeAll}
+use Rattle.frame_lines.specs.Recording.{writeAll}
 use Rattle.bench.specs.declared.Bench.{Bench}
 use Rattle.master_rules.specs.Search.{fewestPlaces, fewestBytes, Outcome, searchOutcome, answerOf, listAfter, recordingAfter}
 use Rattle.master_rules.specs.declared.Searched.{Searched}

@@ -11,15 +11,12 @@ ghost use Rattle.search_answers.specs.Whole.{room, Says, wholeSaid, whol
 ghost use Rattle.search_answers.specs.Found.{commandFor, ofSearch};
 use bench::Bench;
 use call_answers::Said;
+use master::FEWEST_BYTES;
+use master::FEWEST_PLACES;
 use master::Searched;
 
 // The bytes that an answer is lent: more than any answer needs.
 pub const ROOM: usize = 4096;
-
-// The places of a list and the bytes of a recording that a search of a full bench takes.
-const MOST_PLACES: usize = 32;
-
-const MOST_BYTES: usize = 1824;
 
 // The lines of codes, one behind the other.
 fn put_codes(out: &mut [u8], at: usize, codes: &[u64]) -> usize
@@ -118,8 +115,8 @@ fn lend(
     requires { ⌜ (length (now list) ≡ 32) × (length (now recording) ≡ 1824) × (room ≤ length (now out)) ⌝ }
     ensures { λ r. ⌜ Says (now (out .entry)) (ofSearch (searchOutcome (commandFor alarms) bench places bytes)) (now (out .exit)) r ⌝ }
 {
-    let lent_places = least(places, MOST_PLACES);
-    let lent_bytes = least(bytes, MOST_BYTES);
+    let lent_places = least(places, FEWEST_PLACES);
+    let lent_bytes = least(bytes, FEWEST_BYTES);
     found_in(
         bench,
         alarms,
@@ -133,8 +130,8 @@ fn search(bench: Bench, alarms: bool, places: usize, bytes: usize, out: &mut [u8
     requires { ⌜ room ≤ length (now out) ⌝ }
     ensures { λ r. ⌜ Says (now (out .entry)) (ofSearch (searchOutcome (commandFor alarms) bench places bytes)) (now (out .exit)) r ⌝ }
 {
-    let mut list = [0u64; MOST_PLACES];
-    let mut recording = [0u8; MOST_BYTES];
+    let mut list = [0u64; FEWEST_PLACES];
+    let mut recording = [0u8; FEWEST_BYTES];
     lend(bench, alarms, &mut list, &mut recording, places, bytes, out)
 }
 

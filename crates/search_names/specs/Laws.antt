@@ -46,9 +46,9 @@ use Rattle.history.specs.Theorem.{presence-is, presence-shown, codes-fit, flagg
 use Rattle.master_rules.specs.SearchLaws.{passes-made, nobody-there}
 use Rattle.lists.specs.LaidLaws.{laid-read}
 use Rattle.text.specs.Lines.{Line, linesOf}
-use Rattle.frame.specs.ReadLine.{carries, readLine}
-use Rattle.frame.specs.Recording.{writeAll, Writable, none, one}
-use Rattle.frame.specs.RecordingLaws.{read-back}
+use Rattle.frame_lines.specs.ReadLine.{carries, readLine}
+use Rattle.frame_lines.specs.Recording.{writeAll, Writable, none, one}
+use Rattle.frame_lines.specs.RecordingLaws.{read-back}
 use Rattle.search_law.specs.Wire.{Search as SearchBy}
 use Rattle.searching.specs.Buses.{slotRule}
 use Rattle.search_names.specs.Names.{namesOf, recorded, NamesClaim}

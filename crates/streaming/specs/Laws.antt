@@ -22,8 +22,8 @@ use Rattle.pieces.specs.Pieces.{together, pieces, Enough}
 use Rattle.pieces.specs.Cuts.{any-cuts}
 use Rattle.pieces.specs.Walk.{Short}
 use Rattle.frame.specs.Frames.{bytesFor, lineable}
-use Rattle.frame.specs.ReadLine.{LineContent, longest, presenceIn, countIn, wellFormed, frameIn, carries, noFrame, readDigits, readLine}
-use Rattle.frame.specs.ReadLineLaws.{read-accepted, read-long}
+use Rattle.frame_lines.specs.ReadLine.{LineContent, longest, presenceIn, countIn, wellFormed, frameIn, carries, noFrame, readDigits, readLine}
+use Rattle.frame_lines.specs.ReadLineLaws.{read-accepted, read-long}
 use Rattle.naming.specs.Naming.{named, refusedName, readNamed}
 use Rattle.naming.specs.Laws.{named-small}
 use Rattle.naming.specs.declared.Name.the-variants.{Other}

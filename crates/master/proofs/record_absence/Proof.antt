@@ -8,7 +8,7 @@ use lib.ListN.{length}
 use Rattle.lists.specs.Laid.{laid}
 use Rattle.frame.specs.Frames.{blankFrame}
 use Rattle.frame.specs.FramesLaws.{blank-lineable}
-use Rattle.frame.specs.Writing.{fedLine}
+use Rattle.frame_lines.specs.Writing.{fedLine}
 use Rattle.master.specs.Sweep.{frame-written, blank-line, absence-is, lonely-recording}
 use borrow.Author.Needs.{needs}
 use Rattle.master.proofs.record_absence.Statement.{statement}

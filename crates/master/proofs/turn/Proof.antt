@@ -6,7 +6,7 @@ use borrow.Author.Needs.{needs}
 use denote.Ref.{now}
 use lib.ListN.{length}
 use Rattle.lists.specs.Laid.{laid}
-use Rattle.frame.specs.Writing.{fedLine}
+use Rattle.frame_lines.specs.Writing.{fedLine}
 use Rattle.master.specs.Sweep.{passFrom, PassFrame, next-frame, frame-written, swept-is}
 use Rattle.master.proofs.turn.Statement.{statement}
 use Rattle.master.proofs.turn.Tie as tie

@@ -35,13 +35,13 @@ use denote.Triple.Table.{entered, cited}
 use denote.Triple.Walked.{says, Stays, stay-none-slice, walkOf, goes-none-slice, Walks, ends-at, walked, walk-meets}
 use denote.Exit.{yes}
 use denote.Triple.Clauses.{ensured, lasts}
-use Rattle.frame.specs.ReadLine.{lineReadAt}
+use Rattle.frame_lines.specs.ReadLine.{lineReadAt}
 use Rattle.recording.specs.declared.Reader.{Reader}
-use Rattle.frame.specs.declared.LineRead.{LineRead}
+use Rattle.frame_lines.specs.declared.LineRead.{LineRead}
 use Rattle.recording.proofs.Reader as T
 use Rattle.recording.proofs.Reader.Laws as T′
-use Rattle.frame.proofs.LineRead as S
-use Rattle.frame.proofs.LineRead.Laws as S′
+use Rattle.frame_lines.proofs.LineRead as S
+use Rattle.frame_lines.proofs.LineRead.Laws as S′
 use Rattle.recording.proofs.open as new
 use Rattle.recording.proofs.open.Symbol as new-def
 use Rattle.recording.proofs.open.Symbol.{name as #recording·open}

@@ -1,4 +1,4 @@
--- The function's code is walked: the struct is taken apart, and `frame::read_line_at`, of which only its promise is known, is called on the bytes and the place. The struct is plain to
+-- The function's code is walked: the struct is taken apart, and `frame_lines::read_line_at`, of which only its promise is known, is called on the bytes and the place. The struct is plain to
 -- copy, so that what it owns is had twice: one copy stays whole for the end, of the other the bytes go to the callee beside the lifetime's token. Assumes nothing.
 use mathlib.Core.Path.{_≡_, refl}
 use Prim.Native.Nat.{_<_, _^_}
@@ -41,17 +41,17 @@ use denote.Triple.Table.{entered, cited}
 use denote.Triple.Walked.{says, Stays, stay-none, walkOf, goes-none, Walks, ends-at, walked, walk-meets}
 use denote.Exit.{yes}
 use denote.Triple.Clauses.{ensured, lasts}
-use Rattle.frame.specs.ReadLine.{lineReadAt}
+use Rattle.frame_lines.specs.ReadLine.{lineReadAt}
 use Rattle.recording.specs.declared.Reader.{Reader}
-use Rattle.frame.specs.declared.LineRead.{LineRead}
+use Rattle.frame_lines.specs.declared.LineRead.{LineRead}
 use Rattle.recording.proofs.Reader as T
 use Rattle.recording.proofs.Reader.Laws as T′
-use Rattle.frame.proofs.LineRead as S
-use Rattle.frame.proofs.LineRead.Laws as S′
-use Rattle.frame.proofs.read_line_at as read
-use Rattle.frame.proofs.read_line_at.Symbol as read-def
-use Rattle.frame.proofs.read_line_at.Symbol.{name as #frame·read-line-at}
-use Rattle.frame.proofs.read_line_at.Met as read-thm
+use Rattle.frame_lines.proofs.LineRead as S
+use Rattle.frame_lines.proofs.LineRead.Laws as S′
+use Rattle.frame_lines.proofs.read_line_at as read
+use Rattle.frame_lines.proofs.read_line_at.Symbol as read-def
+use Rattle.frame_lines.proofs.read_line_at.Symbol.{name as #frame·read-line-at}
+use Rattle.frame_lines.proofs.read_line_at.Met as read-thm
 use Rattle.recording.proofs.next.Key.{name as #recording·next}
 use Rattle.recording.proofs.next as next
 use Rattle.recording.proofs.next.Statement as stated
@@ -161,4 +161,4 @@ next-spec 𝓤 H 𝓜 𝓖 𝓡 =
     entered 𝓤 H (tripleOf 𝓤 H (𝓖 .A) next.signature (next.spec 𝓤 H (𝓖 .A) (𝓜 .mem) (𝓡 .run)))
     (tables 𝓤 H 𝓜 𝓡 code.env .C) (tables 𝓤 H 𝓜 𝓡 code.env .Λ) #recording·next code.function (code.unfolded 𝓤 H 𝓜 𝓡)
     (next-meets 𝓤 H (𝓖 .A) (givenOf 𝓤 H 𝓜 𝓖) (𝓜 .mem) (𝓡 .run) (tablesOf 𝓤 H 𝓜 (tables 𝓤 H 𝓜 𝓡 code.env))
-    (cited 𝓤 H (ReadAt 𝓤 H (𝓖 .A) (𝓜 .mem) (𝓡 .run)) 𝓜 𝓡 code.env #frame·read-line-at read-def.routine code.calls-frame·read-line-at (read-thm.met 𝓤 H 𝓜 𝓖 𝓡)))
+    (cited 𝓤 H (ReadAt 𝓤 H (𝓖 .A) (𝓜 .mem) (𝓡 .run)) 𝓜 𝓡 code.env #frame·read-line-at read-def.routine code.calls-frame-lines·read-line-at (read-thm.met 𝓤 H 𝓜 𝓖 𝓡)))
