@@ -7,6 +7,7 @@ use mathlib.Core.List.{List, [], _∷_, _++_, append-assoc}
 use native.Mathlib.Omega.{arith}
 use native.Mathlib.Nat.{pow-suc, div-div-eq-div-mul, pow-succ', mul-left-comm}
 use borrow.Author.Tests.{eqb-true, eqb-false}
+use lib.Bits.{block-half, block-odd}
 use lib.Dec.{lit<, eqb}
 use lib.ListN.{length, getD, length-append, set, List·getD-append}
 use Rattle.bits.specs.Bits.{odd, bitAt, bitNumber, bitsOf, numberOf, bytesBits}
@@ -84,6 +85,12 @@ bits-append zero n x =
 bits-append (suc m) n x =
     let s : suc m + n ≡ suc (m + n) = omega arith in
     rw s (ap (λ (t : List Bool). odd x ∷ t) (bits-append m n (x / 2) ∙ ap (λ (k : ℕ). bitsOf m (x / 2) ++ bitsOf n k) (half-then x m)))
+
+-- what is above the lowest n bits leaves them
+pub bits-block : (n a r : ℕ) → bitsOf n (a * 2 ^ n + r) ≡ bitsOf n r
+unfolding bitsOf
+bits-block zero a r = refl
+bits-block (suc n) a r = rw (block-odd a n r, block-half a n r) (ap (λ (t : List Bool). odd r ∷ t) (bits-block n a (r / 2)))
 
 pub bytes-append : (a b : List ℕ) → bytesBits (a ++ b) ≡ bytesBits a ++ bytesBits b
 unfolding bytesBits

@@ -1,10 +1,14 @@
--- A list of bytes stays one when a byte is stored, and so do its parts and two of them joined.
+-- A list of bytes stays one when a byte is stored, and so do its parts and two of them joined. Bytes are the same where their bits are (`bytes-same`).
 -- Assumes nothing.
 use Prim.Native.Nat.{ℕ, zero, suc, _+_, _<_}
+use mathlib.Core.Path.{_≡_, refl, sym, ap, _∙_}
 use mathlib.Core.List.{List, [], _∷_, _++_}
+use native.Mathlib.Omega.{arith}
 use lib.Dec.{lit<}
-use lib.ListN.{set, take, drop}
-use lib.Seq.{getD-drop}
+use lib.ListN.{length, set, take, drop}
+use lib.Seq.{getD-drop, take-at, drop-at}
+use Rattle.bits.specs.Bits.{bitsOf, numberOf, bytesBits}
+use Rattle.bits.specs.BitsLaws.{bits-length, number-bits}
 use Rattle.bits.specs.Bytes.{Bytes}
 
 pub bytes-set : (l : List ℕ) (i v : ℕ) → Bytes l → v < 256 → Bytes (set l i v)
@@ -27,3 +31,17 @@ pub bytes-append-bytes : (l m : List ℕ) → Bytes l → Bytes m → Bytes (l +
 bytes-append-bytes [] m h g k = g k
 bytes-append-bytes (x ∷ l) m h g zero = h 0
 bytes-append-bytes (x ∷ l) m h g (suc k) = bytes-append-bytes l m (λ i. h (suc i)) g k
+
+pub bytes-same : (a b : List ℕ) → length a ≡ length b → Bytes a → Bytes b → bytesBits a ≡ bytesBits b → a ≡ b
+unfolding bytesBits
+bytes-same [] [] n h k e = refl
+bytes-same [] (y ∷ b) n h k e = absurd (omega arith)
+bytes-same (x ∷ a) [] n h k e = absurd (omega arith)
+bytes-same (x ∷ a) (y ∷ b) n h k e =
+    let first : bitsOf 8 x ≡ bitsOf 8 y
+    = sym (take-at (bitsOf 8 x) (bytesBits a) 8 (bits-length 8 x)) ∙ ap (take 8) e ∙ take-at (bitsOf 8 y) (bytesBits b) 8 (bits-length 8 y) in
+    let rest : bytesBits a ≡ bytesBits b
+    = sym (drop-at (bitsOf 8 x) (bytesBits a) 8 (bits-length 8 x)) ∙ ap (drop 8) e ∙ drop-at (bitsOf 8 y) (bytesBits b) 8 (bits-length 8 y) in
+    let one : x ≡ y = sym (number-bits 8 x (h 0)) ∙ ap numberOf first ∙ number-bits 8 y (k 0) in
+    let more : a ≡ b = bytes-same a b (omega arith) (λ i. h (suc i)) (λ i. k (suc i)) rest in
+    rw (one, more)

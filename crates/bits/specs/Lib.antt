@@ -2,4 +2,6 @@ pub mod Bits
 pub mod BitsLaws
 pub mod Bytes
 pub mod BytesLaws
+pub mod Sums
+pub mod SumsLaws
 pub mod XorLaws

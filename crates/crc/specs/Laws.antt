@@ -1,19 +1,18 @@
 -- Laws of the CRC, cited in place of its definition.
 --     crc-none, crc-more, crc-append      the register over no bits, one bit more, and two runs of bits
 --     crc-bytes-append, crc-byte-more     the CRC of bytes goes on where it stood
---     crc-lt, crc-bytes-lt                the register stays a byte
+--     crc-bit-lt, crc-lt, crc-bytes-lt    the register stays a byte
 --     crc-own, crc-message                feeding the register its own value brings it to zero: a message followed by its CRC
 -- Assumes nothing.
-use Prim.Native.Nat.{ℕ, zero, suc, _+_, _-_, _*_, _/_, _%_, _^_, _<_, _≤_}
+use Prim.Native.Nat.{ℕ, zero, suc, _+_, _-_, _/_, _^_, _<_, _≤_}
 use mathlib.Core.Path.{_≡_, refl, sym, ap, _∙_}
 use mathlib.Core.Bool.{Bool, true, false, Bool·beq}
 use mathlib.Core.List.{List, [], _∷_, _++_, append-nil}
 use native.Mathlib.Nat.{pow-suc}
 use native.Mathlib.Numerals.{add-one}
 use native.Mathlib.Omega.{arith}
-use borrow.Author.Tests.{eqb-true, eqb-false, eq-eqb, ne-eqb}
 use lib.Bits.{bitXor, xor-zero-r, xor-self, xor-lt}
-use lib.Dec.{eqb, lit<}
+use lib.Dec.{lit<}
 use lib.ListN.{length, getD, take}
 use lib.Seq.{take-suc}
 use Rattle.lists.specs.Choice.{if_then_else_}
@@ -21,8 +20,9 @@ use Rattle.lists.specs.Fold.{fold}
 use Rattle.lists.specs.FoldLaws.{fold-append}
 use Rattle.bits.specs.Bits.{odd, bitsOf, bytesBits}
 use Rattle.bits.specs.BitsLaws.{bytes-append}
+use Rattle.bits.specs.Sums.{plus}
+use Rattle.bits.specs.XorLaws.{xor-half, odd-xor, xor-swap}
 use Rattle.crc.specs.Crc.{taps, crcBit, crcBits, crcOf}
-use Rattle.bits.specs.XorLaws.{xor-half, xor-low, xor-swap}
 
 pub crc-none : (r : ℕ) → crcBits r [] ≡ r
 unfolding crcBits fold
@@ -58,8 +58,8 @@ crc-done r x n i h = let e : n - i ≡ 0 = omega arith in rw e (crc-none r)
 
 -- ## The register stays a byte
 
-bit-lt : (r : ℕ) (b : Bool) → r < 256 → crcBit r b < 256
-bit-lt r b h = by-test (Bool·beq (odd r) b)
+pub crc-bit-lt : (r : ℕ) (b : Bool) → r < 256 → crcBit r b < 256
+crc-bit-lt r b h = by-test (Bool·beq (odd r) b)
   where
     by-test : (t : Bool) → (if t then r / 2 else bitXor (r / 2) taps) < 256
     by-test true = omega arith
@@ -68,38 +68,27 @@ bit-lt r b h = by-test (Bool·beq (odd r) b)
 pub crc-lt : (r : ℕ) (bs : List Bool) → r < 256 → crcBits r bs < 256
 unfolding crcBits fold
 crc-lt r [] h = h
-crc-lt r (b ∷ bs) h = crc-lt (crcBit r b) bs (bit-lt r b h)
+crc-lt r (b ∷ bs) h = crc-lt (crcBit r b) bs (crc-bit-lt r b h)
 
 -- ## A register fed with its own value
-
--- the parity of an exclusive or is whether the parities differ
-odd-xor : (r x : ℕ) → Bool·beq (odd (bitXor r x)) false ≡ Bool·beq (odd r) (odd x)
-odd-xor r x = by-test (odd r) (odd x) refl refl
-  where
-    by-test : (p q : Bool) → odd r ≡ p → odd x ≡ q → Bool·beq (odd (bitXor r x)) false ≡ Bool·beq p q
-    by-test true true e f =
-        let l = xor-low r x in let e' = eqb-true (r % 2) 1 e in let f' = eqb-true (x % 2) 1 f in
-        rw (ne-eqb (bitXor r x % 2) 1 (λ (h : bitXor r x % 2 ≡ 1). omega arith))
-    by-test false false e f =
-        let l = xor-low r x in let e' = eqb-false (r % 2) 1 e in let f' = eqb-false (x % 2) 1 f in
-        rw (ne-eqb (bitXor r x % 2) 1 (λ (h : bitXor r x % 2 ≡ 1). omega arith))
-    by-test true false e f =
-        let l = xor-low r x in let e' = eqb-true (r % 2) 1 e in let f' = eqb-false (x % 2) 1 f in
-        let o : bitXor r x % 2 ≡ 1 = omega arith in rw (eq-eqb (bitXor r x % 2) 1 o)
-    by-test false true e f =
-        let l = xor-low r x in let e' = eqb-false (r % 2) 1 e in let f' = eqb-true (x % 2) 1 f in
-        let o : bitXor r x % 2 ≡ 1 = omega arith in rw (eq-eqb (bitXor r x % 2) 1 o)
 
 -- what is left of x may be added to the register before the step or after it
 xor-step-in : (r x : ℕ) → bitXor (crcBit r (odd x)) (x / 2) ≡ crcBit (bitXor r x) false
 xor-step-in r x =
     by-test (Bool·beq (odd r) (odd x))
-    ∙ ap (λ (t : Bool). if t then bitXor (r / 2) (x / 2) else bitXor (bitXor (r / 2) (x / 2)) taps) (sym (odd-xor r x))
+    ∙ ap (λ (t : Bool). if t then bitXor (r / 2) (x / 2) else bitXor (bitXor (r / 2) (x / 2)) taps) (sym (differ (odd r) (odd x)))
+    ∙ ap (λ (p : Bool). if Bool·beq p false then bitXor (r / 2) (x / 2) else bitXor (bitXor (r / 2) (x / 2)) taps) (sym (odd-xor r x))
     ∙ ap (λ (h : ℕ). if Bool·beq (odd (bitXor r x)) false then h else bitXor h taps) (sym (xor-half r x))
   where
     by-test : (t : Bool) → bitXor (if t then r / 2 else bitXor (r / 2) taps) (x / 2) ≡ (if t then bitXor (r / 2) (x / 2) else bitXor (bitXor (r / 2) (x / 2)) taps)
     by-test true = refl
     by-test false = xor-swap (r / 2) taps (x / 2)
+
+    differ : (p q : Bool) → Bool·beq (plus p q) false ≡ Bool·beq p q
+    differ true true = refl
+    differ true false = refl
+    differ false true = refl
+    differ false false = refl
 
 -- the bits of a number go in as zeros do, from the register with the number added
 pub crc-merge : (n r x : ℕ) → x < 2 ^ n → crcBits r (bitsOf n x) ≡ crcBits (bitXor r x) (bitsOf n 0)
