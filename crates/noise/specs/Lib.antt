@@ -1,0 +1,9 @@
+pub mod Noise
+pub mod Claims
+pub mod DifferencesLaws
+pub mod HoldsLaws
+pub mod ParityLaws
+pub mod DistanceLaws
+pub mod HiddenLaws
+pub mod NoticedLaws
+pub mod Theorem
