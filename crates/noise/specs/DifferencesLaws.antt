@@ -64,8 +64,10 @@ plus-none false = refl
 
 pub ones-within : (k : ℕ) (a b : List Bool) (w : OnlyWithin k a b) (j : ℕ) → getD (sum a b) j false ≡ true → (w .0 ≤ j) × (j < w .0 + k)
 ones-within k a b w j t =
-    w .1 j (λ (same : getD a j false ≡ getD b j false).
-    false≢true (sym (plus-self (getD b j false)) ∙ ap (λ (u : Bool). plus u (getD b j false)) (sym same) ∙ sym (sum-at a b j) ∙ t))
+    let differ : getD a j false ≡ getD b j false → ⊥
+    = λ same.
+    false≢true (sym (plus-self (getD b j false)) ∙ ap (λ (u : Bool). plus u (getD b j false)) (sym same) ∙ sym (sum-at a b j) ∙ t) in
+    w .1 j differ
 
 pub sum-within : (k i : ℕ) (a n : List Bool) → ((j : ℕ) → getD n j false ≡ true → (i ≤ j) × (j < i + k)) → OnlyWithin k a (sum a n)
 sum-within k i a n h = (i, within)

@@ -1,8 +1,8 @@
--- Two different strings of equal length that both bring the register to zero. So does their sum, whose ones are the differences; from there on the proofs speak of the ones of one string.
--- Leading zeros leave the register at zero, and trailing ones may be dropped (`quiet`), so that no place has to be named.
---     far-apart       up to 127 bits they differ in at least four places: an even number (`even-ones`), and not two, for a first 1 makes the register the taps, a second must find it at 1, and
---                     none of the 126 registers from the taps on is 1, which is the one computed test
---     no-burst        at any length they do not differ within eight neighbours only: eight bits are a number below 256, which goes in as zeros do from that number, and only 0 comes to zero
+-- Two different strings of equal length that both bring the register to zero are apart: `distance`. So does their sum, whose ones are the differences; from there on the proofs speak of the
+-- ones of one string. Leading zeros leave the register at zero, and trailing ones may be dropped (`quiet`), so that no place has to be named.
+--     four-ones       up to 127 bits it has four ones at least: an even number (`even-ones`), and not two, for a first 1 makes the register the taps, a second must find it at 1, and none of the
+--                     126 registers from the taps on is 1, which is the one computed test
+--     neighbours      at any length they are not within eight neighbours: eight bits are a number below 256, which goes in as zeros do from that number, and only 0 comes to zero
 -- Assumes nothing.
 use Prim.Native.Nat.{ℕ, zero, suc, _+_, _<_, _≤_}
 use mathlib.Core.Path.{_≡_, refl, sym, ap, _∙_}
@@ -22,7 +22,7 @@ use Rattle.bits.specs.SumsLaws.{sum-length, same-if-none, ones-append, ones-zer
 use Rattle.crc.specs.Crc.{taps, crcBit, crcBits}
 use Rattle.crc.specs.Laws.{crc-more, crc-append, crc-bit-lt, crc-lt, crc-merge}
 use Rattle.crc.specs.SumLaws.{crc-sum-zero}
-use Rattle.noise.specs.Noise.{differences, OnlyWithin}
+use Rattle.noise.specs.Claims.{Distance}
 use Rattle.noise.specs.DifferencesLaws.{differences-ones, ones-within}
 use Rattle.noise.specs.HoldsLaws.{from-one, quiet}
 use Rattle.noise.specs.ParityLaws.{even-ones}
@@ -90,13 +90,6 @@ four-ones l h e z = by-test (ltb (ones l) 4) refl
         let two : ones l ≡ 2 = omega arith in
         absurd (two-places l h two e)
 
-pub far-apart : (a b : List Bool) → length a ≡ length b → length a ≤ 127
-    → crcBits 0 a ≡ 0 → crcBits 0 b ≡ 0 → (a ≡ b → ⊥) → 4 ≤ differences a b
-far-apart a b s h e f n =
-    let k : length (sum a b) ≤ 127 = rw (sum-length a b s) h in
-    rw (differences-ones a b s)
-    (four-ones (sum a b) k (sum-zero a b s e f) (λ (z : ones (sum a b) ≡ 0). n (same-if-none a b s z)))
-
 -- ## Neighbouring places
 
 -- at most eight bits go into the register one to one
@@ -130,5 +123,16 @@ neighbours (suc i) (false ∷ l) h e =
     (sym (crc-more 0 false l) ∙ e) in
     omega arith
 
-pub no-burst : (a b : List Bool) → length a ≡ length b → crcBits 0 a ≡ 0 → crcBits 0 b ≡ 0 → (a ≡ b → ⊥) → OnlyWithin 8 a b → ⊥
-no-burst a b s e f n w = n (same-if-none a b s (neighbours (w .0) (sum a b) (ones-within 8 a b w) (sum-zero a b s e f)))
+-- ## Both
+
+pub distance : Distance
+distance = record {
+  four-places = λ a b s h e f n.
+      let k : length (sum a b) ≤ 127 = omega (arith, sum-length a b s) in
+      let four = four-ones (sum a b) k (sum-zero a b s e f) (λ (z : ones (sum a b) ≡ 0). n (same-if-none a b s z)) in
+      omega (arith, differences-ones a b s);
+  no-burst = λ a b s e f n w.
+      let within : (j : ℕ) → getD (sum a b) j false ≡ true → (w .0 ≤ j) × (j < w .0 + 8)
+      = λ j t. let p = ones-within _ a b w j t in (p .0, omega arith) in
+      n (same-if-none a b s (neighbours (w .0) (sum a b) within (sum-zero a b s e f)));
+}

@@ -1,5 +1,5 @@
 -- What hides, so that no promise can be larger: noise that leaves the register at zero by itself is added to a string without moving its register (`hides`), and such are the polynomial anywhere
--- (`polynomial-hides`, `within-nine`) and two bits with 126 between them (`two-hide`).
+-- (`polynomial-hides`) and two bits with 126 between them: `tight`.
 -- Assumes nothing.
 use Prim.Native.Nat.{ℕ, zero, suc, _+_, _-_, _<_, _≤_}
 use mathlib.Core.Path.{_≡_, refl, sym, ap, _∙_}
@@ -9,16 +9,15 @@ use native.Mathlib.Omega.{arith}
 use borrow.Author.Tests.{ltb-true, ltb-false}
 use lib.Bits.{bitXor, xor-zero-r}
 use lib.Dec.{ltb}
-use lib.ListN.{length, getD, replicate}
+use lib.ListN.{getD, replicate}
 use lib.Seq.{getD-append-add}
 use Rattle.lists.specs.Fold.{fold}
-use Rattle.bits.specs.Sums.{sum, ones}
+use Rattle.bits.specs.Sums.{ones}
 use Rattle.bits.specs.SumsLaws.{ones-append}
 use Rattle.crc.specs.Crc.{crcBits}
 use Rattle.crc.specs.Laws.{crc-none, crc-more, crc-append}
 use Rattle.crc.specs.SumLaws.{crc-sum-zero}
-use Rattle.noise.specs.Claims.{polynomialAt, firstAndLast, Hides}
-use Rattle.noise.specs.Noise.{OnlyWithin}
+use Rattle.noise.specs.Claims.{polynomialAt, firstAndLast, Hides, Tight}
 use Rattle.noise.specs.DifferencesLaws.{sum-differs, sum-within}
 
 pub hides : (n : ℕ) (noise : List Bool) → crcBits 0 noise ≡ 0 → ones noise ≡ n → Hides n noise
@@ -87,11 +86,12 @@ its-ones zero k j t = (omega arith, by-test (ltb j 9) refl)
 its-ones (suc i) k zero t = absurd (false≢true t)
 its-ones (suc i) k (suc j) t = let h = its-ones i k j t in (omega arith, omega arith)
 
-pub within-nine : (i k : ℕ) (a : List Bool) → OnlyWithin 9 a (sum a (polynomialAt i k))
-within-nine i k a = sum-within 9 i a (polynomialAt i k) (its-ones i k)
+-- ## Both
 
--- ## Two bits
-
-pub two-hide : (length firstAndLast ≡ 128) × Hides 2 firstAndLast
+pub tight : Tight
 unfolding crcBits fold ones
-two-hide = (refl, hides 2 firstAndLast refl refl)
+tight = record {
+  polynomial-hides = polynomial-hides;
+  nine-neighbours = λ i k a. sum-within _ i a (polynomialAt i k) (λ j t. let p = its-ones i k j t in (p .0, omega arith));
+  two-hide = (refl, hides 2 firstAndLast refl refl);
+}

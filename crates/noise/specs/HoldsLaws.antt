@@ -56,7 +56,7 @@ pub holds-bits : (l : List Bool) (x : ℕ) → x < 256 → (x ≡ crcBits 0 l) �
 holds-bits l x h =
     let c = crc-lt 0 l (lit< tt) in (
       λ (e : x ≡ crcBits 0 l). crc-append 0 l (bitsOf 8 x) ∙ own-byte (crcBits 0 l) x c e,
-      λ (e : crcBits 0 (l ++ bitsOf 8 x) ≡ 0). byte-own (crcBits 0 l) x c h (sym (crc-append 0 l (bitsOf 8 x)) ∙ e),
+      λ (e : crcBits 0 (l ++ bitsOf 8 x) ≡ 0). byte-own (crcBits 0 l) x c (omega arith) (sym (crc-append 0 l (bitsOf 8 x)) ∙ e),
     )
 
 pub holds-bytes : (l : List ℕ) (x : ℕ) → x < 256 → (x ≡ crcOf l) ↔ (crcOf (l ++ (x ∷ [])) ≡ 0)
@@ -66,5 +66,5 @@ holds-bytes l x h =
     let s : crcOf (l ++ (x ∷ [])) ≡ crcBits (crcOf l) (bitsOf 8 x)
     = crc-bytes-append l (x ∷ []) ∙ ap (crcBits (crcOf l)) (append-nil (bitsOf 8 x)) in (
       λ (e : x ≡ crcOf l). s ∙ own-byte (crcOf l) x c e,
-      λ (e : crcOf (l ++ (x ∷ [])) ≡ 0). byte-own (crcOf l) x c h (sym s ∙ e),
+      λ (e : crcOf (l ++ (x ∷ [])) ≡ 0). byte-own (crcOf l) x c (omega arith) (sym s ∙ e),
     )

@@ -25,7 +25,7 @@ use Rattle.scratchpad.specs.Judgement.{crcRight, allZeros, kindRight, refusedPa
 use Rattle.scratchpad.specs.Stored.{readingIn}
 use Rattle.noise.specs.Claims.{Noticed, NineBytes, ScratchpadsNoticed, CodesNoticed}
 use Rattle.noise.specs.DifferencesLaws.{differ-somewhere}
-use Rattle.noise.specs.DistanceLaws.{far-apart, no-burst}
+use Rattle.noise.specs.DistanceLaws.{distance}
 use Rattle.noise.specs.HiddenLaws.{polynomial-hides}
 use Rattle.noise.specs.HoldsLaws.{holds-bits, holds-bytes}
 use Rattle.noise.specs.Noise.{Slight, few, burst}
@@ -33,8 +33,8 @@ use Rattle.noise.specs.Noise.{Slight, few, burst}
 -- ## Anything whose test is the register
 
 slight-noticed : (a b : List Bool) → length a ≡ length b → length a ≤ 127 → Slight a b → crcBits 0 a ≡ 0 → crcBits 0 b ≡ 0 → ⊥
-slight-noticed a b s h (few one three) e f = let k = far-apart a b s h e f (differ-somewhere a b one) in omega arith
-slight-noticed a b s h (burst one within) e f = no-burst a b s e f (differ-somewhere a b one) within
+slight-noticed a b s h (few one three) e f = let k = distance .four-places a b s h e f (differ-somewhere a b (omega arith)) in omega arith
+slight-noticed a b s h (burst one within) e f = distance .no-burst a b s e f (differ-somewhere a b (omega arith)) within
 
 -- a number that cannot be other than n is n
 is-number : (m n : ℕ) → ((m ≡ n → ⊥) → ⊥) → m ≡ n
@@ -59,8 +59,8 @@ module _ (X : Type 0) (Is : X → Type 0) (sent : X → List Bool) (refusal : X 
       apart = λ x y p q r t d.
           let other : sent x ≡ sent y → ⊥ = λ (e : sent x ≡ sent y). d (same x y p q e) in
           let l = long x p ∙ sym (long y q) in (
-            (let f = far-apart (sent x) (sent y) l (omega (arith, long x p)) (held x p .0 r) (held y q .0 t) other in omega arith),
-            no-burst (sent x) (sent y) l (held x p .0 r) (held y q .0 t) other,
+            (let f = distance .four-places (sent x) (sent y) l (omega (arith, long x p)) (held x p .0 r) (held y q .0 t) other in omega arith),
+            distance .no-burst (sent x) (sent y) l (held x p .0 r) (held y q .0 t) other,
           );
       hidden = λ x y i k p q l e r.
           held y q .1 (ap (crcBits 0) e ∙ polynomial-hides i k (sent x) l .0 ∙ held x p .0 r);
@@ -162,8 +162,8 @@ code-held c =
 
 pub codes-noticed : CodesNoticed
 codes-noticed =
-    notices ℕ (λ code. code < 2 ^ 64) codeBits codeRefusal 64
+    notices ℕ _ codeBits codeRefusal 64
     (λ c p. bits-length 64 c)
     (omega arith)
-    (λ c d p q e. sym (number-bits 64 c p) ∙ ap numberOf e ∙ number-bits 64 d q)
+    (λ c d p q e. sym (number-bits 64 c (omega arith)) ∙ ap numberOf e ∙ number-bits 64 d (omega arith))
     (λ c p. code-held c)
