@@ -31,34 +31,15 @@ fn judge(pad: NineBytes, count: Count) -> Count {
     }
 }
 
-// Every bit before a place turned.
-pub fn one(pad: NineBytes, before: u8, count: Count) -> Count {
-    let mut all = count;
-    let mut place: u8 = 0;
-    while place < before {
-        all = judge(turn(pad, place, 1), all);
-        place += 1;
+// Every way to turn so many bits before a place: one of them, and one fewer before that.
+pub fn turned(pad: NineBytes, before: u8, bits: u8, count: Count) -> Count {
+    if bits == 0 {
+        return judge(pad, count);
     }
-    all
-}
-
-// Every two bits before a place turned: one, and every one before it.
-pub fn two(pad: NineBytes, before: u8, count: Count) -> Count {
     let mut all = count;
     let mut place: u8 = 0;
     while place < before {
-        all = one(turn(pad, place, 1), place, all);
-        place += 1;
-    }
-    all
-}
-
-// Every three bits before a place turned: one, and every two before it.
-pub fn three(pad: NineBytes, before: u8, count: Count) -> Count {
-    let mut all = count;
-    let mut place: u8 = 0;
-    while place < before {
-        all = two(turn(pad, place, 1), place, all);
+        all = turned(turn(pad, place, 1), place, bits - 1, all);
         place += 1;
     }
     all

@@ -49,9 +49,18 @@ fn say_judged(label: &[u8], pad: NineBytes) {
 
 fn main() {
     say_judged(b"as sent", SOUND);
-    say_count(b"one bit turned", count::one(SOUND, 72, count::none()));
-    say_count(b"two bits turned", count::two(SOUND, 72, count::none()));
-    say_count(b"three bits turned", count::three(SOUND, 72, count::none()));
+    say_count(
+        b"one bit turned",
+        count::turned(SOUND, 72, 1, count::none()),
+    );
+    say_count(
+        b"two bits turned",
+        count::turned(SOUND, 72, 2, count::none()),
+    );
+    say_count(
+        b"three bits turned",
+        count::turned(SOUND, 72, 3, count::none()),
+    );
     say_count(b"bursts of up to eight bits", count::bursts(SOUND));
     say_count(b"the polynomial at each place", count::polynomials(SOUND));
     say_judged(
