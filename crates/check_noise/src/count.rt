@@ -16,7 +16,8 @@ pub fn none() -> Count {
     }
 }
 
-fn judge(pad: NineBytes, count: Count) -> Count {
+// One more, by the judgement of a scratchpad of B.
+fn tally(pad: NineBytes, count: Count) -> Count {
     let judged = scratchpad::judge(family::DS18B20, pad);
     if judged.refusal == refusals::WRONG_CRC {
         Count {
@@ -34,7 +35,7 @@ fn judge(pad: NineBytes, count: Count) -> Count {
 // Every way to turn so many bits before a place: one of them, and one fewer before that.
 pub fn turned(pad: NineBytes, before: u8, bits: u8, count: Count) -> Count {
     if bits == 0 {
-        return judge(pad, count);
+        return tally(pad, count);
     }
     let mut all = count;
     let mut place: u8 = 0;
@@ -63,7 +64,7 @@ fn bursts_from(pad: NineBytes, place: u8, count: Count) -> Count {
     let mut all = count;
     let mut others: u8 = 0;
     while others < many {
-        all = judge(turn(pad, place, 2 * (others as u16) + 1), all);
+        all = tally(turn(pad, place, 2 * (others as u16) + 1), all);
         others += 1;
     }
     all
@@ -85,7 +86,7 @@ pub fn polynomials(pad: NineBytes) -> Count {
     let mut all = none();
     let mut place: u8 = 0;
     while place < 64 {
-        all = judge(turn(pad, place, POLYNOMIAL), all);
+        all = tally(turn(pad, place, POLYNOMIAL), all);
         place += 1;
     }
     all

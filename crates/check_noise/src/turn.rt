@@ -5,7 +5,7 @@ use scratchpad::NineBytes;
 pub const POLYNOMIAL: u16 = 0x119;
 
 // Turns, from a place on, the bits that are 1 in `noise`, of up to nine bits; what would be past the
-// last place is left out.
+// last place is left out. Places from 72 on begin again at 0.
 pub fn turn(pad: NineBytes, place: u8, noise: u16) -> NineBytes {
     let byte = (place % 72 / 8) as usize;
     let both = (noise % 512) << (place % 8) as u16;

@@ -6,7 +6,7 @@ use borrow.Fn.PlainCycle.{Measures, is, falls, and}
 use Rattle.check_noise.proofs.count.turned.Reads as turned
 use Rattle.check_noise.proofs.count.turned.Kinds as turned-kinds
 use Rattle.check_noise.proofs.count.+turned.Lts-turned as turned-lts
-use Rattle.check_noise.proofs.count.judge.Reads as judge-reads
+use Rattle.check_noise.proofs.count.tally.Reads as tally-reads
 use Rattle.check_noise.proofs.turn.turn.Reads as turn-reads
 use Rattle.check_noise.proofs.count.+turned.{statement}
 use Rattle.check_noise.proofs.count.+turned.Tie.{close}
@@ -26,19 +26,19 @@ turned-Inv-loop pad before bits all₀ place₀ all place = place ≤ before
 abbrev turned-μ-loop : turned-lts.MeasureT-loop
 turned-μ-loop pad before bits all₀ place₀ all place = before - place
 
-turned-judge-requires : (t : ℕ) → turned-lts.Need-judge-requires (
-  judge-reads.Asked,
-  judge-reads.Learnt,
+turned-tally-requires : (t : ℕ) → turned-lts.Need-tally-requires (
+  tally-reads.Asked,
+  tally-reads.Learnt,
   turn-reads.Asked,
   turn-reads.Learnt,
   turned-below t,
   turned.Post,
 ) (turned-at t) turned.Post turned-Inv-loop turned-μ-loop
-turned-judge-requires t c κs = search needs
+turned-tally-requires t c κs = search needs
 
 turned-returns : (t : ℕ) → turned-lts.Need-returns (
-  judge-reads.Asked,
-  judge-reads.Learnt,
+  tally-reads.Asked,
+  tally-reads.Learnt,
   turn-reads.Asked,
   turn-reads.Learnt,
   turned-below t,
@@ -47,8 +47,8 @@ turned-returns : (t : ℕ) → turned-lts.Need-returns (
 turned-returns t c = search needs
 
 turned-loop-holds : (t : ℕ) → turned-lts.Need-loop-holds (
-  judge-reads.Asked,
-  judge-reads.Learnt,
+  tally-reads.Asked,
+  tally-reads.Learnt,
   turn-reads.Asked,
   turn-reads.Learnt,
   turned-below t,
@@ -57,8 +57,8 @@ turned-loop-holds : (t : ℕ) → turned-lts.Need-loop-holds (
 turned-loop-holds t c = search needs
 
 turned-turn-requires : (t : ℕ) → turned-lts.Need-turn-requires (
-  judge-reads.Asked,
-  judge-reads.Learnt,
+  tally-reads.Asked,
+  tally-reads.Learnt,
   turn-reads.Asked,
   turn-reads.Learnt,
   turned-below t,
@@ -67,8 +67,8 @@ turned-turn-requires : (t : ℕ) → turned-lts.Need-turn-requires (
 turned-turn-requires t c κs = search needs
 
 turned-sub-turned : (t : ℕ) → turned-lts.Need-sub-turned (
-  judge-reads.Asked,
-  judge-reads.Learnt,
+  tally-reads.Asked,
+  tally-reads.Learnt,
   turn-reads.Asked,
   turn-reads.Learnt,
   turned-below t,
@@ -77,8 +77,8 @@ turned-sub-turned : (t : ℕ) → turned-lts.Need-sub-turned (
 turned-sub-turned t c = search needs
 
 turned-turned-requires : (t : ℕ) → turned-lts.Need-turned-requires (
-  judge-reads.Asked,
-  judge-reads.Learnt,
+  tally-reads.Asked,
+  tally-reads.Learnt,
   turn-reads.Asked,
   turn-reads.Learnt,
   turned-below t,
@@ -87,8 +87,8 @@ turned-turned-requires : (t : ℕ) → turned-lts.Need-turned-requires (
 turned-turned-requires t c κs = search needs
 
 turned-add-place : (t : ℕ) → turned-lts.Need-add-place (
-  judge-reads.Asked,
-  judge-reads.Learnt,
+  tally-reads.Asked,
+  tally-reads.Learnt,
   turn-reads.Asked,
   turn-reads.Learnt,
   turned-below t,
@@ -97,8 +97,8 @@ turned-add-place : (t : ℕ) → turned-lts.Need-add-place (
 turned-add-place t c = search needs
 
 turned-loop-less : (t : ℕ) → turned-lts.Need-loop-less (
-  judge-reads.Asked,
-  judge-reads.Learnt,
+  tally-reads.Asked,
+  tally-reads.Learnt,
   turn-reads.Asked,
   turn-reads.Learnt,
   turned-below t,
@@ -107,8 +107,8 @@ turned-loop-less : (t : ℕ) → turned-lts.Need-loop-less (
 turned-loop-less t c = search needs
 
 turned-loop-again : (t : ℕ) → turned-lts.Need-loop-again (
-  judge-reads.Asked,
-  judge-reads.Learnt,
+  tally-reads.Asked,
+  tally-reads.Learnt,
   turn-reads.Asked,
   turn-reads.Learnt,
   turned-below t,
@@ -117,8 +117,8 @@ turned-loop-again : (t : ℕ) → turned-lts.Need-loop-again (
 turned-loop-again t c = search needs
 
 turned-returns-2 : (t : ℕ) → turned-lts.Need-returns-2 (
-  judge-reads.Asked,
-  judge-reads.Learnt,
+  tally-reads.Asked,
+  tally-reads.Learnt,
   turn-reads.Asked,
   turn-reads.Learnt,
   turned-below t,
@@ -128,8 +128,8 @@ turned-returns-2 t c = search needs
 
 pub +turned-spec : {M : Type 1} → statement M
 +turned-spec = close μ-turned λ t. turned-lts.spec (
-  judge-reads.Asked,
-  judge-reads.Learnt,
+  tally-reads.Asked,
+  tally-reads.Learnt,
   turn-reads.Asked,
   turn-reads.Learnt,
   turned-below t,
@@ -139,7 +139,7 @@ pub +turned-spec : {M : Type 1} → statement M
     turned.Post
     turned-Inv-loop
     turned-μ-loop
-    (turned-judge-requires t)
+    (turned-tally-requires t)
     (turned-returns t)
     (turned-loop-holds t)
     (turned-turn-requires t)

@@ -28,8 +28,8 @@ add-turn c = search needs
 turn-requires : tie.Need-turn-requires Inv-loop μ-loop
 turn-requires c κs = search needs
 
-judge-requires : tie.Need-judge-requires Inv-loop μ-loop
-judge-requires c κs = search needs
+tally-requires : tie.Need-tally-requires Inv-loop μ-loop
+tally-requires c κs = search needs
 
 add-others : tie.Need-add-others Inv-loop μ-loop
 add-others c = search needs
@@ -55,7 +55,7 @@ bursts-from-spec =
     mul-turn
     add-turn
     turn-requires
-    judge-requires
+    tally-requires
     add-others
     loop-less
     loop-again

@@ -19,8 +19,8 @@ loop-holds c = search needs
 turn-requires : tie.Need-turn-requires Inv-loop μ-loop
 turn-requires c κs = search needs
 
-judge-requires : tie.Need-judge-requires Inv-loop μ-loop
-judge-requires c κs = search needs
+tally-requires : tie.Need-tally-requires Inv-loop μ-loop
+tally-requires c κs = search needs
 
 add-place : tie.Need-add-place Inv-loop μ-loop
 add-place c = search needs
@@ -43,7 +43,7 @@ polynomials-spec =
     none-requires
     loop-holds
     turn-requires
-    judge-requires
+    tally-requires
     add-place
     loop-less
     loop-again
