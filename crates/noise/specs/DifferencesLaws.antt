@@ -1,6 +1,6 @@
 -- Differences are the ones of the sum, so that noise may be spoken of as one string: what is added.
---     differences-ones       two strings of equal length differ in as many places as their sum has ones
 --     differ-somewhere       strings that differ in a place are not the same
+--     differences-ones       two strings of equal length differ in as many places as their sum has ones
 --     sum-differs            a string and its sum with noise differ in as many places as the noise has ones
 --     ones-within            all ones of the sum are where two strings differ
 --     sum-within             a string and its sum with noise differ only where the noise has ones
@@ -19,6 +19,15 @@ use Rattle.noise.specs.Noise.{differences, OnlyWithin}
 
 -- ## How many
 
+differences-self : (a : List Bool) → differences a a ≡ 0
+unfolding differences
+differences-self [] = refl
+differences-self (true ∷ a) = let e = differences-self a in omega arith
+differences-self (false ∷ a) = let e = differences-self a in omega arith
+
+pub differ-somewhere : (a b : List Bool) → 1 ≤ differences a b → a ≡ b → ⊥
+differ-somewhere a b h e = let z : differences a b ≡ 0 = ap (differences a) (sym e) ∙ differences-self a in omega arith
+
 pub differences-ones : (a b : List Bool) → length a ≡ length b → differences a b ≡ ones (sum a b)
 unfolding sum differences ones
 differences-ones [] [] h = refl
@@ -32,15 +41,6 @@ differences-ones (a ∷ l) (b ∷ m) h =
         → (if t then 0 else 1) + differences l m ≡ bitNumber (not t) + ones (sum l m)
     by-test true e = rw e
     by-test false e = rw e
-
-differences-self : (a : List Bool) → differences a a ≡ 0
-unfolding differences
-differences-self [] = refl
-differences-self (true ∷ a) = let e = differences-self a in omega arith
-differences-self (false ∷ a) = let e = differences-self a in omega arith
-
-pub differ-somewhere : (a b : List Bool) → 1 ≤ differences a b → a ≡ b → ⊥
-differ-somewhere a b h e = let z : differences a b ≡ 0 = ap (differences a) (sym e) ∙ differences-self a in omega arith
 
 pub sum-differs : (a n : List Bool) → length a ≡ length n → differences a (sum a n) ≡ ones n
 unfolding sum differences ones
