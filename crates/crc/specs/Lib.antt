@@ -1,3 +1,4 @@
 pub mod Crc
 pub mod Laws
 pub mod SumLaws
+pub mod TableLaws

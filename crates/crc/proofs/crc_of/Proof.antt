@@ -25,11 +25,8 @@ loop-holds c = (omega arith, refl)
 shared-slice-read-b : tie.Need-shared-slice-read-b Inv-loop μ-loop
 shared-slice-read-b c = search needs
 
-cast-crc-bits : tie.Need-cast-crc-bits Inv-loop μ-loop
-cast-crc-bits c = omega (arith, c .shared-slice-known2 .given (c .before .before .loop .i))
-
-crc-bits-requires : tie.Need-crc-bits-requires Inv-loop μ-loop
-crc-bits-requires c κs = search needs
+crc-byte-requires : tie.Need-crc-byte-requires Inv-loop μ-loop
+crc-byte-requires c κs = search needs
 
 add-i : tie.Need-add-i Inv-loop μ-loop
 add-i c = search needs
@@ -40,7 +37,7 @@ loop-less c = search needs
 loop-again : tie.Need-loop-again Inv-loop μ-loop
 loop-again c =
     let at-loop = c .before .before .before in
-    (omega arith, c .crc-bits .ensures ∙ rw (at-loop .loop .inv .1) (crc-byte-more _ _ (c .before .before .loop-test .taken)))
+    (omega arith, c .crc-byte .ensures ∙ rw (at-loop .loop .inv .1) (crc-byte-more _ _ (c .before .before .loop-test .taken)))
 
 returns : tie.Need-returns Inv-loop μ-loop
 returns c =
@@ -55,8 +52,7 @@ crc-of-spec =
     μ-loop
     loop-holds
     shared-slice-read-b
-    cast-crc-bits
-    crc-bits-requires
+    crc-byte-requires
     add-i
     loop-less
     loop-again

@@ -1,0 +1,32 @@
+-- A byte by a table: register and byte count only by their exclusive or, from which eight zero bits follow. So a table needs one entry for each value that the exclusive or can have.
+-- `registers 0 256` is that table by its rule. Where the code's table is compared with it, both are computed, entry by entry.
+--     registers i n      the registers after eight zero bits, from register i on, n of them
+--     entry-of           each entry of the whole table
+--     crc-by-table       the register after a byte is one entry
+-- Assumes nothing.
+use Prim.Native.Nat.{ℕ, zero, suc, _+_, _<_}
+use mathlib.Core.Path.{_≡_, sym, ap, _∙_}
+use mathlib.Core.List.{List, [], _∷_}
+use native.Mathlib.Nat.{add-zero, zero-add, add-suc, suc-add, le-of-suc-le-suc, not-suc-le-zero}
+use lib.Bits.{bitXor, xor-lt}
+use lib.ListN.{getD}
+use Rattle.bits.specs.Bits.{bitsOf}
+use Rattle.crc.specs.Crc.{crcBits}
+use Rattle.crc.specs.Laws.{crc-merge}
+
+unfoldable pub registers : ℕ → ℕ → List ℕ
+registers i zero = []
+registers i (suc n) = crcBits i (bitsOf 8 0) ∷ registers (suc i) n
+
+entry-from : (n i k : ℕ) → k < n → getD (registers i n) k 0 ≡ crcBits (i + k) (bitsOf 8 0)
+unfolding registers
+entry-from zero i k h = absurd (not-suc-le-zero h)
+entry-from (suc n) i zero h = ap (λ (r : ℕ). crcBits r (bitsOf 8 0)) (sym (add-zero i))
+entry-from (suc n) i (suc k) h =
+    entry-from n (suc i) k (le-of-suc-le-suc h) ∙ ap (λ (r : ℕ). crcBits r (bitsOf 8 0)) (suc-add i k ∙ sym (add-suc i k))
+
+pub entry-of : (k : ℕ) → k < 256 → getD (registers 0 256) k 0 ≡ crcBits k (bitsOf 8 0)
+entry-of k h = entry-from 256 0 k h ∙ ap (λ (r : ℕ). crcBits r (bitsOf 8 0)) (zero-add k)
+
+pub crc-by-table : (r b : ℕ) → r < 256 → b < 256 → getD (registers 0 256) (bitXor r b) 0 ≡ crcBits r (bitsOf 8 b)
+crc-by-table r b h k = entry-of (bitXor r b) (xor-lt 8 r b h k) ∙ sym (crc-merge 8 r b k)
