@@ -4,7 +4,7 @@
 --     crc-bit-lt, crc-lt, crc-bytes-lt    the register stays a byte
 --     crc-own, crc-message                feeding the register its own value brings it to zero: a message followed by its CRC
 -- Assumes nothing.
-use Prim.Native.Nat.{ℕ, zero, suc, _+_, _-_, _/_, _^_, _<_, _≤_}
+use Prim.Native.Nat.{ℕ, zero, suc, _+_, _*_, _-_, _/_, _%_, _^_, _<_, _≤_}
 use mathlib.Core.Path.{_≡_, refl, sym, ap, _∙_}
 use mathlib.Core.Bool.{Bool, true, false, Bool·beq}
 use mathlib.Core.List.{List, [], _∷_, _++_, append-nil}
@@ -19,7 +19,7 @@ use Rattle.lists.specs.Choice.{if_then_else_}
 use Rattle.lists.specs.Fold.{fold}
 use Rattle.lists.specs.FoldLaws.{fold-append}
 use Rattle.bits.specs.Bits.{odd, bitsOf, bytesBits}
-use Rattle.bits.specs.BitsLaws.{bytes-append}
+use Rattle.bits.specs.BitsLaws.{bits-append, bits-block, bytes-append}
 use Rattle.bits.specs.Sums.{plus}
 use Rattle.bits.specs.XorLaws.{xor-half, odd-xor, xor-swap}
 use Rattle.crc.specs.Crc.{taps, crcBit, crcBits, crcOf}
@@ -55,6 +55,17 @@ crc-turn r x n i h = let e : n - i ≡ suc (n - (i + 1)) = omega arith in rw e (
 pub crc-done : (r x n i : ℕ) → n ≤ i → crcBits r (bitsOf (n - i) x) ≡ r
 unfolding bitsOf
 crc-done r x n i h = let e : n - i ≡ 0 = omega arith in rw e (crc-none r)
+
+-- the same by whole bytes
+pub crc-byte-turn : (r x n : ℕ) → 8 ≤ n → crcBits (crcBits r (bitsOf 8 (x % 256))) (bitsOf (n - 8) (x / 256)) ≡ crcBits r (bitsOf n x)
+crc-byte-turn r x n h =
+    let parts : x / 256 * 256 + x % 256 ≡ x = omega arith in
+    let all : 8 + (n - 8) ≡ n = omega arith in
+    sym (crc-append r (bitsOf 8 (x % 256)) (bitsOf (n - 8) (x / 256)))
+    ∙ ap (λ (low : List Bool). crcBits r (low ++ bitsOf (n - 8) (x / 256)))
+    (sym (bits-block 8 (x / 256) (x % 256)) ∙ ap (bitsOf 8) parts)
+    ∙ ap (crcBits r) (sym (bits-append 8 (n - 8) x))
+    ∙ ap (λ (m : ℕ). crcBits r (bitsOf m x)) all
 
 -- ## The register stays a byte
 

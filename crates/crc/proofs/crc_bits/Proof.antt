@@ -1,29 +1,28 @@
 -- The loop's invariant says what is still to come: the register as it stands, fed with the bits that are left, gives the answer.
 -- Assumes nothing.
-use Prim.Native.Nat.{_≤_, _-_}
-use mathlib.Core.Path.{_≡_, _∙_, sym}
+use mathlib.Core.Path.{_≡_, _∙_, refl}
 use native.Mathlib.Omega.{arith}
 use borrow.Author.Needs.{needs}
 use Rattle.bits.specs.Bits.{bitsOf}
 use Rattle.crc.specs.Crc.{crcBits}
-use Rattle.crc.specs.Laws.{crc-turn, crc-done}
+use Rattle.crc.specs.Laws.{crc-byte-turn}
 use Rattle.crc.proofs.crc_bits.Statement.{statement}
 use Rattle.crc.proofs.crc_bits.Tie as tie
 
 abbrev Inv-loop : tie.InvT-loop
-Inv-loop register number count r₀ left₀ i₀ r left i = (i ≤ count) × (crcBits r (bitsOf (count - i) left) ≡ crcBits register (bitsOf count number))
+Inv-loop register number count r₀ left₀ rest₀ r left rest = crcBits r (bitsOf rest left) ≡ crcBits register (bitsOf count number)
 
 abbrev μ-loop : tie.MeasureT-loop
-μ-loop register number count r₀ left₀ i₀ r left i = count - i
+μ-loop register number count r₀ left₀ rest₀ r left rest = rest
 
 loop-holds : tie.Need-loop-holds Inv-loop μ-loop
-loop-holds c = let none : c .args .count - 0 ≡ c .args .count = omega arith in (omega arith, rw none)
+loop-holds c = refl
 
-crc-bit-requires : tie.Need-crc-bit-requires Inv-loop μ-loop
-crc-bit-requires c κs = search needs
+cast-crc-byte : tie.Need-cast-crc-byte Inv-loop μ-loop
+cast-crc-byte c = search needs
 
-add-i : tie.Need-add-i Inv-loop μ-loop
-add-i c = search needs
+crc-byte-requires : tie.Need-crc-byte-requires Inv-loop μ-loop
+crc-byte-requires c κs = search needs
 
 loop-less : tie.Need-loop-less Inv-loop μ-loop
 loop-less c = search needs
@@ -31,15 +30,24 @@ loop-less c = search needs
 loop-again : tie.Need-loop-again Inv-loop μ-loop
 loop-again c =
     let at-loop = c .before .before in
-    let count = at-loop .before .args .count in
-    (omega arith, rw (c .crc-bit .ensures, ← crc-turn _ _ count (at-loop .loop .i) (c .before .loop-test .taken)) (at-loop .loop .inv .1))
+    rw (c .crc-byte .ensures, crc-byte-turn _ (at-loop .loop .left) (at-loop .loop .rest) (c .before .loop-test .taken)) (at-loop .loop .inv)
+
+crc-bit-by-bit-requires : tie.Need-crc-bit-by-bit-requires Inv-loop μ-loop
+crc-bit-by-bit-requires c κs = search needs
 
 returns : tie.Need-returns Inv-loop μ-loop
-returns c =
-    let count = c .before .before .args .count in
-    sym (crc-done _ _ count (c .before .loop .i) (c .loop-test .left)) ∙ c .before .loop .inv .1
+returns c = c .crc-bit-by-bit .ensures ∙ c .before .before .loop .inv
 
 pub crc-bits-spec : {M : Type 1} → statement M
 crc-bits-spec =
     tie.close
-    (tie.spec Inv-loop μ-loop loop-holds crc-bit-requires add-i loop-less loop-again returns)
+    (tie.spec
+    Inv-loop
+    μ-loop
+    loop-holds
+    cast-crc-byte
+    crc-byte-requires
+    loop-less
+    loop-again
+    crc-bit-by-bit-requires
+    returns)
