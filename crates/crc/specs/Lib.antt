@@ -1,4 +1,5 @@
 pub mod Crc
 pub mod Laws
 pub mod SumLaws
+pub mod Table
 pub mod TableLaws

@@ -1,22 +1,16 @@
--- A byte by a table: register and byte count only by their exclusive or, from which eight zero bits follow. So a table needs one entry for each value that the exclusive or can have.
--- `registers 0 256` is that table by its rule. Where the code's table is compared with it, both are computed, entry by entry.
---     registers i n      the registers after eight zero bits, from register i on, n of them
---     entry-of           each entry of the whole table
+-- A byte by the table: register and byte count only by their exclusive or, from which eight zero bits follow. So a table needs one entry for each value that the exclusive or can have.
+--     entry-of           each entry of the table
 --     crc-by-table       the register after a byte is one entry
 -- Assumes nothing.
 use Prim.Native.Nat.{ℕ, zero, suc, _+_, _<_}
 use mathlib.Core.Path.{_≡_, sym, ap, _∙_}
-use mathlib.Core.List.{List, [], _∷_}
 use native.Mathlib.Nat.{add-zero, zero-add, add-suc, suc-add, le-of-suc-le-suc, not-suc-le-zero}
 use lib.Bits.{bitXor, xor-lt}
 use lib.ListN.{getD}
 use Rattle.bits.specs.Bits.{bitsOf}
 use Rattle.crc.specs.Crc.{crcBits}
 use Rattle.crc.specs.Laws.{crc-merge}
-
-unfoldable pub registers : ℕ → ℕ → List ℕ
-registers i zero = []
-registers i (suc n) = crcBits i (bitsOf 8 0) ∷ registers (suc i) n
+use Rattle.crc.specs.Table.{registers}
 
 entry-from : (n i k : ℕ) → k < n → getD (registers i n) k 0 ≡ crcBits (i + k) (bitsOf 8 0)
 unfolding registers

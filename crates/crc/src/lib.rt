@@ -4,6 +4,7 @@ mod table;
 ghost use mathlib.Core.Path.{_≡_};
 ghost use Rattle.bits.specs.Bits.{bitsOf};
 ghost use Rattle.crc.specs.Crc.{crcBit, crcBits, crcOf};
+ghost use Rattle.crc.specs.Table.{registers};
 
 // The polynomial X^8 + X^5 + X^4 + 1, in a register that moves toward its lowest bit.
 const TAPS: u8 = 0x8C;
@@ -21,11 +22,19 @@ pub fn crc_bit(register: u8, bit: bool) -> u8
     }
 }
 
+// The table, lent to each turn of a loop: a constant that is read in a loop is laid out anew for each turn.
+fn registers() -> [u8; 256]
+    ensures answer { λ t. ⌜ t ≡ registers 0 256 ⌝ }
+{
+    table::TABLE
+}
+
 // The register after the eight bits of a byte, least significant first.
-pub fn crc_byte(register: u8, byte: u8) -> u8
+fn crc_byte(table: &[u8; 256], register: u8, byte: u8) -> u8
+    requires { ⌜ now table ≡ registers 0 256 ⌝ }
     ensures answer { λ r. ⌜ r ≡ crcBits register (bitsOf 8 byte) ⌝ }
 {
-    table::TABLE[(register ^ byte) as usize]
+    table[(register ^ byte) as usize]
 }
 
 // The register after the lowest bits of a number, as many as `count` says; past its highest bit a
@@ -33,11 +42,12 @@ pub fn crc_byte(register: u8, byte: u8) -> u8
 pub fn crc_bits(register: u8, number: u64, count: u8) -> u8
     ensures answer { λ r. ⌜ r ≡ crcBits register (bitsOf count number) ⌝ }
 {
+    let table = registers();
     let mut r = register;
     let mut left = number;
     let mut rest = count;
     while 8 <= rest {
-        r = crc_byte(r, (left % 256) as u8);
+        r = crc_byte(&table, r, (left % 256) as u8);
         left = left / 256;
         rest -= 8;
     }
@@ -62,11 +72,12 @@ fn crc_bit_by_bit(register: u8, number: u64, count: u8) -> u8
 pub fn crc_of(bytes: &[u8]) -> u8
     ensures answer { λ r. ⌜ r ≡ crcOf (now (bytes .entry)) ⌝ }
 {
+    let table = registers();
     let mut r: u8 = 0;
     let mut i: usize = 0;
     while i < bytes.len() {
         let b = bytes[i];
-        r = crc_byte(r, b);
+        r = crc_byte(&table, r, b);
         i += 1;
     }
     r

@@ -13,10 +13,13 @@ use Rattle.crc.proofs.crc_of.Statement.{statement}
 use Rattle.crc.proofs.crc_of.Tie as tie
 
 abbrev Inv-loop : tie.InvT-loop
-Inv-loop bytes r₀ i₀ r i = (i ≤ length bytes) × (r ≡ crcOf (take i bytes))
+Inv-loop bytes table r₀ i₀ r i = (i ≤ length bytes) × (r ≡ crcOf (take i bytes))
 
 abbrev μ-loop : tie.MeasureT-loop
-μ-loop bytes r₀ i₀ r i = length bytes - i
+μ-loop bytes table r₀ i₀ r i = length bytes - i
+
+registers-requires : tie.Need-registers-requires Inv-loop μ-loop
+registers-requires c κs = search needs
 
 loop-holds : tie.Need-loop-holds Inv-loop μ-loop
 unfolding crcOf crcBits bytesBits fold
@@ -26,7 +29,7 @@ shared-slice-read-b : tie.Need-shared-slice-read-b Inv-loop μ-loop
 shared-slice-read-b c = search needs
 
 crc-byte-requires : tie.Need-crc-byte-requires Inv-loop μ-loop
-crc-byte-requires c κs = search needs
+crc-byte-requires c κs = c .before .before .before .before .registers .ensures
 
 add-i : tie.Need-add-i Inv-loop μ-loop
 add-i c = search needs
@@ -36,12 +39,12 @@ loop-less c = search needs
 
 loop-again : tie.Need-loop-again Inv-loop μ-loop
 loop-again c =
-    let at-loop = c .before .before .before in
-    (omega arith, c .crc-byte .ensures ∙ rw (at-loop .loop .inv .1) (crc-byte-more _ _ (c .before .before .loop-test .taken)))
+    let at-loop = c .before .before .before .before in
+    (omega arith, c .crc-byte .ensures ∙ rw (at-loop .loop .inv .1) (crc-byte-more _ _ (c .before .before .before .loop-test .taken)))
 
 returns : tie.Need-returns Inv-loop μ-loop
 returns c =
-    let all : c .before .loop .i ≡ length (c .before .before .before .args .bytes .now) = omega arith in
+    let all : c .before .loop .i ≡ length (c .before .before .before .before .args .bytes .now) = omega arith in
     c .before .loop .inv .1 ∙ rw (all, take-length)
 
 pub crc-of-spec : {M : Type 1} → statement M
@@ -50,6 +53,7 @@ crc-of-spec =
     (tie.spec
     Inv-loop
     μ-loop
+    registers-requires
     loop-holds
     shared-slice-read-b
     crc-byte-requires
