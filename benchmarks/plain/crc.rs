@@ -1,32 +1,46 @@
 // The work of `measure_crc`, by a table of 256 entries.
+use std::io::Read;
+
+mod table;
+use table::crc_of;
+
 const TIMES: u32 = 5000;
+const ROUNDS: u32 = 20000;
+const PAD: usize = 9;
 
-fn table() -> [u8; 256] {
-    let mut table = [0u8; 256];
-    for (i, entry) in table.iter_mut().enumerate() {
-        let mut r = i as u8;
-        for _ in 0..8 {
-            r = if r & 1 == 1 { (r >> 1) ^ 0x8C } else { r >> 1 };
-        }
-        *entry = r;
-    }
-    table
+fn filled<const N: usize>() -> [u8; N] {
+    std::array::from_fn(|i| (i % 4096 * 157 / 3 % 256) as u8)
 }
 
-fn crc_of(table: &[u8; 256], bytes: &[u8]) -> u8 {
-    bytes.iter().fold(0, |r, b| table[(r ^ b) as usize])
-}
-
-fn main() {
-    let table = table();
-    let mut bytes = [0u8; 4096];
-    for (i, b) in bytes.iter_mut().enumerate() {
-        *b = (i * 157 / 3 % 256) as u8;
-    }
+fn long_ones() {
+    let mut bytes = filled::<4096>();
     let mut last = 0;
     for _ in 0..TIMES {
-        last = crc_of(&table, &bytes);
+        last = crc_of(&bytes);
         bytes[0] = last;
     }
     println!("{last:02x}");
+}
+
+fn scratchpads() {
+    let mut bytes = filled::<4500>();
+    let mut last = 0;
+    for _ in 0..ROUNDS {
+        for pad in bytes.chunks_exact_mut(PAD) {
+            last = crc_of(pad);
+            pad[0] = last;
+        }
+    }
+    println!("{last:02x}");
+}
+
+fn main() {
+    let mut asked = String::new();
+    std::io::stdin().read_to_string(&mut asked).unwrap();
+    if asked.is_empty() || asked == "l" {
+        long_ones();
+    }
+    if asked != "l" {
+        scratchpads();
+    }
 }

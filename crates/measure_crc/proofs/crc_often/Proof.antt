@@ -18,8 +18,8 @@ loop-holds c = search needs
 crc-of-requires : tie.Need-crc-of-requires Inv-loop μ-loop
 crc-of-requires c κs = search needs
 
-put-first-requires : tie.Need-put-first-requires Inv-loop μ-loop
-put-first-requires c κs = search needs
+put-requires : tie.Need-put-requires Inv-loop μ-loop
+put-requires c κs = search needs
 
 add-i : tie.Need-add-i Inv-loop μ-loop
 add-i c = search needs
@@ -44,7 +44,7 @@ crc-often-spec =
     μ-loop
     loop-holds
     crc-of-requires
-    put-first-requires
+    put-requires
     add-i
     loop-less
     loop-again
