@@ -22,7 +22,8 @@ pub fn crc_bit(register: u8, bit: bool) -> u8
     }
 }
 
-// The table, lent to each turn of a loop: a constant that is read in a loop is laid out anew for each turn.
+// The table as a value, laid out once for a call and lent to its loop: a constant that a loop reads
+// is laid out anew at each turn.
 fn registers() -> [u8; 256]
     ensures answer { λ t. ⌜ t ≡ registers 0 256 ⌝ }
 {
@@ -54,6 +55,7 @@ pub fn crc_bits(register: u8, number: u64, count: u8) -> u8
     crc_bit_by_bit(r, left, rest)
 }
 
+// The same, one bit after another.
 fn crc_bit_by_bit(register: u8, number: u64, count: u8) -> u8
     ensures answer { λ r. ⌜ r ≡ crcBits register (bitsOf count number) ⌝ }
 {

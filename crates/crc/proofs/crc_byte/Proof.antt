@@ -1,6 +1,7 @@
 -- One entry of a table that has its rule. Assumes nothing.
 use Prim.Native.Nat.{_<_}
 use native.Mathlib.Omega.{arith}
+use borrow.Author.Needs.{needs}
 use lib.Bits.{bitXor, xor-lt}
 use Rattle.crc.specs.TableLaws.{crc-by-table}
 use Rattle.crc.proofs.crc_byte.Statement.{statement}
@@ -13,7 +14,7 @@ cast-result : tie.Need-cast-result
 cast-result c = omega (arith, within c)
 
 element-copy-out-result : tie.Need-element-copy-out-result
-element-copy-out-result c = within c
+element-copy-out-result c = search (needs, within c)
 
 returns : tie.Need-returns
 returns c =
