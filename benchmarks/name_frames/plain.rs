@@ -2,6 +2,10 @@
 // lines. Written as one would without proofs, with the standard library's buffered reader and writer.
 use std::io::{self, BufRead, BufReader, BufWriter, Write};
 
+#[path = "../plain/table.rs"]
+mod table;
+use table::crc_of;
+
 const LONGEST: usize = 134;
 
 struct Frame {
@@ -17,20 +21,6 @@ enum Named {
     Nobody,
     Pad(u64, u16),
     Other,
-}
-
-fn crc(bytes: &[u8]) -> u8 {
-    let mut register = 0u8;
-    for &byte in bytes {
-        for i in 0..8 {
-            let differs = (register ^ (byte >> i)) & 1;
-            register >>= 1;
-            if differs == 1 {
-                register ^= 0x8C;
-            }
-        }
-    }
-    register
 }
 
 fn value(c: u8) -> Option<u8> {
@@ -89,7 +79,7 @@ fn pass_code(f: &Frame) -> Result<u64, u8> {
         }
     }
     let bytes = code.to_le_bytes();
-    if crc(&bytes[..7]) != bytes[7] {
+    if crc_of(&bytes[..7]) != bytes[7] {
         return Err(5);
     }
     if !known(bytes[0]) {
@@ -101,7 +91,7 @@ fn pass_code(f: &Frame) -> Result<u64, u8> {
 fn pad_reading(f: &Frame) -> Result<(u64, u16), u8> {
     let code_bytes = &f.bytes[1..9];
     let pad = &f.bytes[10..19];
-    if crc(&code_bytes[..7]) != code_bytes[7] || crc(&pad[..8]) != pad[8] {
+    if crc_of(&code_bytes[..7]) != code_bytes[7] || crc_of(&pad[..8]) != pad[8] {
         return Err(5);
     }
     if pad.iter().all(|&b| b == 0) {

@@ -2,31 +2,12 @@
 // It has what resets and slots need; nothing ends a conversion or a copy.
 use std::io::Read;
 
+mod table;
+use table::crc_of;
+
 const SEARCHES: u32 = 100;
 const SLOTS: u32 = 500_000;
 const ROUND: u32 = 152;
-
-const fn crc_table() -> [u8; 256] {
-    let mut table = [0u8; 256];
-    let mut i = 0;
-    while i < 256 {
-        let mut r = i as u8;
-        let mut bit = 0;
-        while bit < 8 {
-            r = if r & 1 == 1 { (r >> 1) ^ 0x8C } else { r >> 1 };
-            bit += 1;
-        }
-        table[i] = r;
-        i += 1;
-    }
-    table
-}
-
-static CRC_TABLE: [u8; 256] = crc_table();
-
-fn crc_of(bytes: &[u8]) -> u8 {
-    bytes.iter().fold(0, |r, b| CRC_TABLE[(r ^ b) as usize])
-}
 
 #[derive(Clone, Copy, PartialEq)]
 enum Power {
