@@ -233,7 +233,7 @@ module _ (b : Bench) (code i : ℕ) (e : placeOf b code ≡ At i) where
   at-count : i < b .count
   at-count = let h = place-live b code i e in let k = length-take (b .count) (b .devices) in omega arith
 
-  device-live : getD (live b) i vacant ≡ deviceAt b i
+  pub device-live : getD (live b) i vacant ≡ deviceAt b i
   device-live = getD-take (b .count) (b .devices) i vacant at-count
 
   one-changed : (f : Device → Device) → OneChanged b code f (withDevice b i (f (deviceAt b i)))

@@ -1,8 +1,10 @@
 -- What holds of each element of a list: kept by a weaker claim, by a permutation, which also keeps the length, by one more at the end, by a function that keeps it,
--- and by one element replaced; and distinct elements stay so with a new one at the end.
+-- and by one element replaced; distinct elements stay so with a new one at the end; and two tests that agree pick the same.
 -- Assumes nothing.
 use mathlib.Core.List.{List, [], _∷_, _++_, map, List·Permᴰ, List·Permᴰ·nil, List·Permᴰ·cons, List·Permᴰ·swap, List·Permᴰ·trans}
-use Rattle.lists.specs.Each.{Each, Distinct}
+use Rattle.lists.specs.Choice.{if_then_else_}
+use Rattle.lists.specs.Each.{Each, Distinct, those}
+use mathlib.Core.Bool.{Bool}
 use mathlib.Core.Path.{_≡_, refl, ap, _∙_}
 use mathlib.Core.Logic.{_≢_}
 use native.Mathlib.Omega.{arith}
@@ -50,3 +52,10 @@ pub each-at : {A : Type 0} (P : A → Type 0) (l : List A) (i : ℕ) (z : A) →
 each-at P [] i z h e = absurd (omega arith)
 each-at P (x ∷ l) zero z h e = e .0
 each-at P (x ∷ l) (suc i) z h e = each-at P l i z (omega arith) (e .1)
+
+-- Two tests that agree on each element pick the same.
+pub those-same : {A : Type 0} (p q : A → Bool) (l : List A) → Each (λ x. p x ≡ q x) l → those p l ≡ those q l
+unfolding those
+those-same p q [] e = refl
+those-same p q (x ∷ l) e =
+    ap (λ (u : Bool). if u then x ∷ those p l else those p l) (e .0) ∙ ap (λ m. if q x then x ∷ m else m) (those-same p q l (e .1))

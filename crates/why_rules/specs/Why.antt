@@ -1,0 +1,96 @@
+-- Why a code is on the list of an alarm search, or is not (request E1): the reason, the reading and the two limits as they stood at the last conversion that
+-- finished since power-up, and whether either of today's limits differs.
+--     bandOf t high low      where a whole degree stands to its limits, equality included; with low above high it may be past both
+--     reasonOn p             the reason by a page alone: never by the flag, never by today's limits
+--     onTheList r            whether the reason puts a code on the list: high, low or both
+--     reasonNumber r         the number of a reason, 0 to 5
+--     silent n r             a refusal or a reason without numbers: zero, zero, zero and no
+--     said p pad             what a page says, with the scratchpad as it stands today
+--     whyOf b code           the answer for a code: 5, then 7, for a code that is not sound; else by the device with that code, or that there is none
+-- Assumes nothing.
+use Prim.Native.Nat.{ℕ}
+use mathlib.Core.Bool.{Bool, true, false, not, _&&_}
+use mathlib.Core.List.{List}
+use lib.Dec.{eqb}
+use lib.IntN.{pos}
+use lib.ListN.{getD}
+use lib.Signed.{leZ}
+use Rattle.lists.specs.Choice.{if_then_else_}
+use Rattle.refusals.specs.Refusals.{accepted}
+use Rattle.family.specs.Layout.{highLimitPlace, lowLimitPlace}
+use Rattle.rom.specs.Code.{codeRefusal, sound}
+use Rattle.temperature.specs.Alarm.{limitOf}
+use Rattle.temperature.specs.Units.{wholeOf}
+use Rattle.temperature.specs.declared.Reading.the-variants.{InSixteenths}
+use Rattle.temperature.specs.declared.WholeDegrees.{WholeDegrees}
+use Rattle.device.specs.declared.Page.{Page}
+use Rattle.bench.specs.Bench.{placeOf}
+use Rattle.bench.specs.Calls.{deviceAt}
+use Rattle.bench.specs.declared.Bench.{Bench}
+use Rattle.bench.specs.declared.Place.{Place}
+use Rattle.bench.specs.declared.Place.the-variants.{At, Nowhere}
+use Rattle.why_rules.specs.declared.Reason.{Reason}
+use Rattle.why_rules.specs.declared.Reason.the-variants.{NotOnBench, NoConversion, InBand, High, Low, Both}
+use Rattle.why_rules.specs.declared.Why.{Why}
+
+-- ## The reason
+
+abbrev pub bandOf : WholeDegrees → WholeDegrees → WholeDegrees → Reason
+bandOf t high low =
+    if leZ (high .0) (t .0) then if leZ (t .0) (low .0) then Both else High
+    else if leZ (t .0) (low .0) then Low
+    else InBand
+
+abbrev pub reasonOn : Page → Reason
+reasonOn p = if p .taken then bandOf (wholeOf (p .reading)) (limitOf (p .high)) (limitOf (p .low)) else NoConversion
+
+abbrev pub onTheList : Reason → Bool
+onTheList NotOnBench = false
+onTheList NoConversion = false
+onTheList InBand = false
+onTheList High = true
+onTheList Low = true
+onTheList Both = true
+
+abbrev pub reasonNumber : Reason → ℕ
+reasonNumber NotOnBench = 0
+reasonNumber NoConversion = 1
+reasonNumber InBand = 2
+reasonNumber High = 3
+reasonNumber Low = 4
+reasonNumber Both = 5
+
+-- ## The answer
+
+abbrev pub silent : ℕ → Reason → Why
+silent refusal reason = record {
+  refusal = refusal;
+  reason = reason;
+  reading = InSixteenths (record { 0 = pos 0 });
+  high = record { 0 = pos 0 };
+  low = record { 0 = pos 0 };
+  differs = false;
+}
+
+-- whether a limit of today, in scratchpad bytes 2 and 3, is another than the page's
+abbrev pub limitsDiffer : Page → List ℕ → Bool
+limitsDiffer p pad = not (eqb (getD pad highLimitPlace 0) (p .high) && eqb (getD pad lowLimitPlace 0) (p .low))
+
+unfoldable pub said : Page → List ℕ → Why
+said p pad =
+    if p .taken then record {
+      refusal = accepted;
+      reason = reasonOn p;
+      reading = p .reading;
+      high = limitOf (p .high);
+      low = limitOf (p .low);
+      differs = limitsDiffer p pad;
+    }
+    else silent accepted NoConversion
+
+abbrev pub whyAt : Bench → Place → Why
+whyAt b (At i) = let d = deviceAt b i in said (d .page) (d .scratchpad)
+whyAt b Nowhere = silent accepted NotOnBench
+
+unfoldable pub whyOf : Bench → ℕ → Why
+whyOf b code = if sound code then whyAt b (placeOf b code) else silent (codeRefusal code) NotOnBench
