@@ -1,3 +1,4 @@
 pub mod Why
+pub mod WhyLaws
 pub mod Book
 pub mod BookLaws
