@@ -1,5 +1,4 @@
 -- The lines that answer the calls. Numbers are in plain decimal, one space stands between fields, a truth value is 0 or 1.
---     line fields            fields with a space between two of them and a line feed at the end
 --     badLine                ?, to a line that matches no call
 --     refusalLine            REFUSAL, of an adding, a finish or a power cycle
 --     bitLine                REFUSAL PRESENCE of a reset, REFUSAL LINE of a slot
@@ -18,22 +17,13 @@ use Rattle.refusals.specs.Refusals.{accepted}
 use Rattle.text.specs.Ascii.{ascii}
 use Rattle.text.specs.Decimal.{decimal}
 use Rattle.text.specs.Digits.{codeDigits, hexOf}
+use Rattle.putting.specs.Putting.{line, flag}
 use Rattle.temperature.specs.declared.Reading.{Reading}
 use Rattle.temperature.specs.Register.{registerOf}
 use Rattle.device.specs.declared.Activity.{Activity}
 use Rattle.device.specs.declared.Activity.the-variants.{Idle, Converting, Copying}
 use Rattle.device.specs.declared.Settings.{Settings}
 use Rattle.bench.specs.declared.Looked.{Looked}
-
--- fields with a space between two of them and a line feed at the end
-abbrev pub line : List (List ℕ) → List ℕ
-line [] = ascii "\n"
-line (f ∷ []) = f ++ ascii "\n"
-line (f ∷ g ∷ fs) = f ++ (ascii " " ++ line (g ∷ fs))
-
--- a truth value
-abbrev pub flag : Bool → List ℕ
-flag b = if b then ascii "1" else ascii "0"
 
 abbrev pub badLine : List ℕ
 badLine = line (ascii "?" ∷ [])

@@ -13,26 +13,16 @@ use Rattle.refusals.specs.Refusals.{accepted}
 use Rattle.bench.specs.declared.Looked.{Looked}
 use lib.Seq.{take-suc}
 use Rattle.text.specs.Decimal.{decimal}
-use Rattle.text.specs.DecimalLaws.{decimal-length, decimal-most}
 use Rattle.text.specs.DigitsLaws.{digits-length, hex-length}
 use Rattle.temperature.specs.declared.Reading.{Reading}
 use Rattle.device.specs.declared.Activity.{Activity}
 use Rattle.device.specs.declared.Activity.the-variants.{Idle, Converting, Copying}
 use Rattle.device.specs.declared.Settings.{Settings}
-use Rattle.answers.specs.Answers.{flag, badLine, refusalLine, bitLine, searchLine, codeLine, codeLines, readingDigits, accessLine, settingsDigits, busyDigit, recordLine, showLine}
-use Rattle.answers.specs.Laying.{lineRoom}
+use Rattle.answers.specs.Answers.{badLine, refusalLine, bitLine, searchLine, codeLine, codeLines, readingDigits, accessLine, settingsDigits, busyDigit, recordLine, showLine}
+use Rattle.putting.specs.Putting.{lineRoom}
+use Rattle.putting.specs.FieldsLaws.{byte-digits, word-digits, flag-length}
 
 -- ## Fields
-
-pub byte-digits : (x : ℕ) → x < 256 → length (decimal x) ≤ 3
-byte-digits x h = let l = decimal-length x in let m = decimal-most x 2 (omega arith) in omega arith
-
-pub word-digits : (x : ℕ) → x < 65536 → length (decimal x) ≤ 5
-word-digits x h = let l = decimal-length x in let m = decimal-most x 4 (omega arith) in omega arith
-
-flag-length : (b : Bool) → length (flag b) ≡ 1
-flag-length true = omega arith
-flag-length false = omega arith
 
 busy-length : (a : Activity) → length (busyDigit a) ≡ 1
 busy-length Idle = omega arith

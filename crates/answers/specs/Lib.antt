@@ -1,4 +1,2 @@
 pub mod Answers
 pub mod AnswersLaws
-pub mod Laying
-pub mod LayingLaws

@@ -12,7 +12,7 @@ use Rattle.bench.specs.declared.ResetDone.{ResetDone}
 use Rattle.bench.specs.declared.Slotted.{Slotted}
 use Rattle.master_rules.specs.declared.Access.{Access}
 use Rattle.answers.specs.Answers.{refusalLine, bitLine, accessLine}
-use Rattle.answers.specs.Laying.{lineAnswer, lineLeaves}
+use Rattle.putting.specs.Putting.{lineAnswer, lineLeaves}
 use Rattle.call_answers.specs.declared.Said.{Said}
 
 pub record Answered : Type 0 where

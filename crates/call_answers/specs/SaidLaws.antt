@@ -9,7 +9,7 @@ use lib.ListN.{length}
 use Rattle.laying.specs.Laying.{hasRoom}
 use Rattle.laying.specs.declared.Written.{Written}
 use Rattle.bench.specs.declared.Bench.{Bench}
-use Rattle.answers.specs.Laying.{lineRoom, lineAnswer}
+use Rattle.putting.specs.Putting.{lineRoom, lineAnswer}
 use Rattle.call_answers.specs.Said.{says, lineSaid}
 use Rattle.call_answers.specs.declared.Said.{Said}
 

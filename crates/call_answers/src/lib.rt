@@ -2,7 +2,7 @@
 ghost use mathlib.Core.Path.{_≡_};
 ghost use Prim.Native.Nat.{_≤_};
 ghost use Rattle.answers.specs.Answers.{badLine, showLine};
-ghost use Rattle.answers.specs.Laying.{lineRoom};
+ghost use Rattle.putting.specs.Putting.{lineRoom};
 ghost use Rattle.call_answers.specs.Said.{says, lineSaid, lineLeft, ofChange, ofReset, ofSlot, ofAccess};
 use bench::Bench;
 use bench::Changed;

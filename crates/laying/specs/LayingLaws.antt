@@ -11,7 +11,7 @@ use lib.Dec.{leb}
 use lib.ListN.{length, set, take, drop, getD, length-append}
 use lib.Seq.{take-set-le, set-split, drop-at, length-take-le}
 use Rattle.lists.specs.Laid.{laid}
-use Rattle.lists.specs.LaidLaws.{laid-more, laid-length, laid-then}
+use Rattle.lists.specs.LaidLaws.{laid-more, laid-length, laid-sets, laid-then}
 use Rattle.refusals.specs.Refusals.{accepted, noRoom, notHex}
 use Rattle.text.specs.Digits.{digitOf, digits, hexDigits, hexOf, spells, bytesOf}
 use Rattle.text.specs.DigitsLaws.{digits-length, hex-length, hex-more}
@@ -97,3 +97,17 @@ lay-behind d at x y n e h =
     let size = laid-length d at x room in
     let fits : n + length y ≤ length (laid d at x) = omega arith in
     lay-fits (laid d at x) n y fits .1 ∙ laid-then d at x y n e (omega arith)
+
+-- a character that is stored, and a text laid just behind it
+pub lay-marked : (d : List ℕ) (at v : ℕ) (x : List ℕ) → at + (1 + length x) ≤ length d
+    → (layAnswer (set d at v) (at + 1) x ≡ layAnswer d at (v ∷ x)) × (layLeaves (set d at v) (at + 1) x ≡ layLeaves d at (v ∷ x))
+lay-marked d at v x h =
+    let one : at + length (v ∷ []) ≤ length d = omega arith in
+    let stored : set d at v ≡ laid d at (v ∷ []) = laid-sets d at (v ∷ []) one in
+    let size : length (set d at v) ≡ length d = ap length stored ∙ laid-length d at (v ∷ []) one in
+    let behind = lay-fits (set d at v) (at + 1) x (omega arith) in
+    let whole = lay-fits d at (v ∷ x) (omega arith) in
+    let place : at + 1 + length x ≡ at + length (v ∷ x) = omega arith in (
+      behind .0 ∙ ap (λ (n : ℕ). record { refusal = accepted; next = n }) place ∙ sym (whole .0),
+      behind .1 ∙ ap (λ (u : List ℕ). laid u (at + 1) x) stored ∙ laid-then d at (v ∷ []) x (at + 1) refl (omega arith) ∙ sym (whole .1),
+    )

@@ -3,10 +3,16 @@ ghost use mathlib.Core.Path.{_≡_};
 ghost use mathlib.Core.Bool.{true};
 ghost use Prim.Native.Nat.{_+_, _*_, _/_, _≤_, _<_};
 ghost use lib.ListN.{length, getD};
+ghost use lib.IntN.{natAbs};
+ghost use mathlib.Core.List.{_++_};
+ghost use Rattle.text.specs.Ascii.{ascii};
 ghost use Rattle.lists.specs.Laid.{laid};
 ghost use Rattle.text.specs.Digits.{valueOf, spells, digits, hexDigits, hexOf, bytesOf};
-ghost use Rattle.text.specs.Decimal.{decimal};
+ghost use Rattle.text.specs.Decimal.{decimal, signedDecimal};
 ghost use Rattle.laying.specs.Laying.{hasRoom, layAnswer, layLeaves, decodeAnswer, decodeLeaves};
+
+// The character in front of a negative number.
+const MINUS: u8 = 0x2D;
 
 // What came of laying text at a place.
 pub struct Written {
@@ -104,6 +110,43 @@ pub fn lay_decimal(out: &mut [u8], at: usize, number: u64) -> Written
         refusal: refusals::ACCEPTED,
         next: at + count,
     }
+}
+
+// How far a number is from zero.
+fn size_of(number: i16) -> u64
+    ensures { λ r. ⌜ r ≡ natAbs number ⌝ }
+{
+    let wide = number as i32;
+    if 0 <= wide {
+        return wide as u64;
+    }
+    (0 - wide) as u64
+}
+
+// A minus and a number, laid at a place.
+fn lay_negative(out: &mut [u8], at: usize, size: u64) -> Written
+    ensures answer { λ r. ⌜ r ≡ layAnswer (now (out .entry)) at (ascii "-" ++ decimal size) ⌝ }
+    ensures written { λ r. ⌜ now (out .exit) ≡ layLeaves (now (out .entry)) at (ascii "-" ++ decimal size) ⌝ }
+{
+    let count = text::decimal_length(size);
+    let room = has_room(out, at, count + 1);
+    if !room {
+        return refuse(refusals::NO_ROOM);
+    }
+    out[at] = MINUS;
+    lay_decimal(out, at + 1, size)
+}
+
+// A number with a minus in front where it is negative, laid at a place.
+pub fn lay_signed(out: &mut [u8], at: usize, number: i16) -> Written
+    ensures answer { λ r. ⌜ r ≡ layAnswer (now (out .entry)) at (signedDecimal number) ⌝ }
+    ensures written { λ r. ⌜ now (out .exit) ≡ layLeaves (now (out .entry)) at (signedDecimal number) ⌝ }
+{
+    let size = size_of(number);
+    if number < 0 {
+        return lay_negative(out, at, size);
+    }
+    lay_decimal(out, at, size)
 }
 
 fn put_hex_bytes(out: &mut [u8], at: usize, bytes: &[u8])

@@ -22,7 +22,7 @@ use Rattle.master_rules.specs.declared.Searched.{Searched}
 use Rattle.master.specs.Sweep.{search-bounded}
 use Rattle.answers.specs.Answers.{searchLine, codeLine, codeLines}
 use Rattle.answers.specs.AnswersLaws.{code-length, codes-length, codes-next}
-use Rattle.answers.specs.Laying.{lineRoom, lineAnswer, lineLeaves}
+use Rattle.putting.specs.Putting.{lineRoom, lineAnswer, lineLeaves}
 use Rattle.call_answers.specs.Said.{says}
 use Rattle.call_answers.specs.declared.Said.{Said}
 use Rattle.search_answers.specs.Whole.{room, Says}

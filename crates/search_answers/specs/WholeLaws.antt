@@ -8,7 +8,7 @@ use borrow.Author.Tests.{le-leb, lt-leb}
 use lib.ListN.{length}
 use Rattle.refusals.specs.Refusals.{noRoom}
 use Rattle.bench.specs.declared.Bench.{Bench}
-use Rattle.answers.specs.Laying.{lineRoom}
+use Rattle.putting.specs.Putting.{lineRoom}
 use Rattle.call_answers.specs.Said.{Answered, lineSaid, lineLeft}
 use Rattle.call_answers.specs.declared.Said.{Said}
 use Rattle.search_answers.specs.Whole.{room, saying, wholeSaid, wholeLeft, Says}

@@ -1,14 +1,18 @@
 -- A number of any size in plain decimal: as many digits as it needs, so that no zero stands in front of another digit; 0 is one digit.
 --     decimal x              the number in plain decimal
+--     signedDecimal z        a number with a sign: how far it is from zero, with a minus in front where it is negative
 --     decimalIn cs           the number that decimal digits stand for
 --     plainDecimal cs        whether some characters are a number in plain decimal
 -- Assumes nothing.
 use Prim.Native.Nat.{ℕ, zero, suc, _/_}
 use mathlib.Core.Bool.{Bool, not, _&&_, _||_}
-use mathlib.Core.List.{List}
+use mathlib.Core.List.{List, _++_}
 use lib.Dec.{eqb, leb, ltb}
+use lib.IntN.{ℤ, pos, natAbs}
 use lib.ListN.{length, getD}
+use lib.Signed.{ltZ}
 use Rattle.lists.specs.Choice.{if_then_else_}
+use Rattle.text.specs.Ascii.{ascii}
 use Rattle.text.specs.Digits.{digits, numberIn, spells}
 
 -- how many digits a number has, where at most n tenths are taken: one below ten, else one more than its tenth
@@ -23,6 +27,10 @@ decimalLength x = lengthWithin x x
 -- the number in plain decimal
 unfoldable pub decimal : ℕ → List ℕ
 decimal x = digits 10 (decimalLength x) x
+
+-- a number with a sign: a minus in front where it is negative
+unfoldable pub signedDecimal : ℤ → List ℕ
+signedDecimal z = if ltZ z (pos 0) then ascii "-" ++ decimal (natAbs z) else decimal (natAbs z)
 
 -- the number that decimal digits stand for
 abbrev pub decimalIn : List ℕ → ℕ

@@ -5,18 +5,21 @@
 use Prim.Native.Nat.{ℕ, zero, suc, _+_, _/_, _^_, _<_, _≤_}
 use mathlib.Core.Path.{_≡_, refl, sym, ap, _∙_}
 use mathlib.Core.Bool.{Bool, true, false, not, _&&_, _||_, false≢true}
-use mathlib.Core.List.{List, [], _∷_}
+use mathlib.Core.List.{List, [], _∷_, _++_}
 use native.Mathlib.Omega.{arith}
 use native.Mathlib.Nat.{pow-suc, pow-le-pow-right}
 use borrow.Author.Tests.{lt-ltb, le-ltb, ltb-true, ltb-false, eqb-true, eqb-false, ne-eqb, not-true}
 use lib.Dec.{eqb, leb, ltb, lit<}
+use lib.IntN.{ℤ, pos, natAbs}
 use lib.ListN.{length}
+use lib.Signed.{ltZ}
 use Rattle.lists.specs.Choice.{if_then_else_}
 use Rattle.lists.specs.ChoiceLaws.{and-left, and-right}
 use Rattle.lists.specs.Fold.{fold, all}
+use Rattle.text.specs.Ascii.{ascii}
 use Rattle.text.specs.Digits.{digits, digitOf, valueOf, isDigit, spells, numberIn, thenDigit}
 use Rattle.text.specs.DigitsLaws.{digits-length, number-digits, digits-number, number-below, digit-value}
-use Rattle.text.specs.Decimal.{lengthWithin, decimalLength, decimal, decimalIn, plainDecimal}
+use Rattle.text.specs.Decimal.{lengthWithin, decimalLength, decimal, signedDecimal, decimalIn, plainDecimal}
 
 -- ## How many digits
 
@@ -159,3 +162,14 @@ decimal-written (c ∷ cs) h =
     let most = decimal-most (decimalIn (c ∷ cs)) (length cs) (number-below 10 (c ∷ cs) spelt) in
     let same : decimalLength (decimalIn (c ∷ cs)) ≡ length (c ∷ cs) = omega arith in
     ap (λ (n : ℕ). digits 10 n (decimalIn (c ∷ cs))) same ∙ digits-number 10 (lit< tt) (omega arith) (c ∷ cs) spelt
+
+-- ## With a sign
+
+module _ (z : ℤ) (n : ℕ) (size : n ≡ natAbs z) where
+  pub signed-negative : ltZ z (pos 0) ≡ true → ascii "-" ++ decimal n ≡ signedDecimal z
+  unfolding signedDecimal
+  signed-negative e = rw e (ap (λ (m : ℕ). ascii "-" ++ decimal m) size)
+
+  pub signed-positive : ltZ z (pos 0) ≡ false → decimal n ≡ signedDecimal z
+  unfolding signedDecimal
+  signed-positive e = rw e (ap decimal size)

@@ -1,0 +1,20 @@
+-- How long the fields of a line are.
+-- Assumes nothing.
+use Prim.Native.Nat.{ℕ, _<_, _≤_}
+use mathlib.Core.Path.{_≡_}
+use mathlib.Core.Bool.{Bool, true, false}
+use native.Mathlib.Omega.{arith}
+use lib.ListN.{length}
+use Rattle.text.specs.Decimal.{decimal}
+use Rattle.text.specs.DecimalLaws.{decimal-length, decimal-most}
+use Rattle.putting.specs.Putting.{flag}
+
+pub byte-digits : (x : ℕ) → x < 256 → length (decimal x) ≤ 3
+byte-digits x h = let l = decimal-length x in let m = decimal-most x 2 (omega arith) in omega arith
+
+pub word-digits : (x : ℕ) → x < 65536 → length (decimal x) ≤ 5
+word-digits x h = let l = decimal-length x in let m = decimal-most x 4 (omega arith) in omega arith
+
+pub flag-length : (b : Bool) → length (flag b) ≡ 1
+flag-length true = omega arith
+flag-length false = omega arith

@@ -1,0 +1,3 @@
+pub mod Putting
+pub mod PuttingLaws
+pub mod FieldsLaws
