@@ -2,6 +2,7 @@
 ghost use mathlib.Core.Path.{_≡_};
 ghost use Prim.Native.Nat.{_≤_};
 ghost use Rattle.answers.specs.Answers.{badLine, showLine};
+ghost use Rattle.why_answers.specs.WhyLine.{whyLine};
 ghost use Rattle.putting.specs.Putting.{lineRoom};
 ghost use Rattle.call_answers.specs.Said.{says, lineSaid, lineLeft, ofChange, ofReset, ofSlot, ofAccess};
 use bench::Bench;
@@ -10,6 +11,7 @@ use bench::Looked;
 use bench::ResetDone;
 use bench::Slotted;
 use master_rules::Access;
+use why_rules::Why;
 
 // What came of a line.
 pub struct Said {
@@ -100,6 +102,20 @@ pub fn device(bench: Bench, looked: Looked, out: &mut [u8]) -> Said
     ensures kept { λ r. ⌜ r .count ≤ lineRoom ⌝ }
 {
     let w = answers::show_line(out, 0, looked);
+    Said {
+        refusal: w.refusal,
+        count: w.next,
+        bench,
+    }
+}
+
+// Why a code is on the list of an alarm search.
+pub fn why(bench: Bench, why: Why, out: &mut [u8]) -> Said
+    ensures answer { λ r. ⌜ r ≡ lineSaid (says (whyLine why) bench) (now (out .entry)) ⌝ }
+    ensures written { λ r. ⌜ now (out .exit) ≡ lineLeft (says (whyLine why) bench) (now (out .entry)) ⌝ }
+    ensures kept { λ r. ⌜ r .count ≤ lineRoom ⌝ }
+{
+    let w = why_answers::why_line(out, 0, why);
     Said {
         refusal: w.refusal,
         count: w.next,

@@ -16,8 +16,10 @@ use Rattle.master_rules.specs.Access.{readAt, writeAt}
 use Rattle.master_rules.specs.Search.{searchOutcome}
 use Rattle.requests.specs.Requests.{requestOf}
 use Rattle.requests.specs.declared.Request.{Request}
-use Rattle.requests.specs.declared.Request.the-variants.{Bad, Add, Reset, Slot, Converted, Copied, Cycle, Search, Alarm, Read, Write, Show}
+use Rattle.requests.specs.declared.Request.the-variants.{Bad, Add, Reset, Slot, Converted, Copied, Cycle, Search, Alarm, Read, Write, Show, Why}
 use Rattle.answers.specs.Answers.{badLine, showLine}
+use Rattle.why_rules.specs.Why.{whyOf}
+use Rattle.why_answers.specs.WhyLine.{whyLine}
 use Rattle.call_answers.specs.Said.{Answered, says, ofChange, ofReset, ofSlot, ofAccess}
 use Rattle.call_answers.specs.declared.Said.{Said}
 use Rattle.search_answers.specs.Whole.{wholeSaid, wholeLeft}
@@ -38,6 +40,7 @@ answered b (Alarm places bytes) = ofSearch (searchOutcome alarmSearch b places b
 answered b (Read code) = ofAccess (readAt b code)
 answered b (Write code settings) = ofAccess (writeAt b code settings)
 answered b (Show code) = says (showLine (looked b code)) b
+answered b (Why code) = says (whyLine (whyOf b code)) b
 
 -- ## By the line
 

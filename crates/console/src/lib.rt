@@ -33,6 +33,7 @@ fn respond(bench: Bench, request: Request, out: &mut [u8]) -> Said
             call_answers::access(at_code::write_at(bench, code, settings), out)
         }
         Request::Show(code) => call_answers::device(bench, bench::look(bench, code), out),
+        Request::Why(code) => call_answers::why(bench, why::why(bench, code), out),
     }
 }
 

@@ -15,7 +15,7 @@ use Rattle.text.specs.declared.NumberRead.{NumberRead}
 use Rattle.fields.specs.declared.CountRead.{CountRead}
 use Rattle.fields.specs.declared.PowerRead.{PowerRead}
 use Rattle.requests.specs.declared.Request.{Request}
-use Rattle.requests.specs.declared.Request.the-variants.{Bad, Add, Reset, Slot, Converted, Copied, Cycle, Search, Alarm, Read, Write, Show}
+use Rattle.requests.specs.declared.Request.the-variants.{Bad, Add, Reset, Slot, Converted, Copied, Cycle, Search, Alarm, Read, Write, Show, Why}
 use Rattle.fields.specs.declared.SettingsRead.{SettingsRead}
 use Rattle.words.specs.Words.{same, wordOf, wordsOf}
 use Rattle.fields.specs.Fields.{codeIn, bitIn, placesIn, bytesIn, countIn, settingsIn, powerIn, mostPlaces, mostBytes}
@@ -69,7 +69,7 @@ ofMaster ws =
     else if asks (ascii "write") 4 ws then writeAsked (codeIn (field 1)) (settingsIn (field 2) (field 3) (field 4))
     else Bad
 
--- ADD CODE POWER HIGH LOW CONFIGURATION; RESET; SLOT BIT; CONVERTED CODE COUNT; COPIED, CYCLE, SHOW CODE
+-- ADD CODE POWER HIGH LOW CONFIGURATION; RESET; SLOT BIT; CONVERTED CODE COUNT; COPIED, CYCLE, SHOW, WHY CODE
 unfoldable pub ofBench : List (List ℕ) → Request
 ofBench ws =
     let field = wordOf ws in
@@ -80,6 +80,7 @@ ofBench ws =
     else if asks (ascii "copied") 1 ws then atCode Copied (codeIn (field 1))
     else if asks (ascii "cycle") 1 ws then atCode Cycle (codeIn (field 1))
     else if asks (ascii "show") 1 ws then atCode Show (codeIn (field 1))
+    else if asks (ascii "why") 1 ws then atCode Why (codeIn (field 1))
     else ofMaster ws
 
 -- the most characters of a line

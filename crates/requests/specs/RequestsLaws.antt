@@ -9,7 +9,7 @@ use lib.Dec.{eqb}
 use lib.ListN.{length}
 use Rattle.lists.specs.ChoiceLaws.{and-left, and-right}
 use Rattle.text.specs.Ascii.{ascii}
-use Rattle.requests.specs.declared.Request.the-variants.{Bad, Reset, Copied, Cycle, Search, Alarm, Read, Show}
+use Rattle.requests.specs.declared.Request.the-variants.{Bad, Reset, Copied, Cycle, Search, Alarm, Read, Show, Why}
 use Rattle.words.specs.Words.{same, wordOf}
 use Rattle.words.specs.WordsLaws.{same-equal}
 use Rattle.fields.specs.Fields.{codeIn, bitIn, placesIn, bytesIn, countIn, settingsIn, powerIn, mostPlaces, mostBytes}
@@ -53,10 +53,14 @@ module _ (ws : List (List ℕ)) where
   unfolding ofBench same
   row-show e = rw (asks-name (ascii "show") 1 ws e, asks-fields (ascii "show") 1 ws e)
 
-  pub no-bench-row : asks (ascii "add") 5 ws ≡ false → asks (ascii "reset") 0 ws ≡ false → asks (ascii "slot") 1 ws ≡ false → asks (ascii "converted") 2 ws ≡ false → asks (ascii "copied") 1 ws ≡ false → asks (ascii "cycle") 1 ws ≡ false → asks (ascii "show") 1 ws ≡ false
+  pub row-why : asks (ascii "why") 1 ws ≡ true → atCode Why (codeIn (wordOf ws 1)) ≡ ofBench ws
+  unfolding ofBench same
+  row-why e = rw (asks-name (ascii "why") 1 ws e, asks-fields (ascii "why") 1 ws e)
+
+  pub no-bench-row : asks (ascii "add") 5 ws ≡ false → asks (ascii "reset") 0 ws ≡ false → asks (ascii "slot") 1 ws ≡ false → asks (ascii "converted") 2 ws ≡ false → asks (ascii "copied") 1 ws ≡ false → asks (ascii "cycle") 1 ws ≡ false → asks (ascii "show") 1 ws ≡ false → asks (ascii "why") 1 ws ≡ false
       → ofMaster ws ≡ ofBench ws
   unfolding ofBench
-  no-bench-row a b c d e f g = rw (a, b, c, d, e, f, g)
+  no-bench-row a b c d e f g h = rw (a, b, c, d, e, f, g, h)
 
 -- ## The calls of the master
 

@@ -2,7 +2,7 @@
 ghost use mathlib.Core.Path.{_≡_};
 ghost use Rattle.words.specs.Words.{wordsOf, wordOf};
 ghost use Rattle.fields.specs.Fields.{codeIn, bitIn, placesIn, bytesIn, countIn, settingsIn, powerIn};
-ghost use Rattle.requests.specs.declared.Request.the-variants.{Copied, Cycle, Search, Alarm, Read, Show};
+ghost use Rattle.requests.specs.declared.Request.the-variants.{Copied, Cycle, Search, Alarm, Read, Show, Why};
 ghost use Rattle.requests.specs.Requests.{asks, slotAsked, convertedAsked, atCode, lent, writeAsked, addAsked, ofMaster, ofBench};
 use crate::Request;
 use device::Joining;
@@ -104,6 +104,17 @@ fn show(line: &[u8]) -> Request
     let code = code_in(word(line, 1));
     if code.valid {
         return Request::Show(code.number);
+    }
+    Request::Bad
+}
+
+// `why CODE`
+fn why(line: &[u8]) -> Request
+    ensures { λ r. ⌜ r ≡ atCode Why (codeIn (wordOf (wordsOf (now (line .entry))) 1)) ⌝ }
+{
+    let code = code_in(word(line, 1));
+    if code.valid {
+        return Request::Why(code.number);
     }
     Request::Bad
 }
@@ -238,6 +249,9 @@ pub(crate) fn of_bench(line: &[u8]) -> Request
     }
     if asks(line, b"show", 1) {
         return show(line);
+    }
+    if asks(line, b"why", 1) {
+        return why(line);
     }
     of_master(line)
 }

@@ -25,6 +25,7 @@ pub enum Request {
     Read(u64),
     Write { code: u64, settings: Settings },
     Show(u64),
+    Why(u64),
 }
 
 // What a line, without its feed, asks for.

@@ -7,6 +7,8 @@ use Rattle.bench.specs.declared.ResetDone.{ResetDone}
 use Rattle.bench.specs.declared.Slotted.{Slotted}
 use Rattle.master_rules.specs.declared.Access.{Access}
 use Rattle.answers.specs.Answers.{badLine, showLine}
+use Rattle.why_rules.specs.declared.Why.{Why}
+use Rattle.why_answers.specs.WhyLine.{whyLine}
 use Rattle.call_answers.specs.Said.{says, ofChange, ofReset, ofSlot, ofAccess}
 use Rattle.search_answers.specs.Whole.{Says}
 use Rattle.search_answers.specs.WholeLaws.{whole-says, line-says}
@@ -113,6 +115,15 @@ look-requires c κs = search needs
 
 device-requires : tie.Need-device-requires
 device-requires c κs = search needs
+
+enum-known-request-11 : tie.Need-enum-known-request-11
+enum-known-request-11 c = search needs
+
+why-requires : tie.Need-why-requires
+why-requires c κs = search needs
+
+why-requires-2 : tie.Need-why-requires-2
+why-requires-2 c κs = search needs
 
 same-length : tie.Need-same-length
 same-length c = search needs
@@ -264,6 +275,19 @@ returns-12 c =
     let said = line-says (now (start .args .out)) (start .pre) (says (showLine (call .look .result)) (start .args .bench)) (arm .device .last .1 .1 .0) (arm .device .result) (arm .device .ensures .0) (arm .device .ensures .1 .0) (arm .device .ensures .1 .1) in
     rw told (subst (λ (r : Looked). Says (now (start .args .out)) (says (showLine r) (start .args .bench)) (arm .device .last .1 .1 .0) (arm .device .result)) (call .look .ensures) said)
 
+same-length-13 : tie.Need-same-length-13
+same-length-13 c = search needs
+
+returns-13 : tie.Need-returns-13
+unfolding answered
+returns-13 c =
+    let arm = c .before .before in
+    let call = arm .before .before in
+    let told = arm .before .before .before .before .request11 .given .1 in
+    let start = arm .before .before .before .before .before .before .before in
+    let said = line-says (now (start .args .out)) (start .pre) (says (whyLine (call .why .result)) (start .args .bench)) (arm .why2 .last .1 .1 .0) (arm .why2 .result) (arm .why2 .ensures .0) (arm .why2 .ensures .1 .0) (arm .why2 .ensures .1 .1) in
+    rw told (subst (λ (r : Why). Says (now (start .args .out)) (says (whyLine r) (start .args .bench)) (arm .why2 .last .1 .1 .0) (arm .why2 .result)) (call .why .ensures .0) said)
+
 pub respond-spec : {M : Type 1} → statement M
 respond-spec =
     tie.close
@@ -301,6 +325,9 @@ respond-spec =
     enum-known-request-10
     look-requires
     device-requires
+    enum-known-request-11
+    why-requires
+    why-requires-2
     same-length
     returns
     same-length-2
@@ -324,4 +351,6 @@ respond-spec =
     same-length-11
     returns-11
     same-length-12
-    returns-12)
+    returns-12
+    same-length-13
+    returns-13)

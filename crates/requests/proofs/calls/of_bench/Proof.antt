@@ -1,6 +1,6 @@
 -- Row by row: where a row asks, its own request is given; behind the last, none has asked. Assumes nothing.
 use mathlib.Core.Path.{sym, _∙_}
-use Rattle.requests.specs.RequestsLaws.{row-add, row-reset, row-slot, row-converted, row-copied, row-cycle, row-show, no-bench-row}
+use Rattle.requests.specs.RequestsLaws.{row-add, row-reset, row-slot, row-converted, row-copied, row-cycle, row-show, row-why, no-bench-row}
 use borrow.Author.Needs.{needs}
 use Rattle.requests.proofs.calls.of_bench.Statement.{statement}
 use Rattle.requests.proofs.calls.of_bench.Tie as tie
@@ -94,19 +94,32 @@ show-requires c κs = search needs
 returns-7 : tie.Need-returns-7
 returns-7 c = c .show .ensures ∙ row-show _ (sym (c .before .before .asks7 .ensures) ∙ c .before .if7 .taken)
 
+slice-aggregate-asks-8 : tie.Need-slice-aggregate-asks-8
+slice-aggregate-asks-8 c = search needs
+
+asks-requires-8 : tie.Need-asks-requires-8
+asks-requires-8 c κs = search needs
+
+why-requires : tie.Need-why-requires
+why-requires c κs = search needs
+
+returns-8 : tie.Need-returns-8
+returns-8 c = c .why .ensures ∙ row-why _ (sym (c .before .before .asks8 .ensures) ∙ c .before .if8 .taken)
+
 of-master-requires : tie.Need-of-master-requires
 of-master-requires c κs = search needs
 
-returns-8 : tie.Need-returns-8
-returns-8 c =
-    let row7 = c .before in
+returns-9 : tie.Need-returns-9
+returns-9 c =
+    let row8 = c .before in
+    let row7 = row8 .before .before .before in
     let row6 = row7 .before .before .before in
     let row5 = row6 .before .before .before in
     let row4 = row5 .before .before .before in
     let row3 = row4 .before .before .before in
     let row2 = row3 .before .before .before in
     let row1 = row2 .before .before .before in
-    c .of-master .ensures ∙ no-bench-row _ (sym (row1 .before .asks .ensures) ∙ row1 .if1 .left) (sym (row2 .before .asks2 .ensures) ∙ row2 .if2 .left) (sym (row3 .before .asks3 .ensures) ∙ row3 .if3 .left) (sym (row4 .before .asks4 .ensures) ∙ row4 .if4 .left) (sym (row5 .before .asks5 .ensures) ∙ row5 .if5 .left) (sym (row6 .before .asks6 .ensures) ∙ row6 .if6 .left) (sym (row7 .before .asks7 .ensures) ∙ row7 .if7 .left)
+    c .of-master .ensures ∙ no-bench-row _ (sym (row1 .before .asks .ensures) ∙ row1 .if1 .left) (sym (row2 .before .asks2 .ensures) ∙ row2 .if2 .left) (sym (row3 .before .asks3 .ensures) ∙ row3 .if3 .left) (sym (row4 .before .asks4 .ensures) ∙ row4 .if4 .left) (sym (row5 .before .asks5 .ensures) ∙ row5 .if5 .left) (sym (row6 .before .asks6 .ensures) ∙ row6 .if6 .left) (sym (row7 .before .asks7 .ensures) ∙ row7 .if7 .left) (sym (row8 .before .asks8 .ensures) ∙ row8 .if8 .left)
 
 pub of-bench-spec : {M : Type 1} → statement M
 of-bench-spec =
@@ -139,5 +152,9 @@ of-bench-spec =
     asks-requires-7
     show-requires
     returns-7
+    slice-aggregate-asks-8
+    asks-requires-8
+    why-requires
+    returns-8
     of-master-requires
-    returns-8)
+    returns-9)

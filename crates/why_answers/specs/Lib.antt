@@ -1,0 +1,2 @@
+pub mod WhyLine
+pub mod WhyLineLaws

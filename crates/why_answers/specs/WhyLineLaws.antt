@@ -1,0 +1,25 @@
+-- The line is short: a number of sixteen bits takes at most six characters.
+-- Assumes nothing.
+use Prim.Native.Nat.{ℕ, _<_, _≤_}
+use mathlib.Core.Bool.{Bool}
+use mathlib.Core.List.{_++_}
+use native.Mathlib.Omega.{arith}
+use lib.IntN.{ℤ}
+use lib.ListN.{length, length-append}
+use Rattle.signed.specs.Complement.{Fits16}
+use Rattle.text.specs.Decimal.{decimal, signedDecimal}
+use Rattle.putting.specs.Putting.{flag, lineRoom}
+use Rattle.putting.specs.FieldsLaws.{byte-digits, signed-digits, flag-length}
+use Rattle.why_answers.specs.WhyLine.{fieldsLine}
+
+pub fields-short : (refusal reason : ℕ) (count high low : ℤ) (differs : Bool) → refusal < 256 → reason < 256 → Fits16 count → Fits16 high → Fits16 low
+    → length (fieldsLine refusal reason count high low differs) ≤ lineRoom
+unfolding fieldsLine
+fields-short refusal reason count high low differs p q f g h =
+    let a = byte-digits refusal p in
+    let b = byte-digits reason q in
+    let c = signed-digits count f in
+    let d = signed-digits high g in
+    let e = signed-digits low h in
+    let l = flag-length differs in
+    simp length-append (omega arith)
