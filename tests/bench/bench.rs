@@ -1,11 +1,33 @@
 //! The bench: up to 32 devices on one wire, and the calls that change it.
 
+use std::collections::HashMap;
+
 use crate::code::family_of;
 use crate::device::{Device, Power, Work};
 
 #[derive(Default)]
 pub struct Bench {
     pub devices: Vec<Device>,
+    /// What the last finished conversion of a code stored since power-up.
+    book: HashMap<u64, Page>,
+}
+
+/// The register, its whole degree, and the two limits of that moment.
+struct Page {
+    register: i16,
+    degrees: i16,
+    high: i8,
+    low: i8,
+}
+
+/// Why a code is on the list of an alarm search, or is not.
+#[derive(Default)]
+pub struct Why {
+    pub reason: u8,
+    pub register: i16,
+    pub high: i8,
+    pub low: i8,
+    pub differs: bool,
 }
 
 /// Refusals by number; `Ok` is 0.
@@ -64,7 +86,9 @@ impl Bench {
         if !(-880..=2000).contains(&count) {
             return Err(11);
         }
-        device.conversion_done(count);
+        let (register, degrees) = device.conversion_done(count);
+        let (high, low) = (device.pad[2] as i8, device.pad[3] as i8);
+        self.book.insert(code, Page { register, degrees, high, low });
         Ok(())
     }
 
@@ -77,6 +101,27 @@ impl Bench {
     }
 
     pub fn cycle(&mut self, code: u64) -> Answer<()> {
-        Ok(self.find(code)?.power_up())
+        self.find(code)?.power_up();
+        self.book.remove(&code);
+        Ok(())
+    }
+
+    /// By the book; of the device only that it is there, and its limits of today.
+    pub fn why(&self, code: u64) -> Answer<Why> {
+        family_of(code)?;
+        let Ok(device) = self.look(code) else {
+            return Ok(Why::default());
+        };
+        let Some(&Page { register, degrees, high, low }) = self.book.get(&code) else {
+            return Ok(Why { reason: 1, ..Why::default() });
+        };
+        let reason = match (degrees >= high.into(), degrees <= low.into()) {
+            (false, false) => 2,
+            (true, false) => 3,
+            (false, true) => 4,
+            (true, true) => 5,
+        };
+        let differs = (device.pad[2] as i8, device.pad[3] as i8) != (high, low);
+        Ok(Why { reason, register, high, low, differs })
     }
 }

@@ -1,6 +1,6 @@
 //! The console's text: a line to a call, the call's answer to lines.
 
-use crate::bench::{Answer, Bench};
+use crate::bench::{Answer, Bench, Why};
 use crate::device::{Power, Work};
 use crate::master::{self, Found, ALARM, BYTES, PLACES, SEARCH};
 
@@ -32,6 +32,7 @@ fn call(bench: &mut Bench, text: &str) -> Option<Vec<String>> {
             access(master::write(bench, hex(code, 16)?, asked))
         }
         ["show", code] => show(bench, hex(code, 16)?),
+        ["why", code] => why(bench, hex(code, 16)?),
         _ => return None,
     };
     Some(vec![line])
@@ -134,4 +135,13 @@ fn show(bench: &Bench, code: u64) -> String {
             format!("0 {} {} {} {busy}", digits(&device.pad), digits(&device.eeprom), device.flag as u8)
         }
     }
+}
+
+fn why(bench: &Bench, code: u64) -> String {
+    let (number, why) = match bench.why(code) {
+        Ok(why) => (0, why),
+        Err(number) => (number, Why::default()),
+    };
+    let Why { reason, register, high, low, differs } = why;
+    format!("{number} {reason} {register} {high} {low} {}", differs as u8)
 }

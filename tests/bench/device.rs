@@ -201,8 +201,9 @@ impl Device {
         }
     }
 
-    /// The sensor's side ends a conversion with a count of sixteenths that is in range.
-    pub fn conversion_done(&mut self, count: i16) {
+    /// The sensor's side ends a conversion with a count of sixteenths that is in range. What it stored,
+    /// and the whole degree at or below it.
+    pub fn conversion_done(&mut self, count: i16) -> (i16, i16) {
         // Division by a positive number, rounded down.
         let (register, degrees) = match self.family {
             Family::S => (count.div_euclid(8), count.div_euclid(8).div_euclid(2)),
@@ -216,6 +217,7 @@ impl Device {
         let (high, low) = (self.pad[2] as i8, self.pad[3] as i8);
         self.flag = degrees >= high as i16 || degrees <= low as i16;
         self.work = Work::Idle;
+        (register, degrees)
     }
 
     pub fn copy_done(&mut self, bytes: [u8; 3]) {

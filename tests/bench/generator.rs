@@ -41,7 +41,7 @@ impl Generator {
         if bench.is_held() && self.random.once_in(3) {
             return vec![self.finish(bench)];
         }
-        match self.random.below(24) {
+        match self.random.below(26) {
             0 => vec![self.add()],
             1 => vec![self.cycle()],
             2..=4 => vec![self.finish(bench)],
@@ -52,6 +52,7 @@ impl Generator {
             12 => vec![self.malformed(bench)],
             13..=14 => vec![self.show()],
             15 => self.loose_slots(),
+            16..=17 => vec![self.why()],
             _ => self.command(bench),
         }
     }
@@ -62,6 +63,7 @@ impl Generator {
         for code in &self.codes {
             lines.push(format!("show {code:016X}").into_bytes());
             lines.push(format!("read {code:016X}").into_bytes());
+            lines.push(format!("why {code:016X}").into_bytes());
         }
         lines.extend([b"alarm".to_vec(), b"search".to_vec()]);
         lines
@@ -102,6 +104,10 @@ impl Generator {
 
     fn show(&mut self) -> Line {
         format!("show {:016X}", self.code()).into_bytes()
+    }
+
+    fn why(&mut self) -> Line {
+        format!("why {:016X}", self.code()).into_bytes()
     }
 
     fn read(&mut self) -> Line {
@@ -163,7 +169,7 @@ impl Generator {
 
     /// A line that is no call, or only just one: a call with one character changed, put in or left out.
     fn malformed(&mut self, bench: &Bench) -> Line {
-        let mut line = match self.random.below(8) {
+        let mut line = match self.random.below(9) {
             0 => self.add(),
             1 => self.show(),
             2 => self.finish(bench),
@@ -171,6 +177,7 @@ impl Generator {
             4 => self.search("alarm"),
             5 => b"reset".to_vec(),
             6 => slot(true),
+            7 => self.why(),
             _ => vec![b'x'; self.random.below(200)],
         };
         let place = self.random.below(line.len() + 1);
