@@ -14,7 +14,7 @@ use Rattle.family.specs.Layout.{configurationPlace}
 use Rattle.family.specs.declared.Properties.{Properties}
 use Rattle.temperature.specs.Range.{inRange}
 use Rattle.temperature.specs.Alarm.{verdict}
-use Rattle.scratchpad.specs.Stored.{readingIn}
+use Rattle.scratchpad.specs.Stored.{rawIn}
 use Rattle.device.specs.declared.Activity.{Activity}
 use Rattle.device.specs.declared.Activity.the-variants.{Idle, Converting, Copying}
 use Rattle.device.specs.declared.Device.{Device}
@@ -33,7 +33,7 @@ copyInForm row (Copying s) = inForm row (s .configuration)
 pub record PadSound (row : Properties) (pad : List ℕ) : Type 0 where
   pub eight : length pad ≡ 8
   pub in-form : inForm row (getD pad configurationPlace 0) ≡ true
-  pub in-range : inRange (readingIn row pad) ≡ true
+  pub in-range : inRange (rawIn row pad) ≡ true
 
 pub record Sound (d : Device) : Type 0 where
   pub pad-sound : PadSound (rowOf (d .code)) (d .scratchpad)

@@ -22,8 +22,8 @@ use Rattle.rom.specs.Code.{familyOf}
 use Rattle.temperature.specs.Range.{inRange}
 use Rattle.temperature.specs.declared.Reading.the-variants.{InSixteenths}
 use Rattle.temperature.specs.declared.Sixteenths.{Sixteenths}
-use Rattle.scratchpad.specs.Stored.{readingIn, scratchpadAfter}
-use Rattle.scratchpad.specs.StoredLaws.{reading-kept, after-length, after-other, after-reads, stored-range}
+use Rattle.scratchpad.specs.Stored.{rawIn, scratchpadAfter}
+use Rattle.scratchpad.specs.StoredLaws.{raw-kept, after-length, after-other, after-raw, stored-range}
 use Rattle.device.specs.declared.Activity.the-variants.{Copying}
 use Rattle.device.specs.declared.Device.{Device}
 use Rattle.device.specs.declared.Joining.{Joining}
@@ -46,7 +46,7 @@ setting-sound row pad k byte p =
     record {
       eight = length-set pad _ _ ∙ p .eight;
       in-form = by-test (eqb k 2) refl;
-      in-range = rw (reading-kept row pad (2 + k) (settingByte row k byte) (omega arith)) (p .in-range);
+      in-range = rw (raw-kept row pad (2 + k) (settingByte row k byte) (omega arith)) (p .in-range);
     }
   where
     by-test : (t : Bool) → eqb k 2 ≡ t → inForm row (getD (set pad (2 + k) (if t then keptConfiguration row byte else byte)) 4 0) ≡ true
@@ -58,12 +58,12 @@ setting-sound row pad k byte p =
         rw (getD-set-other pad (2 + k) 4 byte 0 (λ g. f (omega arith))) (p .in-form)
 
 -- the settings of EEPROM over a scratchpad, whatever its configuration was
-pub settings-sound : (row : Properties) (pad : List ℕ) (s : Settings) → length pad ≡ 8 → inRange (readingIn row pad) ≡ true → PadSound row (withSettings row pad s)
+pub settings-sound : (row : Properties) (pad : List ℕ) (s : Settings) → length pad ≡ 8 → inRange (rawIn row pad) ≡ true → PadSound row (withSettings row pad s)
 unfolding withSettings
 settings-sound row pad s l r = by-test (row .configurable) refl
   where
-    limits-kept : readingIn row (withLimits pad s) ≡ readingIn row pad
-    limits-kept = reading-kept row (set pad 2 (s .high)) 3 (s .low) (lit≤ tt) ∙ reading-kept row pad 2 (s .high) (lit≤ tt)
+    limits-kept : rawIn row (withLimits pad s) ≡ rawIn row pad
+    limits-kept = raw-kept row (set pad 2 (s .high)) 3 (s .low) (lit≤ tt) ∙ raw-kept row pad 2 (s .high) (lit≤ tt)
 
     limits-length : length (withLimits pad s) ≡ 8
     limits-length = simp length-set l
@@ -76,7 +76,7 @@ settings-sound row pad s l r = by-test (row .configurable) refl
         record {
           eight = length-set (withLimits pad s) _ _ ∙ limits-length;
           in-form = rw (getD-set-same (withLimits pad s) 4 kept 0 b) (kept-in-form row (s .configuration));
-          in-range = rw (reading-kept row (withLimits pad s) 4 kept (lit≤ tt), limits-kept) r;
+          in-range = rw (raw-kept row (withLimits pad s) 4 kept (lit≤ tt), limits-kept) r;
         }
     by-test false e = record { eight = limits-length; in-form = asked-none row (getD (withLimits pad s) 4 0) (getD (withLimits pad s) 4 0) e; in-range = rw limits-kept r }
 
@@ -86,20 +86,20 @@ pub after-sound : (row : Properties) (count : Sixteenths) (pad : List ℕ) → i
 after-sound row count pad h p = record {
   eight = after-length row count pad ∙ p .eight;
   in-form = rw (after-other row count pad 4 (lit≤ tt)) (p .in-form);
-  in-range = rw (after-reads row count pad h (p .eight)) (stored-range row count pad h);
+  in-range = rw (after-raw row count pad h (p .eight)) (stored-range row count pad h);
 }
 
 -- the scratchpad that power finds: of every row of the table, eight bytes and a reading in range
 startsSound : Properties → Bool
-startsSound row = eqb (length (row .initial)) 8 && inRange (readingIn row (row .initial))
+startsSound row = eqb (length (row .initial)) 8 && inRange (rawIn row (row .initial))
 
 initial-sound : (code : ℕ) (s : Settings) → PadSound (rowOf code) (withSettings (rowOf code) (rowOf code .initial) s)
 unfolding rowOf all startsSound
 initial-sound code s =
     let row = rowOf code in
     let test : startsSound row ≡ true = every-row startsSound refl (familyOf code) in
-    let eight = and-left (eqb (length (row .initial)) 8) (inRange (readingIn row (row .initial))) test in
-    let in-range = and-right (eqb (length (row .initial)) 8) (inRange (readingIn row (row .initial))) test in
+    let eight = and-left (eqb (length (row .initial)) 8) (inRange (rawIn row (row .initial))) test in
+    let in-range = and-right (eqb (length (row .initial)) 8) (inRange (rawIn row (row .initial))) test in
     settings-sound row (row .initial) s (eqb-true _ 8 eight) in-range
 
 -- ## The device

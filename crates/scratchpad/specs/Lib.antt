@@ -1,4 +1,5 @@
 pub mod Stored
 pub mod StoredLaws
 pub mod Judgement
+pub mod InDegrees
 pub mod Cases

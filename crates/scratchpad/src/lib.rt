@@ -3,8 +3,11 @@
 ghost use mathlib.Core.Path.{_≡_};
 ghost use Rattle.temperature.specs.Register.{registerOf};
 ghost use Rattle.scratchpad.specs.Stored.{readingIn, storedReading, withRegister, scratchpadAfter};
+ghost use Rattle.temperature.specs.Degrees.{IsSixteenths};
+ghost use Rattle.scratchpad.specs.InDegrees.{sixteenthsOf, degreesIn};
 ghost use Rattle.scratchpad.specs.Judgement.{crcRight, allZeros, kindRight, refusedPad, judged};
 use family::Properties;
+use temperature::Degrees;
 use temperature::Reading;
 use temperature::Sixteenths;
 
@@ -17,6 +20,12 @@ pub type NineBytes = [u8; 9];
 pub struct Judged {
     pub refusal: u8,
     pub reading: Reading,
+}
+
+// A refusal, or 0 and the temperature in degrees. A refusal's degrees are zero.
+pub struct DegreesRead {
+    pub refusal: u8,
+    pub degrees: Degrees,
 }
 
 fn refuse(number: u8) -> Judged
@@ -63,7 +72,12 @@ fn reading_in(row: Properties, pad: NineBytes) -> Reading
     ensures answer { λ r. ⌜ r ≡ readingIn row pad ⌝ }
 {
     let unit = row.unit;
-    temperature::reading_of(unit, pad[family::READING_LOW], pad[family::READING_HIGH])
+    temperature::reading_of(
+        unit,
+        pad[family::READING_LOW],
+        pad[family::READING_HIGH],
+        pad[family::CONFIGURATION],
+    )
 }
 
 // Judges a scratchpad of a device of this family.
@@ -87,6 +101,32 @@ pub fn judge(family: u8, pad: NineBytes) -> Judged
     Judged {
         refusal: refusals::ACCEPTED,
         reading,
+    }
+}
+
+// A reading in sixteenths.
+fn sixteenths_of(reading: Reading) -> Sixteenths
+    ensures answer { λ r. ⌜ r ≡ sixteenthsOf reading ⌝ }
+{
+    match reading {
+        Reading::InSixteenths(c) => c,
+        Reading::InHalves(h) => {
+            let converted = temperature::to_sixteenths(h);
+            converted.count
+        }
+    }
+}
+
+// The temperature of a scratchpad in degrees, with nothing lost.
+pub fn degrees_in(family: u8, pad: NineBytes) -> DegreesRead
+    ensures answer { λ r. ⌜ r ≡ degreesIn family pad ⌝ }
+    ensures exact { λ r. ⌜ IsSixteenths (r .degrees .0) (sixteenthsOf (judged family pad .reading) .0) ⌝ }
+{
+    let judged = judge(family, pad);
+    let reading = judged.reading;
+    DegreesRead {
+        refusal: judged.refusal,
+        degrees: temperature::to_degrees(sixteenths_of(reading)),
     }
 }
 

@@ -100,6 +100,11 @@ mul-div (negsuc n) (suc s) h =
     let l : s < suc s = omega arith in
     ap (λ (k : ℕ). floorDiv (negℤ (pos k)) (suc s)) e ∙ ap negsuc (digits-div n l)
 
+-- what is rounded stays as it is
+pub floor-again : (s : ℕ) (z : ℤ) → 0 < s → floorTo s (floorTo s z) ≡ floorTo s z
+unfolding floorTo
+floor-again s z h = ap (λ q. q *ℤ pos s) (mul-div (floorDiv z s) s h)
+
 pub floor-div : (z : ℤ) (s t : ℕ) → 0 < s → floorDiv (floorTo s z) (s * t) ≡ floorDiv z (s * t)
 unfolding floorTo
 floor-div z s t h =

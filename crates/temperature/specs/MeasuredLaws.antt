@@ -1,7 +1,7 @@
 -- What a conversion stores is rounded down to the step of its configuration (by the law of rounding, at any step), stays in range, keeps its whole degree, and is read back.
 -- Assumes nothing.
 use Prim.Native.Nat.{ℕ, _*_, _<_}
-use mathlib.Core.Path.{_≡_, refl, sym}
+use mathlib.Core.Path.{_≡_, refl, sym, ap, _∙_}
 use mathlib.Core.Bool.{Bool, true, false}
 use lib.Dec.{eqb, lit<}
 use Rattle.family.specs.Configuration.{resolution}
@@ -11,12 +11,13 @@ use Rattle.lists.specs.Choice.{if_then_else_}
 use Rattle.signed.specs.Complement.{Fits16}
 use Rattle.signed.specs.ComplementLaws.{floor-fits, div-fits}
 use Rattle.signed.specs.Rounding.{floorTo}
-use Rattle.signed.specs.RoundingLaws.{floor-below, floor-near, floor-div}
-use Rattle.temperature.specs.declared.Reading.the-variants.{InSixteenths}
+use Rattle.signed.specs.RoundingLaws.{floor-below, floor-near, floor-again, floor-div}
+use Rattle.temperature.specs.declared.Reading.{Reading}
+use Rattle.temperature.specs.declared.Reading.the-variants.{InSixteenths, InHalves}
 use Rattle.temperature.specs.declared.Sixteenths.{Sixteenths}
 use Rattle.temperature.specs.RangeLaws.{between-div, between-floor}
 use Rattle.temperature.specs.Range.{highestSixteenths, inRange, lowestSixteenths}
-use Rattle.temperature.specs.Register.{countOf, readingOf, registerOf, unitOf}
+use Rattle.temperature.specs.Register.{countOf, rawReading, clearedOf, readingOf, registerOf, unitOf}
 use Rattle.temperature.specs.RegisterLaws.{reading-register}
 use Rattle.temperature.specs.Units.{_atMost_, _below_, _plus_, _sixteenths, wholeOf}
 use Rattle.temperature.specs.UnitsLaws.{whole-halves}
@@ -96,9 +97,28 @@ pub unit-measured : (unit : Unit) (count : Sixteenths) (configuration : ℕ) →
 unit-measured inSixteenths count configuration = refl
 unit-measured inHalfDegrees count configuration = refl
 
-pub measured-read : (unit : Unit) (count : Sixteenths) (configuration : ℕ) → Fits16 (count .0)
-    → readingOf unit (registerOf (measuredOf unit count configuration) .low) (registerOf (measuredOf unit count configuration) .high)
+-- the sixteen bits as they are stored
+pub measured-raw : (unit : Unit) (count : Sixteenths) (configuration : ℕ) → Fits16 (count .0)
+    → rawReading unit (registerOf (measuredOf unit count configuration) .low) (registerOf (measuredOf unit count configuration) .high)
     ≡ measuredOf unit count configuration
-measured-read unit count configuration f =
+measured-raw unit count configuration f =
     rw (unit-measured unit count configuration) at
     (reading-register (measuredOf unit count configuration) (measured-fits unit count configuration f))
+
+-- what is stored has no undefined bit set
+pub measured-cleared : (unit : Unit) (count : Sixteenths) (configuration : ℕ) → clearedOf (measuredOf unit count configuration) configuration ≡ measuredOf unit count configuration
+measured-cleared inSixteenths count configuration = ap (λ z. InSixteenths (record { 0 = z })) (floor-again (stepOf configuration) (count .0) (step-positive configuration))
+measured-cleared inHalfDegrees count configuration = refl
+
+-- decoded at the configuration at which it was stored, it is read back
+pub measured-read : (unit : Unit) (count : Sixteenths) (configuration : ℕ) → Fits16 (count .0)
+    → readingOf unit (registerOf (measuredOf unit count configuration) .low) (registerOf (measuredOf unit count configuration) .high) configuration
+    ≡ measuredOf unit count configuration
+measured-read unit count configuration f =
+    ap (λ r. clearedOf r configuration) (measured-raw unit count configuration f) ∙ measured-cleared unit count configuration
+
+-- ## A raw reading in range is in range cleared, at any configuration
+
+pub cleared-range : (r : Reading) (configuration : ℕ) → inRange r ≡ true → inRange (clearedOf r configuration) ≡ true
+cleared-range (InSixteenths c) configuration h = measured-range inSixteenths c configuration h
+cleared-range (InHalves x) configuration h = h

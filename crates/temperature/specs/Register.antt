@@ -3,7 +3,10 @@
 --     readingWith unit z         the reading with these values
 --     bytesOf z                  the sixteen bits of a number as two bytes
 --     registerOf r               the two bytes of a reading
---     readingOf unit low high    the reading that two bytes hold, in the unit of the family; all sixteen bits count
+--     rawReading unit low high   the reading that all sixteen bits of two bytes make, in the unit of the family
+--     clearedOf r configuration  a reading without the bits that its configuration leaves undefined: sixteenths are rounded down to the step, half degrees stay
+--     readingOf unit low high configuration
+--                                the reading that two bytes hold: the raw one, cleared
 -- Assumes nothing.
 use Prim.Native.Nat.{ℕ, _+_, _*_, _/_, _%_}
 use lib.IntN.{ℤ}
@@ -13,6 +16,7 @@ use Rattle.signed.specs.Complement.{signed16, bits16}
 use Rattle.temperature.specs.declared.Reading.{Reading}
 use Rattle.temperature.specs.declared.Reading.the-variants.{InSixteenths, InHalves}
 use Rattle.temperature.specs.declared.Register.{Register}
+use Rattle.temperature.specs.Measured.{roundedOf}
 
 abbrev pub unitOf : Reading → Unit
 unitOf (InSixteenths c) = inSixteenths
@@ -32,5 +36,13 @@ bytesOf z = record { low = bits16 z % 256; high = bits16 z / 256 }
 abbrev pub registerOf : Reading → Register
 registerOf r = bytesOf (countOf r)
 
-abbrev pub readingOf : Unit → ℕ → ℕ → Reading
-readingOf unit low high = readingWith unit (signed16 (low + 256 * high))
+abbrev pub rawReading : Unit → ℕ → ℕ → Reading
+rawReading unit low high = readingWith unit (signed16 (low + 256 * high))
+
+-- below the step of nine bits are bits 0 to 2, of ten bits 0 and 1, of eleven bit 0; the makers call them undefined
+abbrev pub clearedOf : Reading → ℕ → Reading
+clearedOf (InSixteenths c) configuration = InSixteenths (roundedOf c configuration)
+clearedOf (InHalves h) configuration = InHalves h
+
+abbrev pub readingOf : Unit → ℕ → ℕ → ℕ → Reading
+readingOf unit low high configuration = clearedOf (rawReading unit low high) configuration

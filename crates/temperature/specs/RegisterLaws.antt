@@ -1,4 +1,4 @@
--- A reading is settled by its unit and count; a reading goes to its two bytes and back, and two bytes to their reading and back: `reading-register` and `register-reading`.
+-- A reading is settled by its unit and count; a reading goes to its two bytes and back, and two bytes to their raw reading and back: `reading-register` and `register-reading`.
 -- Assumes nothing.
 use Prim.Native.Nat.{ℕ, _+_, _*_, _/_, _%_, _<_}
 use mathlib.Core.Path.{_≡_, refl}
@@ -10,7 +10,7 @@ use Rattle.signed.specs.Complement.{Fits16, signed16, bits16}
 use Rattle.signed.specs.ComplementLaws.{signed-bits, bits-signed}
 use Rattle.temperature.specs.declared.Reading.{Reading}
 use Rattle.temperature.specs.declared.Reading.the-variants.{InSixteenths, InHalves}
-use Rattle.temperature.specs.Register.{unitOf, countOf, readingWith, bytesOf, registerOf, readingOf}
+use Rattle.temperature.specs.Register.{unitOf, countOf, readingWith, bytesOf, registerOf, rawReading}
 
 -- ## A reading and its values
 
@@ -32,11 +32,11 @@ count-with inHalfDegrees z = refl
 bits-joined : (z : ℤ) → bytesOf z .low + 256 * bytesOf z .high ≡ bits16 z
 bits-joined z = let n = bits16 z in omega arith
 
-pub reading-register : (r : Reading) → Fits16 (countOf r) → readingOf (unitOf r) (registerOf r .low) (registerOf r .high) ≡ r
+pub reading-register : (r : Reading) → Fits16 (countOf r) → rawReading (unitOf r) (registerOf r .low) (registerOf r .high) ≡ r
 reading-register r f = rw (bits-joined (countOf r), signed-bits (countOf r) f) (reading-values r)
 
 pub register-reading : (unit : Unit) (low high : ℕ) → low < 256 → high < 256
-    → registerOf (readingOf unit low high) ≡ record { low = low; high = high }
+    → registerOf (rawReading unit low high) ≡ record { low = low; high = high }
 register-reading unit low high h k =
     let b : low + 256 * high < 65536 = omega arith in
     let l : (low + 256 * high) % 256 ≡ low = omega arith in

@@ -269,13 +269,14 @@ pub fn register_of(r: Reading) -> Register
     }
 }
 
-// The reading that two bytes of the scratchpad hold. All sixteen bits count at every configuration.
-pub fn reading_of(unit: Unit, low: u8, high: u8) -> Reading
-    ensures answer { λ r. ⌜ r ≡ readingOf unit low high ⌝ }
+// The reading that two bytes of the scratchpad hold, without the bits that the configuration leaves
+// undefined. Any configuration byte is taken: its bits 6 and 5 count.
+pub fn reading_of(unit: Unit, low: u8, high: u8, configuration: u8) -> Reading
+    ensures answer { λ r. ⌜ r ≡ readingOf unit low high configuration ⌝ }
 {
     let z = signed_of((low as u16) + 256 * (high as u16));
     match unit {
-        Unit::Sixteenths => Reading::InSixteenths(Sixteenths(z)),
+        Unit::Sixteenths => Reading::InSixteenths(rounded(Sixteenths(z), configuration)),
         Unit::HalfDegrees => Reading::InHalves(HalfDegrees(z)),
     }
 }
