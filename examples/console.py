@@ -4,7 +4,7 @@ the bytes beside the ones written. Start it from anywhere. It prints
 
     on the wire: FB00000000000010 1E00000000000028
     alarming: 1E00000000000028
-    scratchpad after the write: 910120F01FFF0C1008 reading: 0191
+    scratchpad after the write: 910120F01FFF0C1008 reading: 0190
     limits and configuration: 20F01F between 9101 and FF0C1008
 
 `./run bench_console` builds the console where that is needed; `examples/console.py target/bin/bench_console` takes

@@ -103,7 +103,8 @@ fn pad_reading(f: &Frame) -> Result<(u64, u16), u8> {
     }
     let raw = u16::from_le_bytes([pad[0], pad[1]]);
     let (low, high) = if family == 0x28 { (-880, 2000) } else { (-110, 250) };
-    let reading = raw as i16;
+    let undefined = if family == 0x28 { 7 >> (pad[4] >> 5 & 3) } else { 0 };
+    let reading = raw as i16 & !undefined;
     if reading < low || reading > high {
         return Err(11);
     }

@@ -26,10 +26,10 @@ fn call(bench: &mut Bench, text: &str) -> Option<Vec<String>> {
         ["converted", code, count] => refusal(bench.converted(hex(code, 16)?, signed(count)?)),
         ["copied", code] => refusal(bench.copied(hex(code, 16)?)),
         ["cycle", code] => refusal(bench.cycle(hex(code, 16)?)),
-        ["read", code] => access(master::read(bench, hex(code, 16)?)),
+        ["read", code] => access(hex(code, 16)?, master::read(bench, hex(code, 16)?)),
         ["write", code, high, low, configuration] => {
             let asked = settings(high, low, configuration)?;
-            access(master::write(bench, hex(code, 16)?, asked))
+            access(hex(code, 16)?, master::write(bench, hex(code, 16)?, asked))
         }
         ["show", code] => show(bench, hex(code, 16)?),
         ["why", code] => why(bench, hex(code, 16)?),
@@ -103,12 +103,23 @@ fn digits(bytes: &[u8]) -> String {
     bytes.iter().map(|b| format!("{b:02X}")).collect()
 }
 
-fn access(answer: Answer<[u8; 9]>) -> String {
+/// The sixteen bits of the reading, without those that B's resolution leaves undefined.
+fn reading(code: u64, pad: &[u8; 9]) -> u16 {
+    let raw = u16::from_le_bytes([pad[0], pad[1]]);
+    match (code as u8, pad[4] >> 5 & 3) {
+        (0x28, 0) => raw & 0xFFF8,
+        (0x28, 1) => raw & 0xFFFC,
+        (0x28, 2) => raw & 0xFFFE,
+        _ => raw,
+    }
+}
+
+fn access(code: u64, answer: Answer<[u8; 9]>) -> String {
     let (number, pad) = match answer {
         Ok(pad) => (0, pad),
         Err(number) => (number, [0; 9]),
     };
-    format!("{number} {} {:02X}{:02X}", digits(&pad), pad[1], pad[0])
+    format!("{number} {} {:04X}", digits(&pad), reading(code, &pad))
 }
 
 fn found(answer: Answer<Found>) -> Vec<String> {

@@ -137,8 +137,12 @@ fn name_pad(bits: &[bool]) -> Verdict {
         return Verdict::Refused(7);
     }
     let raw = i16::from_le_bytes([pad[0], pad[1]]);
-    let in_range = match family {
-        0x10 => (-110..=250).contains(&raw),
+    // Of B the bits below the resolution are undefined, and are cleared for the test; printed they are as they stand.
+    let in_range = match (family, pad[4] >> 5 & 3) {
+        (0x10, _) => (-110..=250).contains(&raw),
+        (_, 0) => (-880..=2000).contains(&(raw & !7)),
+        (_, 1) => (-880..=2000).contains(&(raw & !3)),
+        (_, 2) => (-880..=2000).contains(&(raw & !1)),
         _ => (-880..=2000).contains(&raw),
     };
     if !in_range {

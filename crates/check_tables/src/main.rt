@@ -28,6 +28,7 @@ fn count_of(above: u16) -> Sixteenths {
         Unit::Sixteenths,
         (bits % 256) as u8,
         (bits / 256 % 256) as u8,
+        BITS_12,
     );
     match read {
         Reading::InSixteenths(c) => c,
@@ -54,7 +55,7 @@ fn say_stored(unit: Unit, count: Sixteenths, configuration: u8) {
     say(b" ");
     io::print_hex(STDOUT_FILENO, bits_of(register) as u64, 4);
     say(b" ");
-    match temperature::reading_of(unit, register.low, register.high) {
+    match temperature::reading_of(unit, register.low, register.high, configuration) {
         Reading::InSixteenths(c) => say_number(c.0),
         Reading::InHalves(h) => say_number(h.0),
     }
