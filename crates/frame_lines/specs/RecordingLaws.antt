@@ -15,12 +15,13 @@ use lib.ListN.{length, take, drop, length-append, length-drop}
 use lib.Seq.{drop-drop, drop-at, length-take-le}
 use Rattle.lists.specs.Choice.{if_then_else_}
 use Rattle.lists.specs.ChoiceLaws.{and-left, and-right}
+use Rattle.lists.specs.FirstLaws.{at-within}
 use Rattle.lists.specs.Fold.{all}
 use Rattle.lists.specs.Laid.{laid}
 use Rattle.lists.specs.LaidLaws.{laid-none, laid-more, laid-length, laid-read}
 use Rattle.text.specs.Digits.{isDigit, spells}
 use Rattle.text.specs.Lines.{Line, lineFeed, notFeed, linesOf, linesBytes, feedAt, firstLine, width}
-use Rattle.text.specs.LinesLaws.{feed-within, lines-bytes, lines-cut, lines-next, lines-done}
+use Rattle.text.specs.LinesLaws.{lines-bytes, lines-cut, lines-next, lines-done}
 use Rattle.laying.specs.LayingLaws.{lay-fits}
 use Rattle.frame.specs.declared.Frame.{Frame}
 use Rattle.frame_lines.specs.ReadLine.{carries, readLine, lineReadAt, firstFound, found, done, answerOf}
@@ -92,14 +93,14 @@ module _ (s : List ℕ) (at : ℕ) where
           let w : n < length t = rw (length-drop at s) (omega arith) in
           let d : e - at ≡ n = omega arith in
           let z : at + (n + 1) ≡ e + 1 = omega arith in
-          rw (lt-ltb n (length t) w, length-take-le n t (feed-within t), d, z)
+          rw (lt-ltb n (length t) w, length-take-le n t (at-within lineFeed t), d, z)
       by-test false p =
           let m = ltb-false e (length s) p in
           let t = drop at s in
           let n = feedAt t in
           let w : length t ≤ n = rw (length-drop at s) (omega arith) in
           let d : e - at ≡ n = omega arith in
-          rw (le-ltb n (length t) w, length-take-le n t (feed-within t), d, k)
+          rw (le-ltb n (length t) w, length-take-le n t (at-within lineFeed t), d, k)
 
 -- ## Call after call
 

@@ -1,19 +1,23 @@
 -- The first element that passes a test, and whether all pass, as a loop with an early return finds it: what is left to look at from place i on.
 --     onward i n l             what is left to look at from place i, of the first n
 --     first-hit, first-miss, first-skip, first-end           one turn of a loop that looks for the first
+--     at-within, at-here, at-on, at-end                      how many stand before the first that is v, and one turn of a loop that looks for it
 --     all-onward, all-stopped, all-skip, all-passed          one turn of a loop that returns at the first that fails
 -- Assumes nothing.
 use Prim.Native.Nat.{ℕ, suc, _+_, _<_, _≤_}
 use mathlib.Core.Path.{_≡_, sym, ap, _∙_}
 use mathlib.Core.Bool.{Bool, true, false}
-use mathlib.Core.List.{List, _∷_}
+use mathlib.Core.List.{List, [], _∷_}
 use native.Mathlib.Omega.{arith}
 use native.Mathlib.Numerals.{add-one}
+use borrow.Author.Tests.{eq-eqb, ne-eqb}
+use lib.Dec.{eqb}
 use lib.ListN.{length, take, drop, getD, length-take, drop-of-length-le}
 use lib.Seq.{drop-cons, getD-take}
+use Rattle.lists.specs.Choice.{if_then_else_}
 use Rattle.lists.specs.Fold.{all}
 use Rattle.lists.specs.FoldLaws.{all-passes, all-fails, all-end}
-use Rattle.lists.specs.First.{firstWith}
+use Rattle.lists.specs.First.{firstWith, firstAt}
 
 abbrev pub onward : {A : Type 0} → ℕ → ℕ → List A → List A
 onward i n l = drop i (take n l)
@@ -65,3 +69,28 @@ module _ {A : Type 0} (p : A → Bool) (i n : ℕ) (l : List A) where
 
   pub all-passed : length l ≤ i → all p (onward i n l) ≡ true
   all-passed h = let a : length (take n l) ≤ i = simp length-take (omega arith) in all-end p (take n l) i a
+
+-- ## Before the first that is v
+
+pub at-within : (v : ℕ) (l : List ℕ) → firstAt v l ≤ length l
+unfolding firstAt
+at-within v [] = omega arith
+at-within v (c ∷ l) = by-test (eqb c v) (at-within v l)
+  where
+    by-test : (t : Bool) → firstAt v l ≤ length l → (if t then 0 else suc (firstAt v l)) ≤ suc (length l)
+    by-test true h = omega arith
+    by-test false h = omega arith
+
+-- as a loop finds it from place i on
+module _ (v : ℕ) (l : List ℕ) (i : ℕ) where
+  pub at-here : i < length l → getD l i 0 ≡ v → i + firstAt v (drop i l) ≡ i
+  unfolding firstAt
+  at-here h e = rw (drop-cons l i 0 h, eq-eqb (getD l i 0) v e) (omega arith)
+
+  pub at-on : i < length l → (getD l i 0 ≡ v → ⊥) → i + firstAt v (drop i l) ≡ i + 1 + firstAt v (drop (i + 1) l)
+  unfolding firstAt
+  at-on h e = rw (drop-cons l i 0 h, ne-eqb (getD l i 0) v e, add-one i) (omega arith)
+
+  pub at-end : length l ≤ i → i + firstAt v (drop i l) ≡ i
+  unfolding firstAt
+  at-end h = rw (drop-of-length-le l h) (omega arith)

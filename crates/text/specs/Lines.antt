@@ -15,6 +15,7 @@ use mathlib.Core.List.{List, [], _∷_, _++_}
 use lib.Dec.{eqb, ltb}
 use lib.ListN.{length, take}
 use Rattle.lists.specs.Choice.{if_then_else_}
+use Rattle.lists.specs.First.{firstAt}
 
 -- the character that ends a line
 abbrev pub lineFeed : ℕ
@@ -49,9 +50,8 @@ abbrev pub width : Line → ℕ
 width l = if l .fed then length (l .chars) + 1 else length (l .chars)
 
 -- how many bytes stand before the first feed; all where there is none
-unfoldable pub feedAt : List ℕ → ℕ
-feedAt [] = 0
-feedAt (c ∷ s) = if eqb c lineFeed then 0 else suc (feedAt s)
+abbrev pub feedAt : List ℕ → ℕ
+feedAt s = firstAt lineFeed s
 
 -- whether a character is no line feed
 abbrev pub notFeed : ℕ → Bool

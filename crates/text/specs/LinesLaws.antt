@@ -18,32 +18,13 @@ use lib.Seq.{drop-cons, drop-drop, take-all, length-take-le}
 use Rattle.lists.specs.Choice.{if_then_else_}
 use Rattle.lists.specs.Fold.{all}
 use Rattle.lists.specs.ChoiceLaws.{and-left, and-right}
+use Rattle.lists.specs.First.{firstAt}
+use Rattle.lists.specs.FirstLaws.{at-within}
 use Rattle.text.specs.Lines.{lineFeed, Line, longer, linesOf, feedAt, notFeed, width, firstLine, linesBytes}
-
-pub feed-within : (s : List ℕ) → feedAt s ≤ length s
-unfolding feedAt
-feed-within [] = omega arith
-feed-within (c ∷ s) = by-test (eqb c lineFeed) (feed-within s)
-  where
-    by-test : (t : Bool) → feedAt s ≤ length s → (if t then 0 else suc (feedAt s)) ≤ suc (length s)
-    by-test true h = omega arith
-    by-test false h = omega arith
-
-pub feed-here : (s : List ℕ) (i : ℕ) → i < length s → getD s i 0 ≡ lineFeed → i + feedAt (drop i s) ≡ i
-unfolding feedAt
-feed-here s i h e = rw (drop-cons s i 0 h, eq-eqb (getD s i 0) lineFeed e) (omega arith)
-
-pub feed-on : (s : List ℕ) (i : ℕ) → i < length s → (getD s i 0 ≡ lineFeed → ⊥) → i + feedAt (drop i s) ≡ i + 1 + feedAt (drop (i + 1) s)
-unfolding feedAt
-feed-on s i h e = rw (drop-cons s i 0 h, ne-eqb (getD s i 0) lineFeed e, add-one i) (omega arith)
-
-pub feed-end : (s : List ℕ) (i : ℕ) → length s ≤ i → i + feedAt (drop i s) ≡ i
-unfolding feedAt
-feed-end s i h = rw (drop-of-length-le s h) (omega arith)
 
 -- the first line, and those of what follows its feed
 pub lines-first : (c : ℕ) (s : List ℕ) → linesOf (c ∷ s) ≡ firstLine (c ∷ s) ∷ linesOf (drop (feedAt (c ∷ s) + 1) (c ∷ s))
-unfolding linesOf feedAt
+unfolding linesOf firstAt
 lines-first c [] = by-test (eqb c lineFeed)
   where
     by-test : (t : Bool)
@@ -104,11 +85,11 @@ lines-split (c ∷ r) h =
   where
     past-first : (t : List ℕ) (u : Bool) → ltb (feedAt t) (length t) ≡ u
         → drop (feedAt t + 1) t ≡ drop (if u then length (take (feedAt t) t) + 1 else length (take (feedAt t) t)) t
-    past-first t true e = rw (length-take-le (feedAt t) t (feed-within t))
+    past-first t true e = rw (length-take-le (feedAt t) t (at-within lineFeed t))
     past-first t false e =
         let k : length t ≤ feedAt t = ltb-false (feedAt t) (length t) e in
         let m : length t ≤ feedAt t + 1 = omega arith in
-        rw (length-take-le (feedAt t) t (feed-within t)) (drop-of-length-le t m ∙ sym (drop-of-length-le t k))
+        rw (length-take-le (feedAt t) t (at-within lineFeed t)) (drop-of-length-le t m ∙ sym (drop-of-length-le t k))
 
 module _ (s : List ℕ) (at : ℕ) where
   pub lines-done : length s ≤ at → linesOf (drop at s) ≡ []
@@ -127,7 +108,7 @@ module _ (s : List ℕ) (at e : ℕ) (before : at < length s) (ends : at + feedA
   first-length = omega arith
 
   pub first-size : length (take (e - at) (drop at s)) ≡ e - at
-  first-size = let w = feed-within (drop at s) in let l = first-length in length-take-le (e - at) (drop at s) (omega arith)
+  first-size = let w = at-within lineFeed (drop at s) in let l = first-length in length-take-le (e - at) (drop at s) (omega arith)
 
   pub lines-fed : e < length s → linesOf (drop at s) ≡ record { chars = take (e - at) (drop at s); fed = true } ∷ linesOf (drop (e + 1) s)
   lines-fed h =
@@ -145,7 +126,7 @@ module _ (s : List ℕ) (at e : ℕ) (before : at < length s) (ends : at + feedA
   lines-open h =
       let t = drop at s in
       let d = length-drop at s in
-      let w = feed-within t in
+      let w = at-within lineFeed t in
       let k : length t ≤ e - at = omega arith in
       let f : firstLine t ≡ record { chars = t; fed = false } = rw (first-length, le-ltb (e - at) (length t) k, take-all (e - at) t k) in
       let n : length s ≤ at + length t = omega arith in

@@ -12,6 +12,7 @@ use mathlib.Core.List.{List, [], _∷_}
 use lib.Dec.{eqb}
 use lib.ListN.{getD}
 use Rattle.lists.specs.Choice.{if_then_else_}
+use Rattle.lists.specs.First.{firstAt}
 
 -- the character between two words
 abbrev pub space : ℕ
@@ -39,9 +40,8 @@ same (x ∷ v) [] = false
 same (x ∷ v) (y ∷ w) = eqb x y && same v w
 
 -- how many characters stand before the first space; all where there is none
-unfoldable pub spaceAt : List ℕ → ℕ
-spaceAt [] = 0
-spaceAt (c ∷ s) = if eqb c space then 0 else suc (spaceAt s)
+abbrev pub spaceAt : List ℕ → ℕ
+spaceAt s = firstAt space s
 
 -- how many words a character ends: a space ends one
 abbrev pub wordsEnded : ℕ → ℕ

@@ -11,23 +11,10 @@ use lib.Dec.{eqb}
 use lib.ListN.{length, take, drop, getD, drop-of-length-le, length-drop, List·getD-eq-default}
 use lib.Seq.{drop-cons, drop-drop, getD-drop}
 use Rattle.lists.specs.Choice.{if_then_else_}
+use Rattle.lists.specs.First.{firstAt}
+use Rattle.lists.specs.FirstLaws.{at-within}
 use Rattle.lists.specs.ChoiceLaws.{and-left, and-right}
 use Rattle.words.specs.Words.{space, lengthened, wordsOf, wordOf, same, spaceAt, wordsEnded}
-
--- ## The place of a space, as a loop finds it
-
-module _ (s : List ℕ) (i : ℕ) where
-  pub space-here : i < length s → getD s i 0 ≡ space → i + spaceAt (drop i s) ≡ i
-  unfolding spaceAt
-  space-here h e = rw (drop-cons s i 0 h, eq-eqb (getD s i 0) space e) (omega arith)
-
-  pub space-on : i < length s → (getD s i 0 ≡ space → ⊥) → i + spaceAt (drop i s) ≡ i + 1 + spaceAt (drop (i + 1) s)
-  unfolding spaceAt
-  space-on h e = rw (drop-cons s i 0 h, ne-eqb (getD s i 0) space e, add-one i) (omega arith)
-
-  pub space-end : length s ≤ i → i + spaceAt (drop i s) ≡ i
-  unfolding spaceAt
-  space-end h = rw (drop-of-length-le s h) (omega arith)
 
 -- ## How many words there are, as a loop counts them
 
@@ -68,17 +55,8 @@ module _ (s : List ℕ) (i : ℕ) where
 
 -- ## The first word, and the others
 
-pub space-within : (s : List ℕ) → spaceAt s ≤ length s
-unfolding spaceAt
-space-within [] = omega arith
-space-within (c ∷ s) = by-test (eqb c space) (space-within s)
-  where
-    by-test : (t : Bool) → spaceAt s ≤ length s → (if t then 0 else suc (spaceAt s)) ≤ suc (length s)
-    by-test true h = omega arith
-    by-test false h = omega arith
-
 pub words-first : (s : List ℕ) → getD (wordsOf s) 0 [] ≡ take (spaceAt s) s
-unfolding wordsOf spaceAt
+unfolding wordsOf firstAt
 words-first [] = refl
 words-first (c ∷ s) = by-test (eqb c space) (words-first s)
   where
@@ -93,7 +71,7 @@ words-first (c ∷ s) = by-test (eqb c space) (words-first s)
 
 -- where there is a second word, the first ends at a space, and the others are the words behind it
 pub words-rest : (s : List ℕ) → 1 < length (wordsOf s) → (spaceAt s < length s) × (wordsOf (drop (spaceAt s + 1) s) ≡ drop 1 (wordsOf s))
-unfolding wordsOf spaceAt
+unfolding wordsOf firstAt
 words-rest [] h = absurd (omega arith)
 words-rest (c ∷ s) h = by-test (eqb c space) (λ k. words-rest s k) h
   where

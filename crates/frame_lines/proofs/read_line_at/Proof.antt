@@ -5,7 +5,8 @@ use native.Mathlib.Omega.{arith}
 use borrow.Author.Tests.{lt-ltb, le-ltb}
 use denote.Ref.{now}
 use lib.ListN.{length, drop, length-drop}
-use Rattle.text.specs.LinesLaws.{feed-within}
+use Rattle.lists.specs.FirstLaws.{at-within}
+use Rattle.text.specs.Lines.{lineFeed}
 use Rattle.frame_lines.specs.RecordingLaws.{read-done, read-first}
 use borrow.Author.Needs.{needs}
 use Rattle.frame_lines.proofs.read_line_at.Statement.{statement}
@@ -15,7 +16,7 @@ use Rattle.frame_lines.proofs.read_line_at.Tie as tie
 within : (c : tie.After-line-end) → c .line-end .result ≤ length (now (c .before .before .before .args .s))
 within c =
     let a = c .before .before .before .args in
-    let f = feed-within (drop (a .at) (now (a .s))) in
+    let f = at-within lineFeed (drop (a .at) (now (a .s))) in
     let l = length-drop (a .at) (now (a .s)) in
     let e = c .line-end .ensures in
     let h = c .before .if1 .left in

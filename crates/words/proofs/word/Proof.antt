@@ -3,8 +3,9 @@ use denote.Ref.{now}
 use native.Mathlib.Omega.{arith}
 use lib.ListN.{drop, length-drop}
 use mathlib.Core.Path.{refl}
-use Rattle.words.specs.Words.{wordsOf}
-use Rattle.words.specs.WordsLaws.{space-within, word-here, word-past}
+use Rattle.words.specs.Words.{space, wordsOf}
+use Rattle.words.specs.WordsLaws.{word-here, word-past}
+use Rattle.lists.specs.FirstLaws.{at-within}
 use borrow.Author.Needs.{needs}
 use Rattle.words.proofs.word.Statement.{statement}
 use Rattle.words.proofs.word.Tie as tie
@@ -45,7 +46,7 @@ part-result-end-2 c =
     let s = c .before .start-of in
     let line = now (c .before .before .before .before .before .args .line) in
     let from = s .result in
-    let w = space-within (drop from line) in
+    let w = at-within space (drop from line) in
     let e = c .word-end .ensures in
     let l = length-drop from line in
     let f = s .ensures .0 in

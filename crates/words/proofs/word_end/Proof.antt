@@ -4,8 +4,8 @@ use Prim.Native.Nat.{_+_, _≤_, _-_}
 use mathlib.Core.Path.{_≡_, refl, sym, _∙_}
 use native.Mathlib.Omega.{arith}
 use lib.ListN.{length, drop}
-use Rattle.words.specs.Words.{spaceAt}
-use Rattle.words.specs.WordsLaws.{space-here, space-on, space-end}
+use Rattle.words.specs.Words.{space, spaceAt}
+use Rattle.lists.specs.FirstLaws.{at-here, at-on, at-end}
 use borrow.Author.Needs.{needs}
 use Rattle.words.proofs.word_end.Statement.{statement}
 use Rattle.words.proofs.word_end.Tie as tie
@@ -25,7 +25,7 @@ shared-slice-read-if1 c = search needs
 returns : tie.Need-returns Inv-loop μ-loop
 returns c =
     let l = c .before .before .before in
-    sym (space-here (now (l .before .args .line)) (l .loop .i) (c .before .before .loop-test .taken) (c .if1 .taken)) ∙ l .loop .inv .1
+    sym (at-here space (now (l .before .args .line)) (l .loop .i) (c .before .before .loop-test .taken) (c .if1 .taken)) ∙ l .loop .inv .1
 
 add-i : tie.Need-add-i Inv-loop μ-loop
 add-i c = search needs
@@ -37,13 +37,13 @@ loop-again : tie.Need-loop-again Inv-loop μ-loop
 loop-again c =
     let l = c .before .before .before in (
       omega arith,
-      sym (space-on (now (l .before .args .line)) (l .loop .i) (c .before .before .loop-test .taken) (c .if1 .left)) ∙ l .loop .inv .1,
+      sym (at-on space (now (l .before .args .line)) (l .loop .i) (c .before .before .loop-test .taken) (c .if1 .left)) ∙ l .loop .inv .1,
     )
 
 returns-2 : tie.Need-returns-2 Inv-loop μ-loop
 returns-2 c =
     let l = c .before in
-    sym (space-end (now (l .before .args .line)) (l .loop .i) (c .loop-test .left)) ∙ l .loop .inv .1
+    sym (at-end space (now (l .before .args .line)) (l .loop .i) (c .loop-test .left)) ∙ l .loop .inv .1
 
 pub word-end-spec : {M : Type 1} → statement M
 word-end-spec =

@@ -3,8 +3,8 @@ use denote.Ref.{now}
 use Prim.Native.Nat.{_+_, _-_}
 use mathlib.Core.Path.{_≡_, refl, sym, _∙_}
 use lib.ListN.{length, drop}
-use Rattle.text.specs.Lines.{feedAt}
-use Rattle.text.specs.LinesLaws.{feed-here, feed-on, feed-end}
+use Rattle.text.specs.Lines.{lineFeed, feedAt}
+use Rattle.lists.specs.FirstLaws.{at-here, at-on, at-end}
 use borrow.Author.Needs.{needs}
 use Rattle.text.proofs.lines.line_end.Statement.{statement}
 use Rattle.text.proofs.lines.line_end.Tie as tie
@@ -24,7 +24,7 @@ shared-slice-read-if1 c = search needs
 returns : tie.Need-returns Inv-loop μ-loop
 returns c =
     let l = c .before .before .before in
-    sym (feed-here (now (l .before .args .s)) (l .loop .i) (c .before .before .loop-test .taken) (c .if1 .taken)) ∙ l .loop .inv
+    sym (at-here lineFeed (now (l .before .args .s)) (l .loop .i) (c .before .before .loop-test .taken) (c .if1 .taken)) ∙ l .loop .inv
 
 add-i : tie.Need-add-i Inv-loop μ-loop
 add-i c = search needs
@@ -35,12 +35,12 @@ loop-less c = search needs
 loop-again : tie.Need-loop-again Inv-loop μ-loop
 loop-again c =
     let l = c .before .before .before in
-    sym (feed-on (now (l .before .args .s)) (l .loop .i) (c .before .before .loop-test .taken) (c .if1 .left)) ∙ l .loop .inv
+    sym (at-on lineFeed (now (l .before .args .s)) (l .loop .i) (c .before .before .loop-test .taken) (c .if1 .left)) ∙ l .loop .inv
 
 returns-2 : tie.Need-returns-2 Inv-loop μ-loop
 returns-2 c =
     let l = c .before in
-    sym (feed-end (now (l .before .args .s)) (l .loop .i) (c .loop-test .left)) ∙ l .loop .inv
+    sym (at-end lineFeed (now (l .before .args .s)) (l .loop .i) (c .loop-test .left)) ∙ l .loop .inv
 
 pub line-end-spec : {M : Type 1} → statement M
 line-end-spec =
