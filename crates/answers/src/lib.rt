@@ -1,10 +1,8 @@
 // The lines that answer the calls of the bench console, laid at a place of a buffer.
 ghost use mathlib.Core.Path.{_≡_};
-ghost use Rattle.refusals.specs.Refusals.{accepted, noRoom};
 ghost use Rattle.answers.specs.Answers.{badLine, refusalLine, bitLine, searchLine, codeLine, accessLine, recordLine, showLine};
 ghost use Rattle.answers.specs.Answers.{busyDigit};
-ghost use Rattle.putting.specs.Putting.{fieldNext, fieldLeaves, lineAnswer, lineLeaves};
-ghost use Rattle.putting.specs.PuttingLaws.{Puts};
+ghost use Rattle.putting.specs.Putting.{Puts, fieldNext, fieldLeaves, lineAnswer, lineLeaves};
 ghost use mathlib.Core.List.{[], _∷_};
 use bench::Looked;
 use device::Activity;
@@ -12,6 +10,8 @@ use device::Settings;
 use laying::Written;
 use putting::LINE_ROOM;
 use putting::SPACE;
+use putting::behind;
+use putting::no_room;
 use putting::put_bytes;
 use putting::put_char;
 use putting::put_digits;
@@ -24,24 +24,6 @@ use text::LINE_FEED;
 pub type Pad = [u8; 9];
 
 pub type Scratchpad = [u8; 8];
-
-fn no_room() -> Written
-    ensures { λ r. ⌜ r ≡ record { refusal = noRoom; next = 0 } ⌝ }
-{
-    Written {
-        refusal: refusals::NO_ROOM,
-        next: 0,
-    }
-}
-
-fn behind(next: usize) -> Written
-    ensures { λ r. ⌜ r ≡ record { refusal = accepted; next = next } ⌝ }
-{
-    Written {
-        refusal: refusals::ACCEPTED,
-        next,
-    }
-}
 
 fn put_bad(out: &mut [u8], at: usize) -> usize
     ensures { λ r. ⌜ Puts (now (out .entry)) at badLine (now (out .exit)) r ⌝ }

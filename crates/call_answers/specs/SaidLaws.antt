@@ -1,7 +1,7 @@
 -- An answer of one line is said as its line is laid, and its text is within a line's room.
 -- Assumes nothing.
 use Prim.Native.Nat.{ℕ, _+_, _≤_}
-use mathlib.Core.Path.{_≡_, refl, ap, _∙_}
+use mathlib.Core.Path.{_≡_, refl, ap}
 use mathlib.Core.Bool.{Bool, true, false}
 use mathlib.Core.List.{List}
 use native.Mathlib.Omega.{arith}
@@ -11,7 +11,6 @@ use Rattle.laying.specs.declared.Written.{Written}
 use Rattle.bench.specs.declared.Bench.{Bench}
 use Rattle.putting.specs.Putting.{lineRoom, lineAnswer}
 use Rattle.call_answers.specs.Said.{says, lineSaid}
-use Rattle.call_answers.specs.declared.Said.{Said}
 
 module _ (d x : List ℕ) (w : Written) (b : Bench) (answer : w ≡ lineAnswer d 0 x) where
   pub said-so : record { refusal = w .refusal; count = w .next; bench = b } ≡ lineSaid (says x b) d

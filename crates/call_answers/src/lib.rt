@@ -25,7 +25,7 @@ pub struct Said {
 pub fn bad(bench: Bench, out: &mut [u8]) -> Said
     ensures answer { λ r. ⌜ r ≡ lineSaid (says badLine bench) (now (out .entry)) ⌝ }
     ensures written { λ r. ⌜ now (out .exit) ≡ lineLeft (says badLine bench) (now (out .entry)) ⌝ }
-    ensures kept { λ r. ⌜ r .count ≤ lineRoom ⌝ }
+    ensures fits { λ r. ⌜ r .count ≤ lineRoom ⌝ }
 {
     let w = answers::bad_line(out, 0);
     Said {
@@ -39,7 +39,7 @@ pub fn bad(bench: Bench, out: &mut [u8]) -> Said
 pub fn change(done: Changed, out: &mut [u8]) -> Said
     ensures answer { λ r. ⌜ r ≡ lineSaid (ofChange done) (now (out .entry)) ⌝ }
     ensures written { λ r. ⌜ now (out .exit) ≡ lineLeft (ofChange done) (now (out .entry)) ⌝ }
-    ensures kept { λ r. ⌜ r .count ≤ lineRoom ⌝ }
+    ensures fits { λ r. ⌜ r .count ≤ lineRoom ⌝ }
 {
     let bench = done.bench;
     let w = answers::refusal_line(out, 0, done.refusal);
@@ -53,7 +53,7 @@ pub fn change(done: Changed, out: &mut [u8]) -> Said
 pub fn reset(done: ResetDone, out: &mut [u8]) -> Said
     ensures answer { λ r. ⌜ r ≡ lineSaid (ofReset done) (now (out .entry)) ⌝ }
     ensures written { λ r. ⌜ now (out .exit) ≡ lineLeft (ofReset done) (now (out .entry)) ⌝ }
-    ensures kept { λ r. ⌜ r .count ≤ lineRoom ⌝ }
+    ensures fits { λ r. ⌜ r .count ≤ lineRoom ⌝ }
 {
     let bench = done.bench;
     let w = answers::bit_line(out, 0, done.refusal, done.presence);
@@ -67,7 +67,7 @@ pub fn reset(done: ResetDone, out: &mut [u8]) -> Said
 pub fn slot(done: Slotted, out: &mut [u8]) -> Said
     ensures answer { λ r. ⌜ r ≡ lineSaid (ofSlot done) (now (out .entry)) ⌝ }
     ensures written { λ r. ⌜ now (out .exit) ≡ lineLeft (ofSlot done) (now (out .entry)) ⌝ }
-    ensures kept { λ r. ⌜ r .count ≤ lineRoom ⌝ }
+    ensures fits { λ r. ⌜ r .count ≤ lineRoom ⌝ }
 {
     let bench = done.bench;
     let w = answers::bit_line(out, 0, done.refusal, done.line);
@@ -82,7 +82,7 @@ pub fn slot(done: Slotted, out: &mut [u8]) -> Said
 pub fn access(done: Access, out: &mut [u8]) -> Said
     ensures answer { λ r. ⌜ r ≡ lineSaid (ofAccess done) (now (out .entry)) ⌝ }
     ensures written { λ r. ⌜ now (out .exit) ≡ lineLeft (ofAccess done) (now (out .entry)) ⌝ }
-    ensures kept { λ r. ⌜ r .count ≤ lineRoom ⌝ }
+    ensures fits { λ r. ⌜ r .count ≤ lineRoom ⌝ }
 {
     let bench = done.bench;
     let pad = done.pad;
@@ -99,7 +99,7 @@ pub fn access(done: Access, out: &mut [u8]) -> Said
 pub fn device(bench: Bench, looked: Looked, out: &mut [u8]) -> Said
     ensures answer { λ r. ⌜ r ≡ lineSaid (says (showLine looked) bench) (now (out .entry)) ⌝ }
     ensures written { λ r. ⌜ now (out .exit) ≡ lineLeft (says (showLine looked) bench) (now (out .entry)) ⌝ }
-    ensures kept { λ r. ⌜ r .count ≤ lineRoom ⌝ }
+    ensures fits { λ r. ⌜ r .count ≤ lineRoom ⌝ }
 {
     let w = answers::show_line(out, 0, looked);
     Said {
@@ -113,7 +113,7 @@ pub fn device(bench: Bench, looked: Looked, out: &mut [u8]) -> Said
 pub fn why(bench: Bench, why: Why, out: &mut [u8]) -> Said
     ensures answer { λ r. ⌜ r ≡ lineSaid (says (whyLine why) bench) (now (out .entry)) ⌝ }
     ensures written { λ r. ⌜ now (out .exit) ≡ lineLeft (says (whyLine why) bench) (now (out .entry)) ⌝ }
-    ensures kept { λ r. ⌜ r .count ≤ lineRoom ⌝ }
+    ensures fits { λ r. ⌜ r .count ≤ lineRoom ⌝ }
 {
     let w = why_answers::why_line(out, 0, why);
     Said {

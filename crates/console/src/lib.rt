@@ -42,7 +42,7 @@ fn respond(bench: Bench, request: Request, out: &mut [u8]) -> Said
 pub fn answer(bench: Bench, line: &[u8], fed: bool, out: &mut [u8]) -> Said
     ensures answer { λ r. ⌜ r ≡ answer bench (record { chars = now (line .entry); fed = fed }) (now (out .entry)) ⌝ }
     ensures written { λ r. ⌜ now (out .exit) ≡ leaves bench (record { chars = now (line .entry); fed = fed }) (now (out .entry)) ⌝ }
-    ensures kept { λ r. ⌜ r .count ≤ room ⌝ }
+    ensures fits { λ r. ⌜ r .count ≤ room ⌝ }
 {
     if out.len() < ROOM {
         return Said {

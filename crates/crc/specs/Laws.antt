@@ -2,16 +2,15 @@
 --     crc-none, crc-more, crc-append      the register over no bits, one bit more, and two runs of bits
 --     crc-bytes-append, crc-byte-more     the CRC of bytes goes on where it stood
 --     crc-bit-lt, crc-lt, crc-bytes-lt    the register stays a byte
---     crc-own, crc-message                feeding the register its own value brings it to zero: a message followed by its CRC
+--     crc-turn, crc-done, crc-byte-turn   the bits of a number, as a loop takes them one by one or by whole bytes
 -- Assumes nothing.
-use Prim.Native.Nat.{ℕ, zero, suc, _+_, _*_, _-_, _/_, _%_, _^_, _<_, _≤_}
+use Prim.Native.Nat.{ℕ, zero, suc, _+_, _*_, _-_, _/_, _%_, _<_, _≤_}
 use mathlib.Core.Path.{_≡_, refl, sym, ap, _∙_}
 use mathlib.Core.Bool.{Bool, true, false, Bool·beq}
 use mathlib.Core.List.{List, [], _∷_, _++_, append-nil}
-use native.Mathlib.Nat.{pow-suc}
 use native.Mathlib.Numerals.{add-one}
 use native.Mathlib.Omega.{arith}
-use lib.Bits.{bitXor, xor-zero-r, xor-self, xor-lt}
+use lib.Bits.{bitXor, xor-lt}
 use lib.Dec.{lit<}
 use lib.ListN.{length, getD, take}
 use lib.Seq.{take-suc}
@@ -20,8 +19,6 @@ use Rattle.lists.specs.Fold.{fold}
 use Rattle.lists.specs.FoldLaws.{fold-append}
 use Rattle.bits.specs.Bits.{odd, bitsOf, bytesBits}
 use Rattle.bits.specs.BitsLaws.{bits-append, bits-block, bytes-append}
-use Rattle.bits.specs.Sums.{plus}
-use Rattle.bits.specs.XorLaws.{xor-half, odd-xor, xor-swap}
 use Rattle.crc.specs.Crc.{taps, crcBit, crcBits, crcOf}
 
 pub crc-none : (r : ℕ) → crcBits r [] ≡ r
@@ -81,49 +78,6 @@ unfolding crcBits fold
 crc-lt r [] h = h
 crc-lt r (b ∷ bs) h = crc-lt (crcBit r b) bs (crc-bit-lt r b h)
 
--- ## A register fed with its own value
-
--- what is left of x may be added to the register before the step or after it
-xor-step-in : (r x : ℕ) → bitXor (crcBit r (odd x)) (x / 2) ≡ crcBit (bitXor r x) false
-xor-step-in r x =
-    by-test (Bool·beq (odd r) (odd x))
-    ∙ ap (λ (t : Bool). if t then bitXor (r / 2) (x / 2) else bitXor (bitXor (r / 2) (x / 2)) taps) (sym (differ (odd r) (odd x)))
-    ∙ ap (λ (p : Bool). if Bool·beq p false then bitXor (r / 2) (x / 2) else bitXor (bitXor (r / 2) (x / 2)) taps) (sym (odd-xor r x))
-    ∙ ap (λ (h : ℕ). if Bool·beq (odd (bitXor r x)) false then h else bitXor h taps) (sym (xor-half r x))
-  where
-    by-test : (t : Bool) → bitXor (if t then r / 2 else bitXor (r / 2) taps) (x / 2) ≡ (if t then bitXor (r / 2) (x / 2) else bitXor (bitXor (r / 2) (x / 2)) taps)
-    by-test true = refl
-    by-test false = xor-swap (r / 2) taps (x / 2)
-
-    differ : (p q : Bool) → Bool·beq (plus p q) false ≡ Bool·beq p q
-    differ true true = refl
-    differ true false = refl
-    differ false true = refl
-    differ false false = refl
-
--- the bits of a number go in as zeros do, from the register with the number added
-pub crc-merge : (n r x : ℕ) → x < 2 ^ n → crcBits r (bitsOf n x) ≡ crcBits (bitXor r x) (bitsOf n 0)
-unfolding bitsOf
-crc-merge zero r x h = let e : x ≡ 0 = omega arith in rw e (ap (λ (y : ℕ). crcBits y []) (sym (xor-zero-r r)))
-crc-merge (suc n) r x h =
-    let k : x / 2 < 2 ^ n = omega (arith, pow-suc 2 n) in
-    crc-more r (odd x) (bitsOf n (x / 2))
-    ∙ crc-merge n (crcBit r (odd x)) (x / 2) k
-    ∙ ap (λ (y : ℕ). crcBits y (bitsOf n 0)) (xor-step-in r x)
-    ∙ sym (crc-more (bitXor r x) false (bitsOf n 0))
-
-pub crc-own : (r : ℕ) → r < 256 → crcBits r (bitsOf 8 r) ≡ 0
-unfolding bitsOf crcBits fold
-crc-own r h = crc-merge 8 r r h ∙ rw (xor-self r)
-
 pub crc-bytes-lt : (l : List ℕ) → crcOf l < 256
 unfolding crcOf
 crc-bytes-lt l = crc-lt 0 (bytesBits l) (lit< tt)
-
--- bytes followed by their CRC leave the register at zero
-pub crc-message : (l : List ℕ) → crcOf (l ++ (crcOf l ∷ [])) ≡ 0
-unfolding bytesBits
-crc-message l =
-    crc-bytes-append l (crcOf l ∷ [])
-    ∙ ap (crcBits (crcOf l)) (append-nil (bitsOf 8 (crcOf l)))
-    ∙ crc-own (crcOf l) (crc-bytes-lt l)

@@ -2,20 +2,24 @@
 -- register is the sum of the two that leave, so the taps go into both registers, into one, or into none; where they go in twice they cancel.
 --     crc-bit-sum                 one bit
 --     crc-sum, crc-sum-zero       two strings, from any two registers, and from zero
+--     crc-merge                   the bits of a number go in as zeros do, from the register with the number added
+--     crc-own, crc-message        feeding the register its own value brings it to zero: a message followed by its CRC
 -- Assumes nothing.
-use Prim.Native.Nat.{ℕ, _/_}
+use Prim.Native.Nat.{ℕ, zero, suc, _/_, _^_, _<_}
 use mathlib.Core.Path.{_≡_, refl, sym, ap, _∙_}
 use mathlib.Core.Bool.{Bool, true, false, Bool·beq}
-use mathlib.Core.List.{List, [], _∷_}
+use mathlib.Core.List.{List, [], _∷_, _++_, append-nil}
+use native.Mathlib.Nat.{pow-suc}
 use native.Mathlib.Omega.{arith}
 use lib.Bits.{bitXor, xor-zero-r, xor-self}
 use lib.ListN.{length}
 use Rattle.lists.specs.Choice.{if_then_else_}
-use Rattle.bits.specs.Bits.{odd}
+use Rattle.lists.specs.Fold.{fold}
+use Rattle.bits.specs.Bits.{odd, bitsOf, bytesBits}
 use Rattle.bits.specs.Sums.{plus, sum}
 use Rattle.bits.specs.XorLaws.{xor-half, odd-xor, xor-swap, xor-assoc}
-use Rattle.crc.specs.Crc.{taps, crcBit, crcBits}
-use Rattle.crc.specs.Laws.{crc-none, crc-more}
+use Rattle.crc.specs.Crc.{taps, crcBit, crcBits, crcOf}
+use Rattle.crc.specs.Laws.{crc-none, crc-more, crc-bytes-append, crc-bytes-lt}
 
 -- two sums agree where both pairs agree, or neither
 sums-agree : (p q a b : Bool) → Bool·beq (plus p q) (plus a b) ≡ Bool·beq (Bool·beq p a) (Bool·beq q b)
@@ -70,3 +74,45 @@ crc-sum r s (a ∷ l) (b ∷ m) h =
 
 pub crc-sum-zero : (a b : List Bool) → length a ≡ length b → crcBits 0 (sum a b) ≡ bitXor (crcBits 0 a) (crcBits 0 b)
 crc-sum-zero a b h = crc-sum 0 0 a b h
+
+-- ## A register fed with its own value
+
+-- a bit that is the register's lowest only moves it
+halved : (x : ℕ) → crcBit x (odd x) ≡ x / 2
+halved x = by-test (odd x)
+  where
+    by-test : (b : Bool) → (if Bool·beq b b then x / 2 else bitXor (x / 2) taps) ≡ x / 2
+    by-test true = refl
+    by-test false = refl
+
+plus-own : (b : Bool) → plus b b ≡ false
+plus-own true = refl
+plus-own false = refl
+
+-- what is left of x may be added to the register before the step or after it
+xor-step-in : (r x : ℕ) → bitXor (crcBit r (odd x)) (x / 2) ≡ crcBit (bitXor r x) false
+xor-step-in r x =
+    ap (bitXor (crcBit r (odd x))) (sym (halved x)) ∙ sym (crc-bit-sum r x (odd x) (odd x)) ∙ ap (crcBit (bitXor r x)) (plus-own (odd x))
+
+-- the bits of a number go in as zeros do, from the register with the number added
+pub crc-merge : (n r x : ℕ) → x < 2 ^ n → crcBits r (bitsOf n x) ≡ crcBits (bitXor r x) (bitsOf n 0)
+unfolding bitsOf
+crc-merge zero r x h = let e : x ≡ 0 = omega arith in rw e (ap (λ (y : ℕ). crcBits y []) (sym (xor-zero-r r)))
+crc-merge (suc n) r x h =
+    let k : x / 2 < 2 ^ n = omega (arith, pow-suc 2 n) in
+    crc-more r (odd x) (bitsOf n (x / 2))
+    ∙ crc-merge n (crcBit r (odd x)) (x / 2) k
+    ∙ ap (λ (y : ℕ). crcBits y (bitsOf n 0)) (xor-step-in r x)
+    ∙ sym (crc-more (bitXor r x) false (bitsOf n 0))
+
+pub crc-own : (r : ℕ) → r < 256 → crcBits r (bitsOf 8 r) ≡ 0
+unfolding bitsOf crcBits fold
+crc-own r h = crc-merge 8 r r h ∙ rw (xor-self r)
+
+-- bytes followed by their CRC leave the register at zero
+pub crc-message : (l : List ℕ) → crcOf (l ++ (crcOf l ∷ [])) ≡ 0
+unfolding bytesBits
+crc-message l =
+    crc-bytes-append l (crcOf l ∷ [])
+    ∙ ap (crcBits (crcOf l)) (append-nil (bitsOf 8 (crcOf l)))
+    ∙ crc-own (crcOf l) (crc-bytes-lt l)

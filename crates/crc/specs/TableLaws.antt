@@ -9,7 +9,7 @@ use lib.Bits.{bitXor, xor-lt}
 use lib.ListN.{getD}
 use Rattle.bits.specs.Bits.{bitsOf}
 use Rattle.crc.specs.Crc.{crcBits}
-use Rattle.crc.specs.Laws.{crc-merge}
+use Rattle.crc.specs.SumLaws.{crc-merge}
 use Rattle.crc.specs.Table.{registers}
 
 entry-from : (n i k : ℕ) → k < n → getD (registers i n) k 0 ≡ crcBits (i + k) (bitsOf 8 0)

@@ -36,7 +36,7 @@ const MINUS: u8 = 0x2D;
 const MOST_DIGITS: usize = 5;
 
 pub fn code_in(w: &[u8]) -> NumberRead
-    ensures { λ r. ⌜ r ≡ codeIn (now (w .entry)) ⌝ }
+    ensures answer { λ r. ⌜ r ≡ codeIn (now (w .entry)) ⌝ }
 {
     text::read_fixed(w, 16, 16)
 }
@@ -48,19 +48,19 @@ fn byte_in(w: &[u8]) -> NumberRead
 }
 
 pub fn bit_in(w: &[u8]) -> NumberRead
-    ensures { λ r. ⌜ r ≡ bitIn (now (w .entry)) ⌝ }
+    ensures answer { λ r. ⌜ r ≡ bitIn (now (w .entry)) ⌝ }
 {
     text::read_fixed(w, 2, 1)
 }
 
 pub fn places_in(w: &[u8]) -> NumberRead
-    ensures { λ r. ⌜ r ≡ placesIn (now (w .entry)) ⌝ }
+    ensures answer { λ r. ⌜ r ≡ placesIn (now (w .entry)) ⌝ }
 {
     text::read_decimal(w, MOST_DIGITS, MOST_PLACES as u64)
 }
 
 pub fn bytes_in(w: &[u8]) -> NumberRead
-    ensures { λ r. ⌜ r ≡ bytesIn (now (w .entry)) ⌝ }
+    ensures answer { λ r. ⌜ r ≡ bytesIn (now (w .entry)) ⌝ }
 {
     text::read_decimal(w, MOST_DIGITS, MOST_BYTES as u64)
 }
@@ -75,7 +75,7 @@ fn is_negative(w: &[u8]) -> bool
 }
 
 pub fn count_in(w: &[u8]) -> CountRead
-    ensures { λ r. ⌜ r ≡ countIn (now (w .entry)) ⌝ }
+    ensures answer { λ r. ⌜ r ≡ countIn (now (w .entry)) ⌝ }
 {
     if is_negative(w) {
         let below = text::read_decimal(&w[1..], MOST_DIGITS, 32768);
@@ -100,7 +100,7 @@ fn both(a: bool, b: bool) -> bool
 
 // The high limit, the low limit and the configuration.
 pub fn settings_in(high: &[u8], low: &[u8], configuration: &[u8]) -> SettingsRead
-    ensures { λ r. ⌜ r ≡ settingsIn (now (high .entry)) (now (low .entry)) (now (configuration .entry)) ⌝ }
+    ensures answer { λ r. ⌜ r ≡ settingsIn (now (high .entry)) (now (low .entry)) (now (configuration .entry)) ⌝ }
 {
     let h = byte_in(high);
     let l = byte_in(low);
@@ -116,7 +116,7 @@ pub fn settings_in(high: &[u8], low: &[u8], configuration: &[u8]) -> SettingsRea
 }
 
 pub fn power_in(w: &[u8]) -> PowerRead
-    ensures { λ r. ⌜ r ≡ powerIn (now (w .entry)) ⌝ }
+    ensures answer { λ r. ⌜ r ≡ powerIn (now (w .entry)) ⌝ }
 {
     if same(w, b"line") {
         return PowerRead {

@@ -5,6 +5,7 @@
 --     slotBit f i            the bit of slot i, false at or past the count
 --     bytesFor n             how many bytes n slots take
 --     lineable f             whether a line can carry the frame
+--     withBit x i b          a byte with bit i replaced
 --     pushed f b             the frame with one slot more; as it is when it has 512
 --     slotsPushed f b        the slots so far and the new one
 --     pushedAll f bs         the frame with several slots more
@@ -19,7 +20,7 @@ use lib.Dec.{eqb, leb, ltb}
 use lib.ListN.{length, set, take, drop, getD, replicate}
 use Rattle.lists.specs.Choice.{if_then_else_}
 use Rattle.lists.specs.Fold.{fold, all}
-use Rattle.bits.specs.Bits.{numberOf, bytesBits}
+use Rattle.bits.specs.Bits.{bitsOf, numberOf, bytesBits}
 use Rattle.frame.specs.declared.Frame.{Frame}
 use Rattle.bits.specs.Bytes.{Bytes}
 
@@ -94,3 +95,7 @@ pub record Recorded (bs : List Bool) (f : Frame) : Type 0 where
   pub total : f .count ≡ length bs
   pub carried : lineable f ≡ true
   pub held : Held f
+
+-- a byte with bit i replaced
+abbrev pub withBit : ℕ → ℕ → Bool → ℕ
+withBit x i b = numberOf (set (bitsOf 8 x) i b)

@@ -22,7 +22,7 @@ use Rattle.lists.specs.FoldLaws.{all-append, all-drop}
 use Rattle.lists.specs.Places.{set-append-add, drop-replicate}
 use Rattle.lists.specs.ChoiceLaws.{and-left, and-right}
 use Rattle.bits.specs.BytesLaws.{bytes-set, bytes-drop, bytes-append-bytes}
-use Rattle.frame.specs.Frames.{mostSlots, noBits, blankFrame, slotsOf, slotBit, clearFrom, countAllowed, lineable, packed, pushed, slotsPushed, pushedAll, Held, Recorded}
+use Rattle.frame.specs.Frames.{mostSlots, noBits, blankFrame, slotsOf, slotBit, clearFrom, countAllowed, lineable, packed, pushed, slotsPushed, pushedAll, Held, Recorded, withBit}
 
 -- ## Bits of bytes
 
@@ -137,10 +137,6 @@ pad-back l n c s h k w e =
     pad-parts (take n l) few ∙ rw (t, ← m, ← zero-rest) (take-append-drop n l)
 
 -- ## One bit replaced, as the code makes it in the byte that it stands in
-
--- a byte with bit i replaced
-abbrev pub withBit : ℕ → ℕ → Bool → ℕ
-withBit x i b = numberOf (set (bitsOf 8 x) i b)
 
 -- the bytes with the bit at place i replaced
 abbrev pub withSlot : List ℕ → ℕ → Bool → List ℕ

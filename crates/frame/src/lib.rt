@@ -1,8 +1,7 @@
 // Frames: what the wire showed after one reset.
 ghost use mathlib.Core.Path.{_≡_};
 ghost use Prim.Native.Nat.{_<_};
-ghost use Rattle.frame.specs.Frames.{blankFrame, slotBit, slotsOf, pushed, slotsPushed, clearFrom, countAllowed, lineable, bytesFor};
-ghost use Rattle.frame.specs.FramesLaws.{withBit};
+ghost use Rattle.frame.specs.Frames.{blankFrame, slotBit, slotsOf, pushed, slotsPushed, clearFrom, countAllowed, lineable, bytesFor, withBit};
 
 // The most slots that a frame has.
 pub const MOST_SLOTS: u16 = 512;

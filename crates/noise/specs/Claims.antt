@@ -1,4 +1,4 @@
--- How much noise a CRC can let pass, as one statement in five parts: `Claim`. Noise is a string of bits that is added to what was sent: a 1 turns the bit at its place.
+-- How much noise a CRC can let pass, as one statement in five parts: `NoiseClaim`. Noise is a string of bits that is added to what was sent: a 1 turns the bit at its place.
 --     Linear                         the CRC of the bitwise sum of two strings of equal length is the sum of their CRCs
 --     Distance                       two different strings of equal length that both bring the register to zero: up to 127 bits they differ in at least four places, and at any
 --                                    length not only within eight neighbours
@@ -80,7 +80,7 @@ ScratchpadsNoticed = (family : ℕ) → Noticed (List ℕ) NineBytes bytesBits (
 abbrev pub CodesNoticed : Type 0
 CodesNoticed = Noticed ℕ (λ code. code < 2 ^ 64) codeBits codeRefusal
 
-pub record Claim : Type 0 where
+pub record NoiseClaim : Type 0 where
   pub linear : Linear
   pub distance : Distance
   pub tight : Tight

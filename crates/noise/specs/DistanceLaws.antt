@@ -20,8 +20,8 @@ use Rattle.bits.specs.BitsLaws.{bits-number, number-lt}
 use Rattle.bits.specs.Sums.{sum, ones}
 use Rattle.bits.specs.SumsLaws.{sum-length, same-if-none, ones-append, ones-zeros, none-anywhere}
 use Rattle.crc.specs.Crc.{taps, crcBit, crcBits}
-use Rattle.crc.specs.Laws.{crc-more, crc-append, crc-bit-lt, crc-lt, crc-merge}
-use Rattle.crc.specs.SumLaws.{crc-sum-zero}
+use Rattle.crc.specs.Laws.{crc-more, crc-append, crc-bit-lt, crc-lt}
+use Rattle.crc.specs.SumLaws.{crc-sum-zero, crc-merge}
 use Rattle.noise.specs.Claims.{Distance}
 use Rattle.noise.specs.DifferencesLaws.{differences-ones, ones-within}
 use Rattle.noise.specs.HoldsLaws.{from-one, quiet}

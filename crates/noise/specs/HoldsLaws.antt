@@ -19,7 +19,8 @@ use Rattle.bits.specs.Sums.{ones}
 use Rattle.bits.specs.SumsLaws.{ones-zeros}
 use Rattle.bits.specs.XorLaws.{xor-none}
 use Rattle.crc.specs.Crc.{taps, crcBit, crcBits, crcOf}
-use Rattle.crc.specs.Laws.{crc-none, crc-more, crc-append, crc-bit-lt, crc-lt, crc-merge, crc-own, crc-bytes-append, crc-bytes-lt}
+use Rattle.crc.specs.Laws.{crc-none, crc-more, crc-append, crc-bit-lt, crc-lt, crc-bytes-append, crc-bytes-lt}
+use Rattle.crc.specs.SumLaws.{crc-merge, crc-own}
 
 pub from-zero : (y : ℕ) → y < 256 → crcBit y false ≡ 0 → y ≡ 0
 from-zero y h = by-test (odd y) refl

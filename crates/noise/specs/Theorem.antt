@@ -1,12 +1,12 @@
 -- How much noise a CRC can let pass: `noise-noticed`. Each part is proved where its idea is told.
 -- Assumes nothing.
 use Rattle.crc.specs.SumLaws.{crc-sum-zero}
-use Rattle.noise.specs.Claims.{Claim}
+use Rattle.noise.specs.Claims.{NoiseClaim}
 use Rattle.noise.specs.DistanceLaws.{distance}
 use Rattle.noise.specs.HiddenLaws.{tight}
 use Rattle.noise.specs.NoticedLaws.{scratchpads-noticed, codes-noticed}
 
-pub noise-noticed : Claim
+pub noise-noticed : NoiseClaim
 noise-noticed = record {
   linear = crc-sum-zero;
   distance = distance;

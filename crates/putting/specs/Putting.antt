@@ -3,10 +3,12 @@
 --     flag b                     a truth value, 0 or 1
 --     fieldLeaves out at x c     the buffer with the field x at a place and the character c behind it; of the two, what does not fit is left out
 --     fieldNext out at x c       the place behind them; 0 where c did not fit
+--     Puts d at x d' r           where x fits into d from a place on, d' is d with x there, and r is the place behind it
 --     lineAnswer out at x        the place behind the line x, or refusal 1
 --     lineLeaves out at x        the buffer with the line, or as it was
 -- Assumes nothing.
-use Prim.Native.Nat.{ℕ, _+_}
+use Prim.Native.Nat.{ℕ, _+_, _≤_}
+use mathlib.Core.Path.{_≡_}
 use mathlib.Core.Bool.{Bool}
 use mathlib.Core.List.{List, [], _∷_, _++_}
 use lib.ListN.{length}
@@ -36,6 +38,10 @@ fieldLeaves out at x c = layLeaves (layLeaves out at x) (layAnswer out at x .nex
 -- the place behind them
 abbrev pub fieldNext : List ℕ → ℕ → List ℕ → ℕ → ℕ
 fieldNext out at x c = layAnswer (layLeaves out at x) (layAnswer out at x .next) (c ∷ []) .next
+
+-- what every part of a line comes to: where x fits into d from a place on, d' is d with x there, and r is the place behind it
+pub record Puts (d : List ℕ) (at : ℕ) (x d' : List ℕ) (r : ℕ) : Type 0 where
+  pub puts : at + length x ≤ length d → (d' ≡ laid d at x) × (r ≡ at + length x)
 
 -- ## Lines
 

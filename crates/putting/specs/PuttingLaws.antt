@@ -1,5 +1,4 @@
 -- Part behind part: where the whole fits, what two parts put is what they are together.
---     Puts d at x d' r     where x fits into d from a place on, d' is d with x there, and r is the place behind it
 -- Assumes nothing.
 use Prim.Native.Nat.{ℕ, _+_, _≤_}
 use mathlib.Core.Path.{_≡_, refl, sym, ap, _∙_}
@@ -14,10 +13,7 @@ use Rattle.refusals.specs.Refusals.{accepted, noRoom}
 use Rattle.laying.specs.Laying.{hasRoom, layAnswer, layLeaves}
 use Rattle.laying.specs.LayingLaws.{lay-fits}
 use Rattle.laying.specs.declared.Written.{Written}
-use Rattle.putting.specs.Putting.{fieldNext, fieldLeaves, lineRoom, lineAnswer, lineLeaves}
-
-pub record Puts (d : List ℕ) (at : ℕ) (x d' : List ℕ) (r : ℕ) : Type 0 where
-  pub puts : at + length x ≤ length d → (d' ≡ laid d at x) × (r ≡ at + length x)
+use Rattle.putting.specs.Putting.{Puts, fieldNext, fieldLeaves, lineRoom, lineAnswer, lineLeaves}
 
 -- what a call that lays all or nothing puts
 pub puts-laid : (d : List ℕ) (at : ℕ) (x d' : List ℕ) (w : Written) → w ≡ layAnswer d at x → d' ≡ layLeaves d at x → Puts d at x d' (w .next)

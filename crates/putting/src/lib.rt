@@ -5,13 +5,35 @@ ghost use mathlib.Core.List.{[], _∷_};
 ghost use Rattle.text.specs.Decimal.{decimal, signedDecimal};
 ghost use Rattle.text.specs.Digits.{hexDigits, hexOf};
 ghost use Rattle.laying.specs.Laying.{layAnswer, layLeaves};
+ghost use Rattle.refusals.specs.Refusals.{accepted, noRoom};
 ghost use Rattle.putting.specs.Putting.{flag, fieldNext, fieldLeaves};
+use laying::Written;
 
 // What must be left for a line: more than any line needs.
 pub const LINE_ROOM: usize = 64;
 
 // The character between two fields.
 pub const SPACE: u8 = 0x20;
+
+// What is answered where there is no room for a line.
+pub fn no_room() -> Written
+    ensures answer { λ r. ⌜ r ≡ record { refusal = noRoom; next = 0 } ⌝ }
+{
+    Written {
+        refusal: refusals::NO_ROOM,
+        next: 0,
+    }
+}
+
+// What is answered for a line that ends before a place.
+pub fn behind(next: usize) -> Written
+    ensures answer { λ r. ⌜ r ≡ record { refusal = accepted; next = next } ⌝ }
+{
+    Written {
+        refusal: refusals::ACCEPTED,
+        next,
+    }
+}
 
 pub fn put_char(out: &mut [u8], at: usize, c: u8) -> usize
     ensures answer { λ r. ⌜ r ≡ layAnswer (now (out .entry)) at (c ∷ []) .next ⌝ }

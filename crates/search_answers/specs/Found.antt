@@ -1,4 +1,7 @@
 -- The answer to a search: its counts, a line for each code that it listed, and the lines that it recorded.
+--     commandFor alarms      the ROM command of the search
+--     countsLine o           the first line
+--     ofSearch o             the whole answer
 -- Assumes nothing.
 use Prim.Native.Nat.{ℕ}
 use mathlib.Core.Bool.{Bool}

@@ -139,7 +139,7 @@ fn search(bench: Bench, alarms: bool, places: usize, bytes: usize, out: &mut [u8
 pub fn found(bench: Bench, alarms: bool, places: usize, bytes: usize, out: &mut [u8]) -> Said
     ensures answer { λ r. ⌜ r ≡ wholeSaid bench (ofSearch (searchOutcome (commandFor alarms) bench places bytes)) (now (out .entry)) ⌝ }
     ensures written { λ r. ⌜ now (out .exit) ≡ wholeLeft (ofSearch (searchOutcome (commandFor alarms) bench places bytes)) (now (out .entry)) ⌝ }
-    ensures kept { λ r. ⌜ r .count ≤ room ⌝ }
+    ensures fits { λ r. ⌜ r .count ≤ room ⌝ }
 {
     if out.len() < ROOM {
         return Said {

@@ -6,7 +6,7 @@ ghost use Rattle.temperature.specs.Alarm.{alarmsAt, limitOf, limitByteOf
 ghost use Rattle.temperature.specs.Degrees.{degreesOf, IsSixteenths};
 ghost use Rattle.temperature.specs.Measured.{measuredOf, roundedOf};
 ghost use Rattle.temperature.specs.Range.{between, inRange, wholeInRange, isLimit};
-ghost use Rattle.temperature.specs.Register.{bytesOf, readingOf, registerOf};
+ghost use Rattle.temperature.specs.Register.{countOf, bytesOf, readingOf, registerOf};
 ghost use Rattle.temperature.specs.Units.{converted, notConverted, toHalfDegrees, toSixteenths, wholeToSixteenths, wholeOf};
 ghost use Rattle.signed.specs.Complement.{signed16, bits16};
 use family::Unit;
@@ -256,6 +256,16 @@ fn bytes_of(z: i16) -> Register
     Register {
         low: (bits % 256) as u8,
         high: (bits / 256) as u8,
+    }
+}
+
+// How many of its unit a reading counts.
+pub fn count_of(reading: Reading) -> i16
+    ensures answer { λ r. ⌜ r ≡ countOf reading ⌝ }
+{
+    match reading {
+        Reading::InSixteenths(c) => c.0,
+        Reading::InHalves(h) => h.0,
     }
 }
 

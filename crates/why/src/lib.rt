@@ -1,8 +1,6 @@
 // Why a device is on the list of an alarm search, or is not. Asking changes nothing.
 ghost use mathlib.Core.Path.{_≡_};
-ghost use mathlib.Core.Bool.{_&&_, not};
-ghost use lib.Dec.{eqb};
-ghost use Rattle.why_rules.specs.Why.{bandOf, reasonOn, reasonNumber, silent, limitsDiffer, said, whyOf};
+ghost use Rattle.why_rules.specs.Why.{bandOf, reasonNumber, silent, limitsDiffer, toldBy, whyOf};
 ghost use Rattle.why_rules.specs.Book.{WhyPromise};
 use bench::Bench;
 use device::Page;
@@ -58,7 +56,7 @@ fn limits_differ(page: Page, pad: EightBytes) -> bool
 
 // What a page says, with the scratchpad as it stands.
 fn say(page: Page, pad: EightBytes) -> Why
-    ensures { λ r. ⌜ r ≡ said page pad ⌝ }
+    ensures { λ r. ⌜ r ≡ toldBy page pad ⌝ }
 {
     if !page.taken {
         return silent(refusals::ACCEPTED, Reason::NoConversion);

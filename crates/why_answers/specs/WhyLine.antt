@@ -1,6 +1,7 @@
 -- The line that answers why a code is on the list: REFUSAL REASON READING HIGH LOW DIFFERS. The reason is its number, the reading its signed count in the
 -- family's unit, the limits signed degrees, the last 0 or 1.
---     whyLine w          the line
+--     fieldsLine         the six fields, as they are put
+--     whyLine w          the line of an answer
 -- Assumes nothing.
 use Prim.Native.Nat.{ℕ}
 use mathlib.Core.Bool.{Bool}

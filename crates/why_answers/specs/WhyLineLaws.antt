@@ -2,13 +2,11 @@
 -- Assumes nothing.
 use Prim.Native.Nat.{ℕ, _<_, _≤_}
 use mathlib.Core.Bool.{Bool}
-use mathlib.Core.List.{_++_}
 use native.Mathlib.Omega.{arith}
 use lib.IntN.{ℤ}
 use lib.ListN.{length, length-append}
 use Rattle.signed.specs.Complement.{Fits16}
-use Rattle.text.specs.Decimal.{decimal, signedDecimal}
-use Rattle.putting.specs.Putting.{flag, lineRoom}
+use Rattle.putting.specs.Putting.{lineRoom}
 use Rattle.putting.specs.FieldsLaws.{byte-digits, signed-digits, flag-length}
 use Rattle.why_answers.specs.WhyLine.{fieldsLine}
 

@@ -1,27 +1,14 @@
 // The line that answers why a code is on the list of an alarm search, laid at a place of a buffer.
 ghost use mathlib.Core.Path.{_≡_};
-ghost use Rattle.temperature.specs.Register.{countOf};
 ghost use Prim.Native.Nat.{_+_, _≤_};
 ghost use lib.ListN.{length};
-ghost use Rattle.putting.specs.Putting.{lineRoom, lineAnswer, lineLeaves};
-ghost use Rattle.putting.specs.PuttingLaws.{Puts};
+ghost use Rattle.putting.specs.Putting.{Puts, lineRoom, lineAnswer, lineLeaves};
 ghost use Rattle.why_answers.specs.WhyLine.{fieldsLine, whyLine};
 use laying::Written;
 use putting::LINE_ROOM;
 use putting::SPACE;
-use temperature::Reading;
 use text::LINE_FEED;
 use why_rules::Why;
-
-// How many of its unit a reading counts.
-fn count_of(reading: Reading) -> i16
-    ensures { λ r. ⌜ r ≡ countOf reading ⌝ }
-{
-    match reading {
-        Reading::InSixteenths(c) => c.0,
-        Reading::InHalves(h) => h.0,
-    }
-}
 
 // The fields of the line, each with the character behind it.
 fn put_fields(
@@ -47,24 +34,17 @@ fn put_fields(
 pub fn why_line(out: &mut [u8], at: usize, w: Why) -> Written
     ensures answer { λ r. ⌜ r ≡ lineAnswer (now (out .entry)) at (whyLine w) ⌝ }
     ensures written { λ r. ⌜ now (out .exit) ≡ lineLeaves (now (out .entry)) at (whyLine w) ⌝ }
-    ensures kept { λ r. ⌜ r .next ≤ at + lineRoom ⌝ }
+    ensures fits { λ r. ⌜ r .next ≤ at + lineRoom ⌝ }
 {
     let room = laying::has_room(out, at, LINE_ROOM);
     if !room {
-        return Written {
-            refusal: refusals::NO_ROOM,
-            next: 0,
-        };
+        return putting::no_room();
     }
     let reason = w.reason;
     let number = why::number_of(reason);
     let reading = w.reading;
-    let count = count_of(reading);
+    let count = temperature::count_of(reading);
     let high = w.high;
     let low = w.low;
-    let next = put_fields(out, at, w.refusal, number, count, high.0, low.0, w.differs);
-    Written {
-        refusal: refusals::ACCEPTED,
-        next,
-    }
+    putting::behind(put_fields(out, at, w.refusal, number, count, high.0, low.0, w.differs))
 }

@@ -4,8 +4,7 @@
 --     byBook h code            the answer by the book: reason, reading and limits are those of the code's page, where the code was added; today's limits are the
 --                              only thing that is looked up on the bench
 --     ByTheBook                after every history the answer for every code is that of the book
---     ListedByReason           after every history an alarm search lists exactly the added codes whose reason is high, low or both; any other code has none of
---                              these, for it is not on the bench
+--     ListedByReason h         an alarm search after the history lists the added codes whose reason is high, low or both, and no other code has one of these
 --     WhyPromise b code r      the first as what a call promises: of every history that leads to the bench given
 -- Assumes nothing.
 use Prim.Native.Nat.{ℕ, _≤_}
@@ -23,7 +22,7 @@ use Rattle.bench.specs.Calls.{looked}
 use Rattle.bench.specs.declared.Bench.{Bench}
 use Rattle.master_rules.specs.Search.{fewestPlaces, fewestBytes, searchOutcome}
 use Rattle.history.specs.History.{Call, Typed, after, added, page}
-use Rattle.why_rules.specs.Why.{onTheList, silent, said, whyOf}
+use Rattle.why_rules.specs.Why.{onTheList, silent, toldBy, whyOf}
 use Rattle.why_rules.specs.declared.Reason.the-variants.{NotOnBench}
 use Rattle.why_rules.specs.declared.Why.{Why}
 
@@ -37,16 +36,16 @@ padOf b code = looked b code .device .scratchpad
 abbrev pub byBook : List Call → ℕ → Why
 byBook h code =
     if sound code then
-    if isAmong code (added h) then said (page h code) (padOf (after h) code) else silent accepted NotOnBench
+    if isAmong code (added h) then toldBy (page h code) (padOf (after h) code) else silent accepted NotOnBench
     else silent (codeRefusal code) NotOnBench
 
 abbrev pub ByTheBook : Type 0
 ByTheBook = (h : List Call) → Each Typed h → (code : ℕ) → whyOf (after h) code ≡ byBook h code
 
-abbrev pub ListedByReason : Type 0
-ListedByReason =
-    (h : List Call) → Each Typed h → free (after h) ≡ true → (places room : ℕ) → fewestPlaces ≤ places → fewestBytes ≤ room
-    → List·Permᴰ (those (λ code. onTheList (whyOf (after h) code .reason)) (added h)) (searchOutcome alarmSearch (after h) places room .listed)
+pub record ListedByReason (h : List Call) : Type 0 where
+  pub listed : free (after h) ≡ true → (places room : ℕ) → fewestPlaces ≤ places → fewestBytes ≤ room
+      → List·Permᴰ (those (λ code. onTheList (whyOf (after h) code .reason)) (added h)) (searchOutcome alarmSearch (after h) places room .listed)
+  pub no-other : (code : ℕ) → isAmong code (added h) ≡ false → onTheList (whyOf (after h) code .reason) ≡ false
 
 abbrev pub WhyPromise : Bench → ℕ → Why → Type 0
 WhyPromise b code r = (h : List Call) → Each Typed h → after h ≡ b → r ≡ byBook h code

@@ -2,7 +2,7 @@
 -- the addings, so that the device with a code is found exactly where the code was added. A page's reason is high, low or both exactly where the page has the verdict.
 -- Assumes nothing.
 use Prim.Native.Nat.{ℕ, zero, suc, _<_}
-use mathlib.Core.Bool.{Bool, true, false, _&&_, _||_}
+use mathlib.Core.Bool.{Bool, true, false, _||_}
 use mathlib.Core.List.{List, [], _∷_, map, List·Permᴰ, List·Permᴰ·nil}
 use mathlib.Core.Logic.{_≢_}
 use mathlib.Core.Path.{_≡_, refl, sym, ap, _∙_}
@@ -34,7 +34,7 @@ use Rattle.history.specs.Demand.{alarms, Comes}
 use Rattle.history.specs.History.{Call, Typed, after, added, page, alarmed}
 use Rattle.history.specs.Reached.{reached-after}
 use Rattle.history.specs.Theorem.{demand-3}
-use Rattle.why_rules.specs.Why.{bandOf, reasonOn, onTheList, silent, said, whyAt, whyOf}
+use Rattle.why_rules.specs.Why.{bandOf, onTheList, silent, toldBy, whyAt, whyOf}
 use Rattle.why_rules.specs.Book.{isAmong, padOf, byBook, ByTheBook, ListedByReason, WhyPromise}
 use Rattle.why_rules.specs.declared.Reason.the-variants.{NotOnBench, InBand, High, Low, Both}
 use Rattle.why_rules.specs.declared.Why.{Why}
@@ -74,14 +74,14 @@ module _ (h : List Call) (t : Each Typed h) where
   pad-at code i e = ap (λ (p : Place). lookedAt (after h) p .device .scratchpad) e
 
   found-by-book : (code : ℕ) → whyAt (after h) (placeOf (after h) code)
-      ≡ (if isAmong code (added h) then said (page h code) (padOf (after h) code) else silent accepted NotOnBench)
+      ≡ (if isAmong code (added h) then toldBy (page h code) (padOf (after h) code) else silent accepted NotOnBench)
   found-by-book code = by-place (placeOf (after h) code) refl
     where
       by-place : (p : Place) → placeOf (after h) code ≡ p
-          → whyAt (after h) p ≡ (if isAmong code (added h) then said (page h code) (padOf (after h) code) else silent accepted NotOnBench)
+          → whyAt (after h) p ≡ (if isAmong code (added h) then toldBy (page h code) (padOf (after h) code) else silent accepted NotOnBench)
       by-place (At i) e =
           let among = among-added code true (among-at code (live (after h)) i (place-live (after h) code i e) (place-found (after h) code i e)) in
-          rw (among, pad-at code i e) (ap (λ (p : Page). said p (deviceAt (after h) i .scratchpad)) (page-at code i e))
+          rw (among, pad-at code i e) (ap (λ (p : Page). toldBy p (deviceAt (after h) i .scratchpad)) (page-at code i e))
       by-place Nowhere e = rw (among-added code false (among-none code (live (after h)) (place-nowhere (after h) code e))) refl
 
 pub by-the-book : ByTheBook
@@ -104,11 +104,11 @@ band-alarms t high low = by-tests (leZ (high .0) (t .0)) (leZ (t .0) (low .0))
     by-tests false false = refl
 
 -- a page's reason puts its code on the list exactly where the page has the verdict
-said-alarmed : (p : Page) (pad : List ℕ) → onTheList (said p pad .reason) ≡ alarmed p
-unfolding said
+said-alarmed : (p : Page) (pad : List ℕ) → onTheList (toldBy p pad .reason) ≡ alarmed p
+unfolding toldBy
 said-alarmed p pad = by-test (p .taken) refl
   where
-    by-test : (u : Bool) → p .taken ≡ u → onTheList (said p pad .reason) ≡ alarmed p
+    by-test : (u : Bool) → p .taken ≡ u → onTheList (toldBy p pad .reason) ≡ alarmed p
     by-test true e = rw e (band-alarms (wholeOf (p .reading)) (limitOf (p .high)) (limitOf (p .low)))
     by-test false e = rw e refl
 
@@ -123,7 +123,7 @@ each-among (c ∷ l) = (rw (eq-eqb c c refl), each-implies (λ (code : ℕ) (e :
 module _ (h : List Call) (t : Each Typed h) where
   on-the-list : (code : ℕ) → sound code ≡ true → isAmong code (added h) ≡ true → onTheList (whyOf (after h) code .reason) ≡ alarmed (page h code)
   on-the-list code s a =
-      let is : byBook h code ≡ said (page h code) (padOf (after h) code) = rw (s, a) refl in
+      let is : byBook h code ≡ toldBy (page h code) (padOf (after h) code) = rw (s, a) refl in
       ap (λ (w : Why). onTheList (w .reason)) (by-the-book h t code ∙ is) ∙ said-alarmed (page h code) (padOf (after h) code)
 
   codes-sound : Each (λ code. sound code ≡ true) (added h)
@@ -145,9 +145,20 @@ comes-lists command [] codes b o none c = rw (none refl, c .listed-is) List·Per
 comes-lists command (n ∷ ns) [] b o none c = rw (c .listed-is) List·Permᴰ·nil
 comes-lists command (n ∷ ns) (k ∷ ks) b o none c = c .all-listed
 
-pub listed-by-reason : ListedByReason
+-- a code that was not added is refused, or not on the bench
+not-added : (h : List Call) → Each Typed h → (code : ℕ) → isAmong code (added h) ≡ false → onTheList (whyOf (after h) code .reason) ≡ false
+not-added h t code a = ap (λ (w : Why). onTheList (w .reason)) (by-the-book h t code) ∙ rw a (by-test (sound code))
+  where
+    by-test : (u : Bool) → onTheList ((if u then silent accepted NotOnBench else silent (codeRefusal code) NotOnBench) .reason) ≡ false
+    by-test true = refl
+    by-test false = refl
+
+pub listed-by-reason : (h : List Call) → Each Typed h → ListedByReason h
 unfolding those
-listed-by-reason h t f places room p q =
-    rw (reasons-alarms h t)
-    (comes-lists alarmSearch (added h) (alarms h) (after h) (searchOutcome alarmSearch (after h) places room)
-    (λ (e : added h ≡ []). ap (those (λ code. alarmed (page h code))) e) (demand-3 h t f places room p q .alarm-search .comes))
+listed-by-reason h t = record {
+  listed = λ f places room p q.
+      rw (reasons-alarms h t)
+      (comes-lists alarmSearch (added h) (alarms h) (after h) (searchOutcome alarmSearch (after h) places room)
+      (λ (e : added h ≡ []). ap (those (λ code. alarmed (page h code))) e) (demand-3 h t f places room p q .alarm-search .comes));
+  no-other = not-added h t;
+}

@@ -5,7 +5,9 @@
 --     onTheList r            whether the reason puts a code on the list: high, low or both
 --     reasonNumber r         the number of a reason, 0 to 5
 --     silent n r             a refusal or a reason without numbers: zero, zero, zero and no
---     said p pad             what a page says, with the scratchpad as it stands today
+--     limitsDiffer p pad     whether a limit of today, in scratchpad bytes 2 and 3, is another than the page's
+--     toldBy p pad           what a page says, with the scratchpad as it stands today
+--     whyAt b place          the same for the device at a place, or that there is none
 --     whyOf b code           the answer for a code: 5, then 7, for a code that is not sound; else by the device with that code, or that there is none
 -- Assumes nothing.
 use Prim.Native.Nat.{ℕ}
@@ -76,8 +78,8 @@ silent refusal reason = record {
 abbrev pub limitsDiffer : Page → List ℕ → Bool
 limitsDiffer p pad = not (eqb (getD pad highLimitPlace 0) (p .high) && eqb (getD pad lowLimitPlace 0) (p .low))
 
-unfoldable pub said : Page → List ℕ → Why
-said p pad =
+unfoldable pub toldBy : Page → List ℕ → Why
+toldBy p pad =
     if p .taken then record {
       refusal = accepted;
       reason = reasonOn p;
@@ -89,7 +91,7 @@ said p pad =
     else silent accepted NoConversion
 
 abbrev pub whyAt : Bench → Place → Why
-whyAt b (At i) = let d = deviceAt b i in said (d .page) (d .scratchpad)
+whyAt b (At i) = let d = deviceAt b i in toldBy (d .page) (d .scratchpad)
 whyAt b Nowhere = silent accepted NotOnBench
 
 unfoldable pub whyOf : Bench → ℕ → Why

@@ -31,7 +31,7 @@ fn ended(c: u8) -> usize
 
 // How many words a line has: one more than it has spaces.
 pub fn count(line: &[u8]) -> usize
-    ensures { λ r. ⌜ r ≡ length (wordsOf (now (line .entry))) ⌝ }
+    ensures answer { λ r. ⌜ r ≡ length (wordsOf (now (line .entry))) ⌝ }
 {
     let mut n: usize = 1;
     let mut i: usize = 0;
@@ -58,7 +58,7 @@ fn start_of(line: &[u8], k: usize) -> usize
 
 // Word k, counted from 0; the empty word where there is none.
 pub fn word(line: &[u8], k: usize) -> &[u8]
-    ensures { λ r. ⌜ now r ≡ wordOf (wordsOf (now (line .entry))) k ⌝ }
+    ensures answer { λ r. ⌜ now r ≡ wordOf (wordsOf (now (line .entry))) k ⌝ }
 {
     let words = count(line);
     if words <= k {
@@ -71,7 +71,7 @@ pub fn word(line: &[u8], k: usize) -> &[u8]
 
 // Whether two words are the same.
 pub fn same(a: &[u8], b: &[u8]) -> bool
-    ensures { λ r. ⌜ r ≡ same (now (a .entry)) (now (b .entry)) ⌝ }
+    ensures answer { λ r. ⌜ r ≡ same (now (a .entry)) (now (b .entry)) ⌝ }
 {
     if a.len() != b.len() {
         return false;

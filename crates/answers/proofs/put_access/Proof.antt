@@ -5,7 +5,7 @@ use Rattle.text.specs.Decimal.{decimal}
 use Rattle.text.specs.Digits.{hexOf}
 use Rattle.temperature.specs.declared.Register.{Register}
 use Rattle.answers.specs.Answers.{accessLine}
-use Rattle.putting.specs.PuttingLaws.{Puts}
+use Rattle.putting.specs.Putting.{Puts}
 use Rattle.putting.specs.PuttingLaws.{puts-field, field-puts}
 use denote.Ref.{now}
 use borrow.Author.Needs.{needs}

@@ -1,7 +1,6 @@
 -- The loop's invariant says what is still to come: the register as it stands, fed with the bits that are left, gives the answer.
 -- Assumes nothing.
 use mathlib.Core.Path.{_≡_, _∙_, refl}
-use native.Mathlib.Omega.{arith}
 use borrow.Author.Needs.{needs}
 use Rattle.bits.specs.Bits.{bitsOf}
 use Rattle.crc.specs.Crc.{crcBits}

@@ -5,7 +5,8 @@ use mathlib.Core.Bool.{Bool, true, false}
 use native.Mathlib.Omega.{arith}
 use lib.Pow.{pow-mono}
 use Rattle.bits.specs.Bits.{bitNumber}
-use Rattle.frame.specs.FramesLaws.{withBit, with-sum, with-lt}
+use Rattle.frame.specs.Frames.{withBit}
+use Rattle.frame.specs.FramesLaws.{with-sum, with-lt}
 use borrow.Author.Needs.{needs}
 use Rattle.frame.proofs.with_bit.Statement.{statement}
 use Rattle.frame.proofs.with_bit.Tie as tie

@@ -1,5 +1,4 @@
 -- As it is laid. Assumes nothing.
-use Prim.Native.Nat.{ℕ}
 use mathlib.Core.Path.{ap}
 use Rattle.laying.specs.declared.Written.{Written}
 use borrow.Author.Needs.{needs}

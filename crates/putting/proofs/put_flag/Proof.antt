@@ -3,7 +3,7 @@ use Prim.Native.Nat.{ℕ}
 use mathlib.Core.List.{List, [], _∷_}
 use mathlib.Core.Path.{_≡_, subst}
 use denote.Ref.{now}
-use Rattle.putting.specs.Putting.{flag, fieldNext, fieldLeaves}
+use Rattle.putting.specs.Putting.{fieldNext, fieldLeaves}
 use Rattle.putting.specs.PuttingLaws.{field-laid}
 use borrow.Author.Needs.{needs}
 use Rattle.putting.proofs.put_flag.Statement.{statement}

@@ -1,5 +1,5 @@
 -- Part by part, as the calls answer. Assumes nothing.
-use Rattle.why_rules.specs.Why.{said}
+use Rattle.why_rules.specs.Why.{toldBy}
 use borrow.Author.Tests.{not-true, not-false}
 use borrow.Author.Needs.{needs}
 use Rattle.why.proofs.say.Statement.{statement}
@@ -9,7 +9,7 @@ silent-requires : tie.Need-silent-requires
 silent-requires c κs = search needs
 
 returns : tie.Need-returns
-unfolding said
+unfolding toldBy
 returns c = rw (not-true (c .before .before .before .args .page .taken) (c .before .if1 .taken)) (c .silent .ensures)
 
 limit-of-requires : tie.Need-limit-of-requires
@@ -28,7 +28,7 @@ limits-differ-requires : tie.Need-limits-differ-requires
 limits-differ-requires c κs = search needs
 
 returns-2 : tie.Need-returns-2
-unfolding said
+unfolding toldBy
 returns-2 c =
     let high = c .before .before .before .before in
     let a = high .before .before .before .args in

@@ -6,7 +6,7 @@ use Rattle.refusals.specs.Refusals.{accepted}
 use Rattle.rom.specs.Code.{codeRefusal}
 use Rattle.bench.specs.Calls.{looked}
 use Rattle.bench.specs.declared.Looked.{Looked}
-use Rattle.why_rules.specs.Why.{silent, said, whyOf}
+use Rattle.why_rules.specs.Why.{silent, toldBy, whyOf}
 use Rattle.why_rules.specs.WhyLaws.{why-refused, why-absent, why-there}
 use Rattle.why_rules.specs.declared.Reason.the-variants.{NotOnBench}
 use Rattle.why_rules.specs.BookLaws.{why-promised}
@@ -56,7 +56,7 @@ returns-3 c =
     let is-sound : codeRefusal (a .code) ≡ accepted = sym (code .refusal-of .ensures) ∙ look .before .if1 .left in
     let there : looked (a .bench) (a .code) .refusal ≡ accepted = ap (λ (l : Looked). l .refusal) (sym (look .look .ensures)) ∙ found .before .if2 .left in
     let is : c .say .result ≡ whyOf (a .bench) (a .code) =
-    c .say .ensures ∙ ap (λ (l : Looked). said (l .device .page) (l .device .scratchpad)) (look .look .ensures) ∙ why-there (a .bench) (a .code) is-sound there in
+    c .say .ensures ∙ ap (λ (l : Looked). toldBy (l .device .page) (l .device .scratchpad)) (look .look .ensures) ∙ why-there (a .bench) (a .code) is-sound there in
     (is, why-promised (a .bench) (a .code) (c .say .result) is)
 
 pub why-spec : {M : Type 1} → statement M

@@ -7,8 +7,8 @@ use lib.IntN.{ℤ}
 use Rattle.signed.specs.Complement.{Fits16}
 use Rattle.signed.specs.ComplementLaws.{read16, held16, held-back}
 use Rattle.text.specs.Decimal.{decimal, signedDecimal}
-use Rattle.putting.specs.Putting.{flag}
-use Rattle.putting.specs.PuttingLaws.{Puts, puts-field, field-puts}
+use Rattle.putting.specs.Putting.{Puts, flag}
+use Rattle.putting.specs.PuttingLaws.{puts-field, field-puts}
 use Rattle.why_answers.specs.WhyLine.{fieldsLine}
 use Rattle.why_answers.specs.WhyLineLaws.{fields-short}
 use borrow.Author.Needs.{needs}

@@ -2,14 +2,15 @@
 use Prim.Native.Nat.{_+_, _≤_}
 use denote.Ref.{now}
 use lib.ListN.{length}
-use Rattle.putting.specs.Putting.{lineRoom}
-use mathlib.Core.Path.{_≡_, sym, _∙_}
+use Rattle.putting.specs.Putting.{Puts, lineRoom}
+use mathlib.Core.Path.{_≡_, sym, ap, _∙_}
 use native.Mathlib.Omega.{arith}
 use borrow.Author.Tests.{leb-true, not-true, not-false}
+use Rattle.laying.specs.declared.Written.{Written}
 use Rattle.signed.specs.Complement.{Fits16}
 use Rattle.signed.specs.ComplementLaws.{held-back}
 use Rattle.temperature.specs.Register.{countOf}
-use Rattle.putting.specs.PuttingLaws.{Puts, line-refused, line-done}
+use Rattle.putting.specs.PuttingLaws.{line-refused, line-done}
 use Rattle.why_answers.specs.WhyLine.{whyLine}
 use borrow.Author.Needs.{needs}
 use Rattle.why_answers.proofs.why_line.Statement.{statement}
@@ -18,15 +19,20 @@ use Rattle.why_answers.proofs.why_line.Tie as tie
 has-room-requires : tie.Need-has-room-requires
 has-room-requires c κs = search needs
 
+no-room-requires : tie.Need-no-room-requires
+no-room-requires c κs = search needs
+
 same-length : tie.Need-same-length
 same-length c = search needs
 
 returns : tie.Need-returns
 returns c =
-    let room = c .before in
+    let room = c .before .before in
     let a = room .before .before .before .args in
-    let none = line-refused (now (a .out)) (a .at) (whyLine (a .w)) (sym (room .has-room .ensures) ∙ not-true (room .has-room .result) (c .if1 .taken)) in
-    (none .0, (none .1, omega arith))
+    let none = line-refused (now (a .out)) (a .at) (whyLine (a .w)) (sym (room .has-room .ensures) ∙ not-true (room .has-room .result) (c .before .if1 .taken)) in
+    let answer = c .no-room .ensures in
+    let next : c .no-room .result .next ≡ 0 = ap (λ (v : Written). v .next) answer in
+    (answer ∙ none .0, (none .1, omega arith))
 
 number-of-requires : tie.Need-number-of-requires
 number-of-requires c κs = search needs
@@ -37,12 +43,15 @@ count-of-requires c κs = search needs
 put-fields-requires : tie.Need-put-fields-requires
 put-fields-requires c κs = search needs
 
+behind-requires : tie.Need-behind-requires
+behind-requires c κs = search needs
+
 same-length-2 : tie.Need-same-length-2
 same-length-2 c = search needs
 
 returns-2 : tie.Need-returns-2
 returns-2 c =
-    let put = c .before .before in
+    let put = c .before .before .before in
     let told = put .before .before in
     let count = told .before .before .before .before in
     let test = count .before .before in
@@ -58,18 +67,22 @@ returns-2 c =
     let behind = laid .0 .puts in
     let room-there = leb-true (a .at + lineRoom) (length (now (a .out))) (sym (room .has-room .ensures) ∙ not-false (room .has-room .result) (test .if1 .left)) in
     let short = laid .1 in
-    let next = behind (omega arith) .1 in
-    (done .0, (done .1, omega arith))
+    let place = behind (omega arith) .1 in
+    let answer = c .behind .ensures in
+    let next : c .behind .result .next ≡ put .put-fields .result = ap (λ (v : Written). v .next) answer in
+    (answer ∙ done .0, (done .1, omega arith))
 
 pub why-line-spec : {M : Type 1} → statement M
 why-line-spec =
     tie.close
     (tie.spec
     has-room-requires
+    no-room-requires
     same-length
     returns
     number-of-requires
     count-of-requires
     put-fields-requires
+    behind-requires
     same-length-2
     returns-2)

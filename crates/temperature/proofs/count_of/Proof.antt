@@ -1,8 +1,8 @@
 -- Unit by unit, on the numbers that their bits hold. Assumes nothing.
 use Rattle.signed.specs.ComplementLaws.{held-back}
 use borrow.Author.Needs.{needs}
-use Rattle.why_answers.proofs.count_of.Statement.{statement}
-use Rattle.why_answers.proofs.count_of.Tie as tie
+use Rattle.temperature.proofs.count_of.Statement.{statement}
+use Rattle.temperature.proofs.count_of.Tie as tie
 
 enum-known-reading : tie.Need-enum-known-reading
 enum-known-reading c = search needs
