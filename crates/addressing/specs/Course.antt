@@ -42,11 +42,11 @@ abbrev pub Hears : (Device → Type 0) → List Bool → Device → Type 0
 Hears E [] d = E d
 Hears E (x ∷ bits) d = Calm x d × (offerOf d ≡ true) × Hears E bits (hearOf d x)
 
-hears-append : (E : Device → Type 0) (xs ys : List Bool) (d : Device) → Hears (λ e. Hears E ys e) xs d → Hears E (xs ++ ys) d
+pub hears-append : (E : Device → Type 0) (xs ys : List Bool) (d : Device) → Hears (λ e. Hears E ys e) xs d → Hears E (xs ++ ys) d
 hears-append E [] ys d h = h
 hears-append E (x ∷ xs) ys d h = (h .0, h .1, hears-append E xs ys (hearOf d x) (h .2))
 
-hears-then : (E F : Device → Type 0) → ((d : Device) → E d → F d) → (xs : List Bool) (d : Device) → Hears E xs d → Hears F xs d
+pub hears-then : (E F : Device → Type 0) → ((d : Device) → E d → F d) → (xs : List Bool) (d : Device) → Hears E xs d → Hears F xs d
 hears-then E F f [] d h = f d h
 hears-then E F f (x ∷ xs) d h = (h .0, h .1, hears-then E F f xs (hearOf d x) (h .2))
 
@@ -65,7 +65,7 @@ awaitsFunction SendPower = false
 awaitsFunction Quiet = false
 
 -- away from function commands every bit is heard calmly
-calm : (x : Bool) (d : Device) (s : Stage) → d .stage ≡ s → awaitsFunction s ≡ false → Calm x d
+pub calm : (x : Bool) (d : Device) (s : Stage) → d .stage ≡ s → awaitsFunction s ≡ false → Calm x d
 calm x d u e h = hear-outcome d x (λ e. holdsWire e ≡ holdsWire d)
     (record {
       moved = λ s. refl;
@@ -80,7 +80,7 @@ calm x d u e h = hear-outcome d x (λ e. holdsWire e ≡ holdsWire d)
 
 -- ## A quiet device
 
-quiet-hears : (E : Device → Type 0) (bits : List Bool) (d : Device) → d .stage ≡ Quiet → E d → Hears E bits d
+pub quiet-hears : (E : Device → Type 0) (bits : List Bool) (d : Device) → d .stage ≡ Quiet → E d → Hears E bits d
 quiet-hears E [] d q e = e
 quiet-hears E (x ∷ bits) d q e =
     let s = quiet-stays d x q in
@@ -88,7 +88,7 @@ quiet-hears E (x ∷ bits) d q e =
 
 -- ## Settled
 
-abbrev settles : Stage → Bool
+abbrev pub settles : Stage → Bool
 settles (AwaitRom s n) = false
 settles (SendRom i) = false
 settles (Match i) = false
@@ -151,14 +151,14 @@ settled-hears x d h = at-stage (d .stage) refl h
 -- ## The code
 
 -- where a matching device stands at bit i: after the last it awaits a function command
-abbrev matchStage : ℕ → Stage
+abbrev pub matchStage : ℕ → Stage
 matchStage i = if ltb i 64 then Match i else awaitFunction
 
 -- matching so far, or quiet
 abbrev AtBit : ℕ → Device → Type 0
 AtBit i d = (d .stage ≡ matchStage i) ⊎ (d .stage ≡ Quiet)
 
-next-bit : (i : ℕ) → i < 64 → afterBit Match i ≡ matchStage (suc i)
+pub next-bit : (i : ℕ) → i < 64 → afterBit Match i ≡ matchStage (suc i)
 next-bit i h = by-test (ltb i 63) refl
   where
     by-test : (t : Bool) → ltb i 63 ≡ t → afterBit Match i ≡ matchStage (suc i)

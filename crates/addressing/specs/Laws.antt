@@ -45,7 +45,7 @@ use Rattle.addressing.specs.Course.{Calm, Hears, Settled, settled-calm, 
 -- ## One slot
 
 -- each device hears the bit calmly
-free-after : (x : Bool) (b : Bench) → Each (Calm x) (live b) → Free b → Free (heard b x)
+pub free-after : (x : Bool) (b : Bench) → Each (Calm x) (live b) → Free b → Free (heard b x)
 unfolding all
 free-after x b h f = free-live (heard b x) ∙ rw (heard-live b x) (same (live b) h) ∙ sym (free-live b) ∙ f
   where
@@ -73,7 +73,7 @@ bit-heard E x bits (d ∷ ds) h =
     record { calm = (h .0 .0, i .calm); ones = rw (h .0 .1, i .ones); others = (h .0 .2, i .others) }
 
 -- bits that every device hears as the master offers them
-heard-runs : (E : Device → Type 0) (bits : List Bool) (b : Bench) → Each (Hears E bits) (live b) → Free b → Ends E bits b
+pub heard-runs : (E : Device → Type 0) (bits : List Bool) (b : Bench) → Each (Hears E bits) (live b) → Free b → Ends E bits b
 unfolding slots
 heard-runs E [] b h f = record { runs = record { throughout = tt; after-it = f }; each = h }
 heard-runs E (x ∷ bits) b h f =
@@ -110,7 +110,7 @@ address-runs {command} a code bits b f =
 
 -- ## Calls that are not refused do what the slot rule does
 
-calls-rule : (bits : List Bool) (b : Bench) → Throughout slotRule Free bits b → slots calls bits b ≡ slots slotRule bits b
+pub calls-rule : (bits : List Bool) (b : Bench) → Throughout slotRule Free bits b → slots calls bits b ≡ slots slotRule bits b
 unfolding slots
 calls-rule [] b t = refl
 calls-rule (x ∷ bits) b t =
@@ -120,7 +120,7 @@ calls-rule (x ∷ bits) b t =
 -- ## The slots of a read and of a write, as one run
 
 module _ (code : ℕ) (b : Bench) where
-  addressed-run : (command : ℕ) → slots calls (addressBits code command) b .devices ≡ addressed code command b
+  pub addressed-run : (command : ℕ) → slots calls (addressBits code command) b .devices ≡ addressed code command b
   unfolding addressed
   addressed-run command =
       ap (λ r. r .devices) (slots-append calls (bitsOf 8 matchRom) (codeBits code ++ bitsOf 8 command) b)
@@ -157,7 +157,7 @@ fetched-bench code b = let asked = addressed code readScratchpad b in either (eq
 -- ## The claims
 
 -- a call that is admitted finds the wire free
-admitted-free : (b : Bench) (code : ℕ) → admission b code ≡ accepted → Free b
+pub admitted-free : (b : Bench) (code : ℕ) → admission b code ≡ accepted → Free b
 unfolding admission
 admitted-free b code = by-tests (eqb (codeRefusal code) accepted) refl (free b)
   where

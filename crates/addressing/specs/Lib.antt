@@ -1,3 +1,11 @@
 pub mod Unrefused
 pub mod Course
 pub mod Laws
+pub mod Picked
+pub mod OneAmong
+pub mod Reply
+pub mod Shown
+pub mod ShownLaws
+pub mod Lasting
+pub mod Bytewise
+pub mod ReadLaws

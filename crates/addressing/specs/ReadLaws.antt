@@ -1,0 +1,226 @@
+-- The answers of reads. A bench that calls reach is sound, and its devices hold bytes (`Bytewise`): so a read at the code of a device shows its scratchpad with a right
+-- CRC, not all zeros, a configuration in stored form and a reading in range, which the judgement accepts; and a read at any other code shows ones, which it refuses with 5.
+-- Assumes nothing.
+use Prim.Native.Nat.{ℕ, _<_}
+use mathlib.Core.Bool.{Bool, true, false, not, _||_, false≢true}
+use mathlib.Core.List.{List, [], _∷_}
+use mathlib.Core.Logic.{_≢_}
+use mathlib.Core.Path.{_≡_, refl, sym, ap, _∙_}
+use native.Mathlib.Omega.{arith}
+use borrow.Author.Tests.{eqb-true, eqb-false, eq-eqb, lt-ltb}
+use lib.Dec.{eqb, lit<}
+use lib.ListN.{length, getD, replicate, length-take}
+use lib.Seq.{take-at}
+use Rattle.lists.specs.Choice.{if_then_else_}
+use Rattle.lists.specs.Each.{Each}
+use Rattle.lists.specs.EachLaws.{each-at}
+use Rattle.lists.specs.Fold.{fold, all}
+use Rattle.lists.specs.FoldLaws.{all-at}
+use Rattle.bits.specs.Bits.{bitsOf, bytesBits}
+use Rattle.commands.specs.Commands.{readScratchpad}
+use Rattle.refusals.specs.Refusals.{accepted, wrongCrc, wrongKind, noPresence, wireBusy, outOfRange}
+use Rattle.family.specs.Families.{propertiesOf}
+use Rattle.family.specs.FamiliesLaws.{every-row}
+use Rattle.family.specs.declared.Properties.{Properties}
+use Rattle.crc.specs.Crc.{crcBits, crcOf}
+use Rattle.rom.specs.Code.{familyOf, crcByteOf, codeRefusal, sound}
+use Rattle.scratchpad.specs.Judgement.{crcRight, allZeros, judged}
+use Rattle.scratchpad.specs.Stored.{readingIn}
+use Rattle.scratchpad.specs.StoredLaws.{raw-range}
+use Rattle.search_law.specs.Numbers.{Below}
+use Rattle.device.specs.Offer.{nineBytes}
+use Rattle.device.specs.OfferLaws.{nine-length, nine-byte, nine-crc}
+use Rattle.device.specs.Record.{rowOf}
+use Rattle.device.specs.Sound.{PadSound, Sound}
+use Rattle.bench.specs.Bench.{live, vacant, placeOf, free}
+use Rattle.bench.specs.Calls.{deviceAt}
+use Rattle.bench.specs.Slot.{presenceOf, restarted}
+use Rattle.bench.specs.declared.Bench.{Bench}
+use Rattle.bench.specs.declared.Place.{Place}
+use Rattle.bench.specs.declared.Place.the-variants.{At, Nowhere}
+use Rattle.bench_laws.specs.Laws.{reset-accepted, place-live, place-found, device-live}
+use Rattle.bench_laws.specs.Sound.{codesOf}
+use Rattle.master_rules.specs.declared.Access.{Access}
+use Rattle.master_rules.specs.Access.{addressed, afterSlots, judgedReply, fetched, readBack, admission, readAt}
+use Rattle.master_rules.specs.AccessLaws.{read-unsent}
+use Rattle.master_rules.specs.Issued.{issued}
+use Rattle.history.specs.History.{Call, Typed, after}
+use Rattle.history.specs.Corollaries.{bench-is-sound}
+use Rattle.history.specs.Reached.{reached-after}
+use Rattle.addressing.specs.Unrefused.{readBits}
+use Rattle.addressing.specs.Laws.{admitted-free, read-unrefused}
+use Rattle.addressing.specs.Shown.{shownAt, AbsentRefused, ReadAnswer, NeverOutOfRange}
+use Rattle.addressing.specs.ShownLaws.{code-at, shows-scratchpad, shows-ones}
+use Rattle.addressing.specs.Bytewise.{Bytewise, bytewise-after}
+
+-- ## A read that is admitted, where somebody shows presence
+
+read-judged : (b : Bench) (code : ℕ) → admission b code ≡ accepted → presenceOf b ≡ true
+    → readAt b code ≡ judgedReply (shownAt b code) (afterSlots 72 (addressed code readScratchpad (restarted b))) (judged (familyOf code) (shownAt b code))
+unfolding readAt readBack fetched
+read-judged b code h there = rw (h, reset-accepted b (admitted-free b code h), there)
+
+ones-judged : (family : ℕ) → judged family (replicate 9 255) .refusal ≡ wrongCrc
+unfolding judged crcOf crcBits fold bytesBits bitsOf
+ones-judged family = refl
+
+pub absent-refused : AbsentRefused
+absent-refused b code fits fit h there nowhere =
+    ap (λ r. r .refusal) (read-judged b code h there)
+    ∙ ap (λ (nine : List ℕ). judgedReply nine (afterSlots 72 (addressed code readScratchpad (restarted b))) (judged (familyOf code) nine) .refusal)
+    (shows-ones b code fits fit (admitted-free b code h) nowhere)
+    ∙ rw (ones-judged (familyOf code))
+
+-- ## The judgement of a scratchpad and its CRC
+
+module _ (row : Properties) (pad : List ℕ) (s : PadSound row pad) where
+  nine-at : (k : ℕ) → k < 8 → getD (nineBytes pad) k 0 ≡ getD pad k 0
+  nine-at k h = nine-byte pad k (s .eight) h
+
+  nine-crc-right : crcRight (nineBytes pad) ≡ true
+  nine-crc-right =
+      rw (nine-crc pad 8 (s .eight) refl, take-at pad (crcOf pad ∷ []) 8 (s .eight)) (eq-eqb (crcOf pad) (crcOf pad) refl)
+
+  nine-not-zero : getD pad 7 0 ≢ 0 → allZeros (nineBytes pad) ≡ false
+  nine-not-zero n = by-test (allZeros (nineBytes pad)) refl
+    where
+      by-test : (t : Bool) → allZeros (nineBytes pad) ≡ t → t ≡ false
+      by-test true e =
+          let l : 7 < length (nineBytes pad) = rw (nine-length pad (s .eight)) (lit< tt) in
+          absurd (n (sym (nine-at 7 (lit< tt)) ∙ eqb-true _ 0 (all-at (λ b. eqb b 0) (nineBytes pad) 0 7 l e)))
+      by-test false e = refl
+
+nine-judged : (family : ℕ) (pad : List ℕ) → propertiesOf family .known ≡ true → PadSound (propertiesOf family) pad → getD pad 7 0 ≢ 0
+    → judged family (nineBytes pad) ≡ record { refusal = accepted; reading = readingIn (propertiesOf family) pad }
+unfolding judged
+nine-judged family pad known s n =
+    let row = propertiesOf family in
+    let at : (k : ℕ) → k < 8 → getD (nineBytes pad) k 0 ≡ getD pad k 0 = nine-at row pad s in
+    rw (nine-crc-right row pad s, nine-not-zero row pad s n, known, at 0 (lit< tt), at 1 (lit< tt), at 4 (lit< tt), s .in-form, raw-range row pad (s .in-range))
+
+-- ## A device of a bench that calls reach
+
+sound-known : (code : ℕ) → codeRefusal code ≡ accepted → propertiesOf (familyOf code) .known ≡ true
+unfolding codeRefusal
+sound-known code = by-tests (eqb (crcByteOf code) (crcBits 0 (bitsOf 56 code))) (propertiesOf (familyOf code) .known)
+  where
+    by-tests : (t u : Bool) → (if not t then wrongCrc else if not u then wrongKind else accepted) ≡ accepted → u ≡ true
+    by-tests true true e = refl
+    by-tests true false e = absurd (omega arith)
+    by-tests false u e = absurd (omega arith)
+
+-- byte 7 at power-up, of every family that is one of ours
+seventh-set : (family : ℕ) → propertiesOf family .known ≡ true → getD (propertiesOf family .initial) 7 0 ≢ 0
+unfolding all
+seventh-set family known e =
+    let test : (not (propertiesOf family .known) || not (eqb (getD (propertiesOf family .initial) 7 0) 0)) ≡ true
+    = every-row (λ row. not (row .known) || not (eqb (getD (row .initial) 7 0) 0)) refl family in
+    false≢true (rw (known, e) at test)
+
+module _ (h : List Call) (t : Each Typed h) where
+  codes-fit : Below 64 (codesOf (after h))
+  codes-fit = let m = reached-after h t .marked in rw (m .codes-are) (m .codes-fit)
+
+  module _ (code i : ℕ) (f : free (after h) ≡ true) (at : placeOf (after h) code ≡ At i) where
+    place-lt : i < length (live (after h))
+    place-lt = place-live (after h) code i at
+
+    has : deviceAt (after h) i .code ≡ code
+    has = rw (device-live (after h) code i at) at (place-found (after h) code i at)
+
+    code-sound : codeRefusal code ≡ accepted
+    code-sound =
+        eqb-true (codeRefusal code) accepted
+        (rw (place-found (after h) code i at) at (code-at (λ c. sound c ≡ true) (live (after h)) i place-lt (bench-is-sound h t .codes-sound)))
+
+    admitted : admission (after h) code ≡ accepted
+    unfolding admission
+    admitted = rw (code-sound, f)
+
+    present : presenceOf (after h) ≡ true
+    present = let l = place-lt in let k = length-take (after h .count) (after h .devices) in lt-ltb 0 (after h .count) (omega arith)
+
+    pad-sound : PadSound (propertiesOf (familyOf code)) (deviceAt (after h) i .scratchpad)
+    unfolding rowOf
+    pad-sound =
+        let s = rw (device-live (after h) code i at) at (each-at Sound (live (after h)) i vacant place-lt (bench-is-sound h t .devices-sound)) in
+        rw has at (s .pad-sound)
+
+    bytewise : Bytewise (deviceAt (after h) i)
+    bytewise = rw (device-live (after h) code i at) at (each-at Bytewise (live (after h)) i vacant place-lt (bytewise-after h t))
+
+    seventh-is : getD (deviceAt (after h) i .scratchpad) 7 0 ≢ 0
+    unfolding rowOf
+    seventh-is e =
+        let k = sound-known code code-sound in
+        seventh-set (familyOf code) k (sym (rw has at (bytewise .stored .seventh)) ∙ e)
+
+    shown-is : shownAt (after h) code ≡ nineBytes (deviceAt (after h) i .scratchpad)
+    shown-is =
+        shows-scratchpad (after h) code i codes-fit (bench-is-sound h t .codes-distinct) f at (pad-sound .eight) (bytewise .stored .pad-bytes)
+
+    -- the answer, with the bench after its slots
+    abbrev answered : Bench → Access
+    answered c = record {
+      refusal = accepted;
+      pad = nineBytes (deviceAt (after h) i .scratchpad);
+      reading = readingIn (rowOf code) (deviceAt (after h) i .scratchpad);
+      bench = c;
+    }
+
+    read-is : readAt (after h) code ≡ answered (afterSlots 72 (addressed code readScratchpad (restarted (after h))))
+    unfolding rowOf
+    read-is =
+        read-judged (after h) code admitted present
+        ∙ rw (shown-is, nine-judged (familyOf code) (deviceAt (after h) i .scratchpad) (sound-known code code-sound) pad-sound seventh-is)
+
+    bench-is : readAt (after h) code .bench ≡ issued (readBits code ∷ []) (after h) .bench
+    bench-is = rw present at (read-unrefused (after h) code admitted .bench-is)
+
+    read-answered : readAt (after h) code ≡ answered (issued (readBits code ∷ []) (after h) .bench)
+    read-answered = read-is ∙ ap answered (sym (ap (λ a. a .bench) read-is) ∙ bench-is)
+
+-- ## The claims
+
+pub read-answer : ReadAnswer
+read-answer h t code i f at = read-answered h t code i f at
+
+-- the tests before anything is sent
+admission-codes : (b : Bench) (code : ℕ) → admission b code ≢ outOfRange
+unfolding admission codeRefusal
+admission-codes b code = by-tests (eqb (crcByteOf code) (crcBits 0 (bitsOf 56 code))) (propertiesOf (familyOf code) .known) (free b)
+  where
+    by-tests : (t u v : Bool)
+        → (if not (eqb (if not t then wrongCrc else if not u then wrongKind else accepted) accepted)
+        then (if not t then wrongCrc else if not u then wrongKind else accepted)
+        else if v then accepted else wireBusy)
+        ≢ outOfRange
+    by-tests true true true e = omega arith
+    by-tests true true false e = omega arith
+    by-tests true false v e = omega arith
+    by-tests false u v e = omega arith
+
+-- nobody shows presence
+lonely-refused : (b : Bench) (code : ℕ) → admission b code ≡ accepted → presenceOf b ≡ false → readAt b code .refusal ≡ noPresence
+unfolding readAt readBack
+lonely-refused b code h absent = rw (h, reset-accepted b (admitted-free b code h), absent)
+
+pub never-out-of-range : NeverOutOfRange
+never-out-of-range h t code fits = by-admission (eqb (admission (after h) code) accepted) refl
+  where
+    by-place : (p : Place) → placeOf (after h) code ≡ p → admission (after h) code ≡ accepted → presenceOf (after h) ≡ true → readAt (after h) code .refusal ≢ outOfRange
+    by-place (At i) at a there e =
+        let r = ap (λ x. x .refusal) (read-answer h t code i (admitted-free (after h) code a) at) in
+        let z : accepted ≡ outOfRange = sym r ∙ e in omega arith
+    by-place Nowhere at a there e =
+        let z : wrongCrc ≡ outOfRange = sym (absent-refused (after h) code fits (codes-fit h t) a there at) ∙ e in omega arith
+
+    by-presence : (p : Bool) → presenceOf (after h) ≡ p → admission (after h) code ≡ accepted → readAt (after h) code .refusal ≢ outOfRange
+    by-presence true there a e = by-place (placeOf (after h) code) refl a there e
+    by-presence false there a e = let z : noPresence ≡ outOfRange = sym (lonely-refused (after h) code a there) ∙ e in omega arith
+
+    by-admission : (v : Bool) → eqb (admission (after h) code) accepted ≡ v → readAt (after h) code .refusal ≢ outOfRange
+    by-admission true v e = by-presence (presenceOf (after h)) refl (eqb-true (admission (after h) code) accepted v) e
+    by-admission false v e =
+        admission-codes (after h) code
+        (sym (ap (λ a. a .refusal) (read-unsent (after h) code (eqb-false (admission (after h) code) accepted v))) ∙ e)

@@ -1,0 +1,67 @@
+-- What a read at a code shows (the scope, "The master"), and that no read of a bench that calls reach is refused with 11.
+--     shownAt b code        the nine bytes that the line shows in the 72 read slots of a read at the code
+--     ShowsScratchpad       where a device has the code, they are its scratchpad and the CRC of that
+--     ShowsOnes             where no device has it, they are all FFh
+--     AbsentRefused         and then the read is refused with 5
+--     ReadAnswer            after every history a read at the code of a device, where none holds the wire, is accepted and answers that device's own nine bytes and the
+--                           reading in them, and the bench is where the slot rule leaves it
+--     NeverOutOfRange       after every history no read is refused with 11
+-- The nine bytes of a scratchpad are `nineBytes`, as the device sends them. Assumes nothing.
+use Prim.Native.Nat.{ℕ}
+use mathlib.Core.Bool.{true}
+use mathlib.Core.List.{List, [], _∷_}
+use mathlib.Core.Logic.{_≢_}
+use mathlib.Core.Path.{_≡_}
+use lib.ListN.{length, replicate}
+use Rattle.lists.specs.Each.{Each, Distinct}
+use Rattle.bits.specs.Bytes.{Bytes}
+use Rattle.commands.specs.Commands.{readScratchpad}
+use Rattle.refusals.specs.Refusals.{accepted, wrongCrc, outOfRange}
+use Rattle.scratchpad.specs.Stored.{readingIn}
+use Rattle.search_law.specs.Numbers.{Below}
+use Rattle.device.specs.Offer.{nineBytes}
+use Rattle.device.specs.Record.{rowOf}
+use Rattle.bench.specs.Bench.{placeOf, free}
+use Rattle.bench.specs.Calls.{deviceAt}
+use Rattle.bench.specs.Slot.{presenceOf, restarted}
+use Rattle.bench.specs.declared.Bench.{Bench}
+use Rattle.bench.specs.declared.Place.the-variants.{At, Nowhere}
+use Rattle.bench_laws.specs.Sound.{codesOf}
+use Rattle.master_rules.specs.Access.{addressed, bytesShown, admission, readAt}
+use Rattle.master_rules.specs.Issued.{issued}
+use Rattle.history.specs.History.{Call, Typed, Code64, after}
+use Rattle.addressing.specs.Unrefused.{readBits}
+
+abbrev pub shownAt : Bench → ℕ → List ℕ
+shownAt b code = bytesShown 9 (addressed code readScratchpad (restarted b))
+
+-- ## On every bench whose codes are 64-bit numbers, where no device holds the wire
+
+-- no two codes are the same, and the device at place i, whose scratchpad is eight bytes, has the code
+abbrev pub ShowsScratchpad : Type 0
+ShowsScratchpad = (b : Bench) (code i : ℕ) → Below 64 (codesOf b) → Distinct (codesOf b) → free b ≡ true → placeOf b code ≡ At i
+    → length (deviceAt b i .scratchpad) ≡ 8 → Bytes (deviceAt b i .scratchpad) → shownAt b code ≡ nineBytes (deviceAt b i .scratchpad)
+
+abbrev pub ShowsOnes : Type 0
+ShowsOnes = (b : Bench) (code : ℕ) → Code64 code → Below 64 (codesOf b) → free b ≡ true → placeOf b code ≡ Nowhere → shownAt b code ≡ replicate 9 0xFF
+
+-- the read is admitted, and somebody shows presence
+abbrev pub AbsentRefused : Type 0
+AbsentRefused = (b : Bench) (code : ℕ) → Code64 code → Below 64 (codesOf b) → admission b code ≡ accepted → presenceOf b ≡ true → placeOf b code ≡ Nowhere
+    → readAt b code .refusal ≡ wrongCrc
+
+-- ## On every bench that calls reach
+
+-- the device at place i has the code, and no device holds the wire
+abbrev pub ReadAnswer : Type 0
+ReadAnswer = (h : List Call) → Each Typed h → (code i : ℕ) → free (after h) ≡ true → placeOf (after h) code ≡ At i
+    → readAt (after h) code
+    ≡ record {
+      refusal = accepted;
+      pad = nineBytes (deviceAt (after h) i .scratchpad);
+      reading = readingIn (rowOf code) (deviceAt (after h) i .scratchpad);
+      bench = issued (readBits code ∷ []) (after h) .bench;
+    }
+
+abbrev pub NeverOutOfRange : Type 0
+NeverOutOfRange = (h : List Call) → Each Typed h → (code : ℕ) → Code64 code → readAt (after h) code .refusal ≢ outOfRange
