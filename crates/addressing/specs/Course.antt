@@ -16,6 +16,7 @@ use borrow.Author.Tests.{lt-ltb, ltb-true, ltb-false}
 use lib.Dec.{ltb}
 use lib.ListN.{length}
 use Rattle.lists.specs.Choice.{if_then_else_}
+use Rattle.lists.specs.Fold.{fold}
 use Rattle.bits.specs.Bits.{bitAt, bitsOf}
 use Rattle.bits.specs.BitsLaws.{bits-length}
 use Rattle.commands.specs.Commands.{matchRom, readScratchpad, writeScratchpad}
@@ -49,6 +50,12 @@ hears-append E (x ∷ xs) ys d h = (h .0, h .1, hears-append E xs ys (hearOf d x
 pub hears-then : (E F : Device → Type 0) → ((d : Device) → E d → F d) → (xs : List Bool) (d : Device) → Hears E xs d → Hears F xs d
 hears-then E F f [] d h = f d h
 hears-then E F f (x ∷ xs) d h = (h .0, h .1, hears-then E F f xs (hearOf d x) (h .2))
+
+-- what the device is after them
+pub hears-end : (E : Device → Type 0) (bits : List Bool) (d : Device) → Hears E bits d → E (fold hearOf d bits)
+unfolding fold
+hears-end E [] d h = h
+hears-end E (x ∷ bits) d h = hears-end E bits (hearOf d x) (h .2)
 
 -- ## Calm
 
@@ -88,7 +95,7 @@ quiet-hears E (x ∷ bits) d q e =
 
 -- ## Settled
 
-abbrev pub settles : Stage → Bool
+abbrev settles : Stage → Bool
 settles (AwaitRom s n) = false
 settles (SendRom i) = false
 settles (Match i) = false

@@ -11,7 +11,7 @@ use lib.Dec.{eqb}
 use Rattle.lists.specs.Choice.{if_then_else_}
 use Rattle.lists.specs.Each.{Each}
 use Rattle.lists.specs.EachLaws.{each-implies}
-use Rattle.lists.specs.Fold.{all}
+use Rattle.lists.specs.Fold.{fold, all}
 use Rattle.bits.specs.Bits.{bitsOf}
 use Rattle.refusals.specs.Refusals.{accepted, wireBusy, mismatch}
 use Rattle.search_law.specs.Issued.{slots-append}
@@ -45,7 +45,7 @@ use Rattle.addressing.specs.Course.{Calm, Hears, Settled, settled-calm, 
 -- ## One slot
 
 -- each device hears the bit calmly
-pub free-after : (x : Bool) (b : Bench) → Each (Calm x) (live b) → Free b → Free (heard b x)
+free-after : (x : Bool) (b : Bench) → Each (Calm x) (live b) → Free b → Free (heard b x)
 unfolding all
 free-after x b h f = free-live (heard b x) ∙ rw (heard-live b x) (same (live b) h) ∙ sym (free-live b) ∙ f
   where
@@ -83,6 +83,25 @@ heard-runs E (x ∷ bits) b h f =
     let l : Each (Hears E bits) (live (heard b (lineBit b x))) = rw (e, heard-live b x) (t .others) in
     let i = heard-runs E bits (heard b (lineBit b x)) l g in
     record { runs = record { throughout = (f, i .runs .throughout); after-it = i .runs .after-it }; each = i .each }
+
+-- each device then has heard them all
+pub heard-live-all : (E : Device → Type 0) (bits : List Bool) (b : Bench) → Each (Hears E bits) (live b)
+    → live (slots slotRule bits b .devices) ≡ map (λ d. fold hearOf d bits) (live b)
+unfolding slots fold
+heard-live-all E [] b h = sym (unchanged (live b))
+  where
+    unchanged : (ds : List Device) → map (λ d. d) ds ≡ ds
+    unchanged [] = refl
+    unchanged (d ∷ ds) = let i = unchanged ds in rw i
+heard-live-all E (x ∷ bits) b h =
+    let t = bit-heard E x bits (live b) h in
+    let e : lineBit b x ≡ x = line-live b x ∙ rw (t .ones) (and-true x) in
+    let i = heard-live-all E bits (heard b x) (rw (heard-live b x) (t .others)) in
+    ap (λ (l : Bool). live (slots slotRule bits (heard b l) .devices)) e ∙ i ∙ rw (heard-live b x) (twice (live b))
+  where
+    twice : (ds : List Device) → map (λ d. fold hearOf d bits) (map (λ d. hearOf d x) ds) ≡ map (λ d. fold hearOf (hearOf d x) bits) ds
+    twice [] = refl
+    twice (d ∷ ds) = let i = twice ds in rw i
 
 -- any bits, whatever the line shows, once every device is settled
 settled-runs : (bits : List Bool) (b : Bench) → Each Settled (live b) → Free b → Runs slotRule Free bits b
@@ -150,7 +169,7 @@ either true x y b p q = p
 either false x y b p q = q
 
 -- the bench of a read's answer, whatever the judgement
-fetched-bench : (code : ℕ) (b : Bench) → fetched code b .bench ≡ afterSlots 72 (addressed code readScratchpad b)
+pub fetched-bench : (code : ℕ) (b : Bench) → fetched code b .bench ≡ afterSlots 72 (addressed code readScratchpad b)
 unfolding fetched
 fetched-bench code b = let asked = addressed code readScratchpad b in either (eqb (judged (familyOf code) (bytesShown 9 asked) .refusal) accepted) _ _ (afterSlots 72 asked) refl refl
 

@@ -16,6 +16,11 @@ one-each f g [] h = absurd h
 one-each f g (x ∷ l) (inl h) = (f x (h .0), each-implies g l (h .1))
 one-each f g (x ∷ l) (inr h) = (g x (h .0), one-each f g l (h .1))
 
+pub one-implies : {A : Type 0} {P Q R S : A → Type 0} → ((x : A) → P x → R x) → ((x : A) → Q x → S x) → (l : List A) → OneAmong P Q l → OneAmong R S l
+one-implies f g [] h = absurd h
+one-implies f g (x ∷ l) (inl h) = inl (f x (h .0), each-implies g l (h .1))
+one-implies f g (x ∷ l) (inr h) = inr (g x (h .0), one-implies f g l (h .1))
+
 -- each of them changed by the same function
 module _ {A B : Type 0} (P Q : A → Type 0) (R S : B → Type 0) (f : A → B) (p : (x : A) → P x → R (f x)) (q : (x : A) → Q x → S (f x)) where
   others-mapped : (l : List A) → Each Q l → Each S (map f l)
@@ -26,14 +31,3 @@ module _ {A B : Type 0} (P Q : A → Type 0) (R S : B → Type 0) (f : A → B) 
   one-mapped [] h = absurd h
   one-mapped (x ∷ l) (inl h) = inl (p x (h .0), others-mapped l (h .1))
   one-mapped (x ∷ l) (inr h) = inr (q x (h .0), one-mapped l (h .1))
-
--- back from what a function shows of them, where T is known of each
-module _ {A B : Type 0} (P Q : B → Type 0) (R S T : A → Type 0) (f : A → B) (p : (x : A) → P (f x) → T x → R x) (q : (x : A) → Q (f x) → T x → S x) where
-  others-back : (l : List A) → Each T l → Each Q (map f l) → Each S l
-  others-back [] t h = tt
-  others-back (x ∷ l) t h = (q x (h .0) (t .0), others-back l (t .1) (h .1))
-
-  pub one-back : (l : List A) → Each T l → OneAmong P Q (map f l) → OneAmong R S l
-  one-back [] t h = absurd h
-  one-back (x ∷ l) t (inl h) = inl (p x (h .0) (t .0), others-back l (t .1) (h .1))
-  one-back (x ∷ l) t (inr h) = inr (q x (h .0) (t .0), one-back l (t .1) (h .1))

@@ -1,18 +1,19 @@
 -- Which device a read at a code picks: after 55h, the code and BEh the device with the code is about to send the first bit of its scratchpad, which is as it was, and
 -- every other one is quiet. The matching device agrees with each bit of the code; any other differs from it in one of the 64, since different numbers below 2^64 have
 -- different bits, and is quiet from there on.
---     Picked code pad d     d has the code and is about to send pad, or d has another code and is quiet
---     read-heard            every device is picked by the read so
+--     picked code d     d about to send its scratchpad, if it has the code, and quiet if not
+--     read-picks        so a reset, 55h, the code and BEh leave every device
 -- Assumes nothing.
 use Prim.Native.Nat.{ℕ, zero, suc, _+_, _/_, _^_, _<_}
 use mathlib.Core.Bool.{Bool, true, false, Bool·beq}
-use mathlib.Core.List.{List, _++_}
+use mathlib.Core.List.{_++_}
 use mathlib.Core.Logic.{_≢_}
 use mathlib.Core.Path.{_≡_, refl, sym, ap, _∙_}
 use native.Mathlib.Nat.{pow-suc, div-div-eq-div-mul}
 use native.Mathlib.Omega.{arith}
 use borrow.Author.Tests.{lt-ltb, eqb-true, eqb-false}
 use lib.Dec.{eqb}
+use Rattle.lists.specs.Choice.{if_then_else_}
 use Rattle.bits.specs.Bits.{bitAt, bitsOf}
 use Rattle.commands.specs.Commands.{matchRom, readScratchpad}
 use Rattle.rom.specs.Code.{codeBits}
@@ -25,9 +26,8 @@ use Rattle.device.specs.declared.Stage.the-variants.{Match, SendScratchpad, Qui
 use Rattle.addressing.specs.Unrefused.{addressBits}
 use Rattle.addressing.specs.Course.{Hears, hears-append, hears-then, quiet-hears, calm, matchStage, next-bit}
 
-pub record Picked (code : ℕ) (pad : List ℕ) (d : Device) : Type 0 where
-  pub sends : d .code ≡ code → (d .stage ≡ SendScratchpad 0 0) × (d .scratchpad ≡ pad)
-  pub is-quiet : d .code ≢ code → d .stage ≡ Quiet
+abbrev pub picked : ℕ → Device → Device
+picked code d = withStage d (if eqb (d .code) code then SendScratchpad 0 0 else Quiet)
 
 -- ## One bit of the code
 
@@ -109,26 +109,21 @@ then-hears E F code d h go =
     code-then : (e : Device) → e ≡ withStage d (matchStage 0) → Hears F (codeBits code ++ bitsOf 8 readScratchpad) e
     code-then e q = rw q (hears-append F (codeBits code) (bitsOf 8 readScratchpad) (withStage d (matchStage 0)) (hears-then E (Hears F (bitsOf 8 readScratchpad)) go (codeBits code) (withStage d (matchStage 0)) h))
 
-pub read-heard : (code : ℕ) (pad : List ℕ) (d : Device) → code < 2 ^ 64 → d .code < 2 ^ 64 → (d .code ≡ code → d .scratchpad ≡ pad)
-    → Hears (Picked code pad) (addressBits code readScratchpad) (resetOf d)
-read-heard code pad d a b h = by-test (eqb (d .code) code) refl
+pub read-picks : (code : ℕ) (d : Device) → code < 2 ^ 64 → d .code < 2 ^ 64 → Hears (λ e. e ≡ picked code d) (addressBits code readScratchpad) (resetOf d)
+read-picks code d a b = by-test (eqb (d .code) code) refl
   where
-    own : d .code ≡ code → Hears (Picked code pad) (addressBits code readScratchpad) (resetOf d)
+    own : d .code ≡ code → Hears (λ e. e ≡ withStage d (SendScratchpad 0 0)) (addressBits code readScratchpad) (resetOf d)
     own f =
         let c : Hears (λ e. e ≡ withStage d awaitFunction) (codeBits code) (withStage d (matchStage 0)) = rw (← f) (rw (whole (d .code)) at (own-hears d 64 0 refl)) in
-        then-hears (λ e. e ≡ withStage d awaitFunction) (Picked code pad) code d c (λ e q.
-        rw q (hears-then (λ e. e ≡ withStage d (SendScratchpad 0 0)) (Picked code pad) picked (bitsOf 8 readScratchpad) (withStage d awaitFunction) (read-taken d)))
-      where
-        picked : (e : Device) → e ≡ withStage d (SendScratchpad 0 0) → Picked code pad e
-        picked e q = rw q (record { sends = λ g. (refl, h f); is-quiet = λ n. absurd (n f) })
+        then-hears (λ e. e ≡ withStage d awaitFunction) (λ e. e ≡ withStage d (SendScratchpad 0 0)) code d c (λ e q. rw q (read-taken d))
 
-    other : d .code ≢ code → Hears (Picked code pad) (addressBits code readScratchpad) (resetOf d)
+    other : d .code ≢ code → Hears (λ e. e ≡ withStage d Quiet) (addressBits code readScratchpad) (resetOf d)
     other n =
         let c : Hears (λ e. e ≡ withStage d Quiet) (codeBits code) (withStage d (matchStage 0)) =
         rw (whole code) at (other-hears d code 64 0 refl (λ e. bits-differ 64 (d .code) code b a n (rw (whole (d .code), whole code) at e))) in
-        then-hears (λ e. e ≡ withStage d Quiet) (Picked code pad) code d c (λ e q.
-        rw q (quiet-hears (Picked code pad) (bitsOf 8 readScratchpad) (withStage d Quiet) refl (record { sends = λ g. absurd (n g); is-quiet = λ g. refl })))
+        then-hears (λ e. e ≡ withStage d Quiet) (λ e. e ≡ withStage d Quiet) code d c (λ e q.
+        rw q (quiet-hears (λ e. e ≡ withStage d Quiet) (bitsOf 8 readScratchpad) (withStage d Quiet) refl refl))
 
-    by-test : (t : Bool) → eqb (d .code) code ≡ t → Hears (Picked code pad) (addressBits code readScratchpad) (resetOf d)
+    by-test : (t : Bool) → eqb (d .code) code ≡ t → Hears (λ e. e ≡ withStage d (if t then SendScratchpad 0 0 else Quiet)) (addressBits code readScratchpad) (resetOf d)
     by-test true e = own (eqb-true (d .code) code e)
     by-test false e = other (eqb-false (d .code) code e)

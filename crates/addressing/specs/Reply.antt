@@ -3,9 +3,10 @@
 --     Replies R Inv      with Inv k j the line shows bit j of byte k of R, and a slot goes on to the next
 --     reply-shown        then the bytes shown are R
 --     sending, silence   the two ways to reply
+--     slots-kept         the read slots change nothing but stages
 -- Assumes nothing.
 use Prim.Native.Nat.{ℕ, zero, suc, _+_, _/_, _^_, _<_, _≤_}
-use mathlib.Core.Bool.{Bool, true, false, and-true}
+use mathlib.Core.Bool.{Bool, true, false, not, _&&_, and-true}
 use mathlib.Core.List.{List, [], _∷_, map}
 use mathlib.Core.Logic.{inl, inr}
 use mathlib.Core.Path.{_≡_, refl, sym, ap, subst, _∙_}
@@ -24,7 +25,7 @@ use Rattle.bits.specs.BitsLaws.{bits-at, number-bits}
 use Rattle.bits.specs.Bytes.{Bytes}
 use Rattle.search_law.specs.Wire.{slots}
 use Rattle.device.specs.Hear.{afterScratchpad, hearOf}
-use Rattle.device.specs.Laws.{quiet-stays, quiet-offers}
+use Rattle.device.specs.Laws.{onlyMoves, hear-only-stage, quiet-stays, quiet-offers}
 use Rattle.device.specs.Offer.{offerOf, nineBytes, scratchpadSlot}
 use Rattle.device.specs.OfferLaws.{nine-length}
 use Rattle.device.specs.declared.Device.{Device}
@@ -34,16 +35,15 @@ use Rattle.bench.specs.Bench.{live}
 use Rattle.bench.specs.Slot.{lineBit, heard}
 use Rattle.bench.specs.declared.Bench.{Bench}
 use Rattle.bench_laws.specs.Laws.{line-live, heard-live, slot-accepted}
-use Rattle.searching.specs.OnTheBench.{Free}
+use Rattle.searching.specs.OnTheBench.{Free, free-heard}
+use Rattle.searching.specs.Thermometers.{unstaged, Moving}
 use Rattle.master_rules.specs.Wire.{shown}
 use Rattle.master_rules.specs.Access.{readSlots, afterSlots, bytesShown}
-use Rattle.addressing.specs.Course.{Settled, settles, settled-calm}
-use Rattle.addressing.specs.Laws.{free-after}
 use Rattle.addressing.specs.OneAmong.{OneAmong, one-each, one-mapped}
 use Rattle.addressing.specs.Picked.{half-then}
 
 pub record Replies (R : List ℕ) (Inv : ℕ → ℕ → List Device → Type 0) : Type 0 where
-  pub settled : (k j : ℕ) (ds : List Device) → Inv k j ds → Each Settled ds
+  pub moving : (k j : ℕ) (ds : List Device) → Inv k j ds → Each Moving ds
   pub offers : (k j : ℕ) (ds : List Device) → k < 9 → j < 8 → Inv k j ds → all offerOf ds ≡ bitAt (getD R k 0) j
   pub hears : (k j : ℕ) (ds : List Device) → k < 9 → j < 8 → (l : Bool) → Inv k j ds → Inv k (suc j) (map (λ d. hearOf d l) ds)
   pub turns : (k : ℕ) (ds : List Device) → Inv k 8 ds → Inv (suc k) 0 ds
@@ -70,7 +70,7 @@ module _ (R : List ℕ) (Inv : ℕ → ℕ → List Device → Type 0) (r : Repl
       let bit = bitAt (getD R k 0) j in
       let line : lineBit c true ≡ bit = line-live c true ∙ r .offers k j (live c) h l i in
       let next : Inv k (suc j) (live (heard c bit)) = rw (heard-live c bit) (r .hears k j (live c) h l bit i) in
-      let g : Free (heard c bit) = free-after bit c (each-implies (settled-calm bit) (live c) (r .settled k j (live c) i)) f in
+      let g : Free (heard c bit) = free-heard c bit (r .moving k j (live c) i) ∙ f in
       let later = byte-ends k h m (suc j) (omega arith) (heard c bit) next g in
       record {
         lines = rw (slot-accepted c true f, line, half-then (getD R k 0) j, later .lines);
@@ -99,8 +99,8 @@ module _ (R : List ℕ) (Inv : ℕ → ℕ → List Device → Type 0) (r : Repl
 abbrev pub IsQuiet : Device → Type 0
 IsQuiet d = d .stage ≡ Quiet
 
-quiet-settled : (d : Device) → IsQuiet d → Settled d
-quiet-settled d q = ap settles q
+quiet-moves : (d : Device) → IsQuiet d → Moving d
+quiet-moves d q = ap onlyMoves q
 
 quiet-hears : (l : Bool) (d : Device) → IsQuiet d → IsQuiet (hearOf d l)
 quiet-hears l d q = ap (λ e. e .stage) (quiet-stays d l q) ∙ q
@@ -117,7 +117,7 @@ ones-bit j h = sym (bits-at 8 255 j h) ∙ getD-replicate 8 j true false h
 -- where all are quiet
 pub silence : Replies (replicate 9 255) (λ k j. Each IsQuiet)
 silence = record {
-  settled = λ k j ds. each-implies quiet-settled ds;
+  moving = λ k j ds. each-implies quiet-moves ds;
   offers = λ k j ds h l i. quiet-ones ds i ∙ sym (rw (getD-replicate {A = ℕ} 9 k 255 0 h) (ones-bit j l));
   hears = λ k j ds h l x i. each-mapped IsQuiet (λ d. hearOf d x) (quiet-hears x) ds i;
   turns = λ k ds i. i;
@@ -132,10 +132,10 @@ sendStage k j = if ltb j 8 then (if ltb k 9 then SendScratchpad k j else Quiet) 
 abbrev pub Sends : List ℕ → ℕ → ℕ → Device → Type 0
 Sends pad k j d = (d .stage ≡ sendStage k j) × (d .scratchpad ≡ pad)
 
-sends-settled : (k j : ℕ) → settles (sendStage k j) ≡ true
-sends-settled k j = by-tests (ltb j 8) (ltb k 9) (ltb k 8)
+sends-moves : (k j : ℕ) → onlyMoves (sendStage k j) ≡ true
+sends-moves k j = by-tests (ltb j 8) (ltb k 9) (ltb k 8)
   where
-    by-tests : (t u v : Bool) → settles (if t then (if u then SendScratchpad k j else Quiet) else if v then SendScratchpad (k + 1) 0 else Quiet) ≡ true
+    by-tests : (t u v : Bool) → onlyMoves (if t then (if u then SendScratchpad k j else Quiet) else if v then SendScratchpad (k + 1) 0 else Quiet) ≡ true
     by-tests true true v = refl
     by-tests true false v = refl
     by-tests false u true = refl
@@ -182,8 +182,47 @@ module _ (pad : List ℕ) (long : length pad ≡ 8) where
   -- where one sends and all others are quiet
   pub sending : Replies (nineBytes pad) (λ k j. OneAmong (Sends pad k j) IsQuiet)
   sending = record {
-    settled = λ k j ds. one-each (λ d s. ap settles (s .0) ∙ sends-settled k j) quiet-settled ds;
+    moving = λ k j ds. one-each (λ d s. ap onlyMoves (s .0) ∙ sends-moves k j) quiet-moves ds;
     offers = λ k j ds h l. one-offers (bitAt (getD (nineBytes pad) k 0) j) k j (sent-bit k j h l) ds;
     hears = λ k j ds h l x. one-mapped (Sends pad k j) IsQuiet (Sends pad k (suc j)) IsQuiet (λ d. hearOf d x) (sent-next k j h l x) (quiet-hears x) ds;
     turns = λ k ds. subst (λ (s : Stage). OneAmong (λ d. (d .stage ≡ s) × (d .scratchpad ≡ pad)) IsQuiet ds) (next-byte k);
   }
+
+-- ## Nothing but stages changes
+
+-- a device that sends its scratchpad, at whatever bit, or is quiet
+pub data Replying (d : Device) : Type 0 where
+  sends : (k j : ℕ) → d .stage ≡ SendScratchpad k j → Replying d
+  silent : d .stage ≡ Quiet → Replying d
+
+replying-moves : (d : Device) → Replying d → Moving d
+replying-moves d (sends k j e) = ap onlyMoves e
+replying-moves d (silent e) = ap onlyMoves e
+
+replying-hears : (l : Bool) (d : Device) → Replying d → Replying (hearOf d l)
+unfolding hearOf
+replying-hears l d (silent e) = silent (rw e)
+replying-hears l d (sends k j e) = by-tests (not (ltb k 9 && ltb j 8)) (ltb j 7) (ltb k 8) (rw e)
+  where
+    by-tests : (t u v : Bool)
+        → hearOf d l .stage ≡ (if t then Quiet else if u then SendScratchpad k (j + 1) else if v then SendScratchpad (k + 1) 0 else Quiet) → Replying (hearOf d l)
+    by-tests true u v q = silent q
+    by-tests false true v q = sends k (j + 1) q
+    by-tests false false true q = sends (k + 1) 0 q
+    by-tests false false false q = silent q
+
+heard-kept : (l : Bool) (ds : List Device) → Each Replying ds → map unstaged (map (λ d. hearOf d l) ds) ≡ map unstaged ds
+heard-kept l [] r = refl
+heard-kept l (d ∷ ds) r =
+    let e : unstaged (hearOf d l) ≡ unstaged d = ap unstaged (hear-only-stage d l (replying-moves d (r .0))) in
+    let i = heard-kept l ds (r .1) in
+    rw (e, i)
+
+pub slots-kept : (n : ℕ) (c : Bench) → Each Replying (live c) → Free c → map unstaged (live (afterSlots n c)) ≡ map unstaged (live c)
+unfolding slots
+slots-kept zero c r f = refl
+slots-kept (suc n) c r f =
+    let l = lineBit c true in
+    let next : Each Replying (live (heard c l)) = rw (heard-live c l) (each-mapped Replying (λ d. hearOf d l) (replying-hears l) (live c) r) in
+    let g : Free (heard c l) = free-heard c l (each-implies replying-moves (live c) r) ∙ f in
+    ap (λ b. map unstaged (live b)) (after-one n c l f refl) ∙ slots-kept n (heard c l) next g ∙ ap (map unstaged) (heard-live c l) ∙ heard-kept l (live c) r

@@ -3,13 +3,14 @@
 --     ShowsScratchpad       where a device has the code, they are its scratchpad and the CRC of that
 --     ShowsOnes             where no device has it, they are all FFh
 --     AbsentRefused         and then the read is refused with 5
+--     ReadKeeps             a read, refused or not, changes nothing of any device but its stage
 --     ReadAnswer            after every history a read at the code of a device, where none holds the wire, is accepted and answers that device's own nine bytes and the
 --                           reading in them, and the bench is where the slot rule leaves it
 --     NeverOutOfRange       after every history no read is refused with 11
 -- The nine bytes of a scratchpad are `nineBytes`, as the device sends them. Assumes nothing.
 use Prim.Native.Nat.{ℕ}
 use mathlib.Core.Bool.{true}
-use mathlib.Core.List.{List, [], _∷_}
+use mathlib.Core.List.{List, [], _∷_, map}
 use mathlib.Core.Logic.{_≢_}
 use mathlib.Core.Path.{_≡_}
 use lib.ListN.{length, replicate}
@@ -21,12 +22,13 @@ use Rattle.scratchpad.specs.Stored.{readingIn}
 use Rattle.search_law.specs.Numbers.{Below}
 use Rattle.device.specs.Offer.{nineBytes}
 use Rattle.device.specs.Record.{rowOf}
-use Rattle.bench.specs.Bench.{placeOf, free}
+use Rattle.bench.specs.Bench.{live, placeOf, free}
 use Rattle.bench.specs.Calls.{deviceAt}
 use Rattle.bench.specs.Slot.{presenceOf, restarted}
 use Rattle.bench.specs.declared.Bench.{Bench}
 use Rattle.bench.specs.declared.Place.the-variants.{At, Nowhere}
 use Rattle.bench_laws.specs.Sound.{codesOf}
+use Rattle.searching.specs.Thermometers.{unstaged}
 use Rattle.master_rules.specs.Access.{addressed, bytesShown, admission, readAt}
 use Rattle.master_rules.specs.Issued.{issued}
 use Rattle.history.specs.History.{Call, Typed, Code64, after}
@@ -35,9 +37,9 @@ use Rattle.addressing.specs.Unrefused.{readBits}
 abbrev pub shownAt : Bench → ℕ → List ℕ
 shownAt b code = bytesShown 9 (addressed code readScratchpad (restarted b))
 
--- ## On every bench whose codes are 64-bit numbers, where no device holds the wire
+-- ## On every bench whose codes are 64-bit numbers
 
--- no two codes are the same, and the device at place i, whose scratchpad is eight bytes, has the code
+-- no device holds the wire, no two codes are the same, and the device at place i, whose scratchpad is eight bytes, has the code
 abbrev pub ShowsScratchpad : Type 0
 ShowsScratchpad = (b : Bench) (code i : ℕ) → Below 64 (codesOf b) → Distinct (codesOf b) → free b ≡ true → placeOf b code ≡ At i
     → length (deviceAt b i .scratchpad) ≡ 8 → Bytes (deviceAt b i .scratchpad) → shownAt b code ≡ nineBytes (deviceAt b i .scratchpad)
@@ -49,6 +51,10 @@ ShowsOnes = (b : Bench) (code : ℕ) → Code64 code → Below 64 (codesOf b) �
 abbrev pub AbsentRefused : Type 0
 AbsentRefused = (b : Bench) (code : ℕ) → Code64 code → Below 64 (codesOf b) → admission b code ≡ accepted → presenceOf b ≡ true → placeOf b code ≡ Nowhere
     → readAt b code .refusal ≡ wrongCrc
+
+-- whether a device holds the wire or not; `unstaged` is a device without its stage
+abbrev pub ReadKeeps : Type 0
+ReadKeeps = (b : Bench) (code : ℕ) → Code64 code → Below 64 (codesOf b) → map unstaged (live (readAt b code .bench)) ≡ map unstaged (live b)
 
 -- ## On every bench that calls reach
 

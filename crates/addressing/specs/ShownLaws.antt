@@ -1,44 +1,50 @@
--- What a read at a code shows: 55h, the code and BEh leave the device with the code about to send, and all others quiet (`Picked`), so that the read slots show its nine
--- bytes (`sending`); where no device has the code they show ones (`silence`).
+-- What a read at a code shows: 55h, the code and BEh leave the device with the code about to send, and all others quiet (`picked`), so that the read slots show its nine
+-- bytes (`sending`); where no device has the code they show ones (`silence`). None of this changes anything but stages: `read-kept`.
 -- Assumes nothing.
 use Prim.Native.Nat.{ℕ, zero, suc, _^_, _<_}
+use mathlib.Core.Bool.{Bool, true, false, not}
 use mathlib.Core.List.{List, [], _∷_, map}
 use mathlib.Core.Logic.{_≢_, inl, inr}
 use mathlib.Core.Path.{_≡_, refl, sym, ap, _∙_}
 use native.Mathlib.Omega.{arith}
-use lib.Dec.{lit<}
+use borrow.Author.Tests.{eqb-true, eq-eqb, ne-eqb}
+use lib.Dec.{eqb, lit<}
 use lib.ListN.{length, getD, replicate, length-replicate}
+use Rattle.lists.specs.Choice.{if_then_else_}
 use Rattle.lists.specs.Each.{Each, Distinct}
-use Rattle.lists.specs.EachLaws.{each-implies}
+use Rattle.lists.specs.Fold.{fold}
 use Rattle.bits.specs.Bytes.{Bytes}
 use Rattle.bits.specs.BytesLaws.{bytes-append-bytes}
 use Rattle.commands.specs.Commands.{readScratchpad}
+use Rattle.refusals.specs.Refusals.{accepted}
 use Rattle.crc.specs.Crc.{crcOf}
 use Rattle.crc.specs.Laws.{crc-bytes-lt}
-use Rattle.search_law.specs.Holds.{slots-hold}
 use Rattle.search_law.specs.Numbers.{Below}
 use Rattle.search_law.specs.Wire.{slots}
+use Rattle.device.specs.Hear.{hearOf}
 use Rattle.device.specs.Offer.{nineBytes}
 use Rattle.device.specs.OfferLaws.{nine-length}
 use Rattle.device.specs.Power.{resetOf}
+use Rattle.device.specs.Record.{withStage}
 use Rattle.device.specs.declared.Device.{Device}
+use Rattle.device.specs.declared.Stage.the-variants.{SendScratchpad, Quiet}
 use Rattle.bench.specs.Bench.{live, vacant}
 use Rattle.bench.specs.Calls.{deviceAt}
-use Rattle.bench.specs.Slot.{lineBit, restarted}
+use Rattle.bench.specs.Slot.{presenceOf, restarted}
 use Rattle.bench.specs.declared.Bench.{Bench}
-use Rattle.bench_laws.specs.Laws.{restarted-live, place-found, place-live, place-nowhere, device-live}
+use Rattle.bench_laws.specs.Laws.{reset-accepted, restarted-live, place-found, place-live, place-nowhere, device-live}
 use Rattle.bench_laws.specs.Sound.{codesOf}
-use Rattle.bench_laws.specs.SoundLaws.{heard-codes, restarted-codes}
 use Rattle.searching.specs.Buses.{slotRule}
 use Rattle.searching.specs.OnTheBench.{Free, free-restarted}
-use Rattle.master_rules.specs.Access.{addressed}
+use Rattle.searching.specs.Thermometers.{unstaged}
+use Rattle.master_rules.specs.Access.{refusedAt, addressed, afterSlots, readBack, admission, readAt}
 use Rattle.addressing.specs.Unrefused.{addressBits}
-use Rattle.addressing.specs.Course.{Hears}
-use Rattle.addressing.specs.Laws.{Ends, heard-runs, calls-rule, addressed-run}
-use Rattle.addressing.specs.OneAmong.{OneAmong, one-each, one-mapped, one-back}
-use Rattle.addressing.specs.Picked.{Picked, read-heard}
-use Rattle.addressing.specs.Reply.{IsQuiet, Sends, reply-shown, sending, silence}
-use Rattle.addressing.specs.Shown.{shownAt, ShowsScratchpad, ShowsOnes}
+use Rattle.addressing.specs.Course.{Hears, hears-end, Settled, reading, addressed as address-heard}
+use Rattle.addressing.specs.Laws.{Ends, heard-runs, heard-live-all, calls-rule, addressed-run, fetched-bench, admitted-free}
+use Rattle.addressing.specs.OneAmong.{OneAmong, one-implies, one-mapped}
+use Rattle.addressing.specs.Picked.{picked, read-picks}
+use Rattle.addressing.specs.Reply.{IsQuiet, Sends, reply-shown, sending, silence, Replying, sends, silent, slots-kept}
+use Rattle.addressing.specs.Shown.{shownAt, ShowsScratchpad, ShowsOnes, ReadKeeps}
 
 -- ## Lists
 
@@ -52,71 +58,93 @@ code-at P [] i h e = absurd (omega arith)
 code-at P (d ∷ ds) zero h e = e .0
 code-at P (d ∷ ds) (suc i) h e = code-at P ds i (omega arith) (e .1)
 
-codes-each : (P : ℕ → Type 0) (ds : List Device) → Each (λ d. P (d .code)) ds → Each P (map (λ d. d .code) ds)
-codes-each P [] e = tt
-codes-each P (d ∷ ds) e = (e .0, codes-each P ds (e .1))
-
 -- ## The bench once the read has been sent
 
--- what a read of pad asks: the code and all codes have 64 bits, and whoever has the code has the scratchpad pad
-module _ (b : Bench) (code : ℕ) (pad : List ℕ) (fit : Below 64 (codesOf b)) (fits : code < 2 ^ 64) (f : Free b)
-    (own : Each (λ d. d .code ≡ code → d .scratchpad ≡ pad) (live b))
-  where
-    asked : Bench
-    asked = slots slotRule (addressBits code readScratchpad) (restarted b) .devices
+module _ (b : Bench) (code : ℕ) (fit : Below 64 (codesOf b)) (fits : code < 2 ^ 64) (f : Free b) where
+  asked : Bench
+  asked = slots slotRule (addressBits code readScratchpad) (restarted b) .devices
 
-    each-heard : (ds : List Device) → Each (λ c. c < 2 ^ 64) (map (λ d. d .code) ds) → Each (λ d. d .code ≡ code → d .scratchpad ≡ pad) ds
-        → Each (Hears (Picked code pad) (addressBits code readScratchpad)) (map resetOf ds)
-    each-heard [] h k = tt
-    each-heard (d ∷ ds) h k = (read-heard code pad d fits (h .0) (k .0), each-heard ds (h .1) (k .1))
+  each-hears : Each (Hears Settled (addressBits code readScratchpad)) (live (restarted b))
+  each-hears = rw (restarted-live b) (go (live b))
+    where
+      go : (ds : List Device) → Each (Hears Settled (addressBits code readScratchpad)) (map resetOf ds)
+      go [] = tt
+      go (d ∷ ds) = (address-heard reading code d, go ds)
 
-    ends : Ends (Picked code pad) (addressBits code readScratchpad) (restarted b)
-    ends =
-        heard-runs (Picked code pad) (addressBits code readScratchpad) (restarted b) (rw (restarted-live b) (each-heard (live b) fit own)) (free-restarted b ∙ f)
+  ends : Ends Settled (addressBits code readScratchpad) (restarted b)
+  ends = heard-runs Settled (addressBits code readScratchpad) (restarted b) each-hears (free-restarted b ∙ f)
 
-    asked-is : addressed code readScratchpad (restarted b) ≡ asked
-    unfolding asked
-    asked-is =
-        sym (addressed-run code (restarted b) readScratchpad)
-        ∙ ap (λ r. r .devices) (calls-rule (addressBits code readScratchpad) (restarted b) (ends .runs .throughout))
+  asked-is : addressed code readScratchpad (restarted b) ≡ asked
+  unfolding asked
+  asked-is =
+      sym (addressed-run code (restarted b) readScratchpad)
+      ∙ ap (λ r. r .devices) (calls-rule (addressBits code readScratchpad) (restarted b) (ends .runs .throughout))
 
-    picked : Each (Picked code pad) (live asked)
-    unfolding asked
-    picked = ends .each
+  asked-free : Free asked
+  unfolding asked
+  asked-free = ends .runs .after-it
 
-    asked-free : Free asked
-    unfolding asked
-    asked-free = ends .runs .after-it
+  asked-live : live asked ≡ map (picked code) (live b)
+  unfolding asked
+  asked-live =
+      heard-live-all Settled (addressBits code readScratchpad) (restarted b) each-hears ∙ rw (restarted-live b) (each-picked (live b) fit)
+    where
+      each-picked : (ds : List Device) → Below 64 (map (λ d. d .code) ds)
+          → map (λ d. fold hearOf d (addressBits code readScratchpad)) (map resetOf ds) ≡ map (picked code) ds
+      each-picked [] h = refl
+      each-picked (d ∷ ds) h =
+          let e = hears-end (λ e. e ≡ picked code d) (addressBits code readScratchpad) (resetOf d) (read-picks code d fits (h .0)) in
+          let i = each-picked ds (h .1) in rw (e, i)
 
-    asked-codes : codesOf asked ≡ codesOf b
-    unfolding asked
-    asked-codes =
-        slots-hold slotRule (λ c. codesOf c ≡ codesOf b) (λ m c e. heard-codes c (lineBit c m) ∙ e) (addressBits code readScratchpad) (restarted b) (restarted-codes b)
+  -- one device has the code
+  shown-by-one : (pad : List ℕ) → length pad ≡ 8 → Bytes pad → OneAmong (λ d. (d .code ≡ code) × (d .scratchpad ≡ pad)) (λ d. d .code ≢ code) (live b)
+      → shownAt b code ≡ nineBytes pad
+  shown-by-one pad long bytes o =
+      rw asked-is
+      (reply-shown (nineBytes pad) (λ k j. OneAmong (Sends pad k j) IsQuiet) (sending pad long) (nine-length pad long) nine-bytes asked
+      (rw asked-live
+      (one-mapped (λ d. (d .code ≡ code) × (d .scratchpad ≡ pad)) (λ d. d .code ≢ code) (Sends pad 0 0) IsQuiet (picked code) starts stays (live b) o)) asked-free)
+    where
+      starts : (d : Device) → (d .code ≡ code) × (d .scratchpad ≡ pad) → Sends pad 0 0 (picked code d)
+      starts d h = (rw (eq-eqb (d .code) code (h .0)), h .1)
 
-    -- one device has the code
-    shown-by-one : length pad ≡ 8 → Bytes pad → OneAmong (λ c. c ≡ code) (λ c. c ≢ code) (codesOf b) → shownAt b code ≡ nineBytes pad
-    shown-by-one long bytes o =
-        rw asked-is
-        (reply-shown (nineBytes pad) (λ k j. OneAmong (Sends pad k j) IsQuiet) (sending pad long) (nine-length pad long) nine-bytes asked
-        (one-back (λ c. c ≡ code) (λ c. c ≢ code) (Sends pad 0 0) IsQuiet (Picked code pad) (λ d. d .code) (λ d e p. p .sends e) (λ d n p. p .is-quiet n)
-        (live asked) picked (rw asked-codes o)) asked-free)
-      where
-        nine-bytes : Bytes (nineBytes pad)
-        nine-bytes = bytes-append-bytes pad (crcOf pad ∷ []) bytes last
-          where
-            last : Bytes (crcOf pad ∷ [])
-            last zero = crc-bytes-lt pad
-            last (suc k) = lit< tt
+      stays : (d : Device) → d .code ≢ code → IsQuiet (picked code d)
+      stays d n = rw (ne-eqb (d .code) code n)
 
-    -- nobody has it
-    shown-by-none : Each (λ c. c ≢ code) (codesOf b) → shownAt b code ≡ replicate 9 255
-    shown-by-none n =
-        rw asked-is
-        (reply-shown (replicate 9 255) (λ k j. Each IsQuiet) silence (length-replicate {A = ℕ} 9 255) (replicate-bytes 9) asked (all-quiet (live asked) picked (rw asked-codes n)) asked-free)
-      where
-        all-quiet : (ds : List Device) → Each (Picked code pad) ds → Each (λ c. c ≢ code) (map (λ d. d .code) ds) → Each IsQuiet ds
-        all-quiet [] p h = tt
-        all-quiet (d ∷ ds) p h = (p .0 .is-quiet (h .0), all-quiet ds (p .1) (h .1))
+      nine-bytes : Bytes (nineBytes pad)
+      nine-bytes = bytes-append-bytes pad (crcOf pad ∷ []) bytes last
+        where
+          last : Bytes (crcOf pad ∷ [])
+          last zero = crc-bytes-lt pad
+          last (suc k) = lit< tt
+
+  -- nobody has it
+  shown-by-none : Each (λ d. d .code ≢ code) (live b) → shownAt b code ≡ replicate 9 255
+  shown-by-none n =
+      rw asked-is
+      (reply-shown (replicate 9 255) (λ k j. Each IsQuiet) silence (length-replicate {A = ℕ} 9 255) (replicate-bytes 9) asked (rw asked-live (all-quiet (live b) n)) asked-free)
+    where
+      all-quiet : (ds : List Device) → Each (λ d. d .code ≢ code) ds → Each IsQuiet (map (picked code) ds)
+      all-quiet [] h = tt
+      all-quiet (d ∷ ds) h = (rw (ne-eqb (d .code) code (h .0)), all-quiet ds (h .1))
+
+  -- the read slots change nothing else
+  asked-kept : map unstaged (live (afterSlots 72 (addressed code readScratchpad (restarted b)))) ≡ map unstaged (live b)
+  asked-kept =
+      rw asked-is
+      (slots-kept 72 asked (rw asked-live (each-replies (live b))) asked-free ∙ rw asked-live (picked-kept (live b)))
+    where
+      each-replies : (ds : List Device) → Each Replying (map (picked code) ds)
+      each-replies [] = tt
+      each-replies (d ∷ ds) = (by-test (eqb (d .code) code), each-replies ds)
+        where
+          by-test : (t : Bool) → Replying (withStage d (if t then SendScratchpad 0 0 else Quiet))
+          by-test true = sends 0 0 refl
+          by-test false = silent refl
+
+      picked-kept : (ds : List Device) → map unstaged (map (picked code) ds) ≡ map unstaged ds
+      picked-kept [] = refl
+      picked-kept (d ∷ ds) = let i = picked-kept ds in rw i
 
 -- ## Who has the code
 
@@ -140,32 +168,39 @@ one-at (d ∷ ds) (suc i) h k = let l : i < length ds = omega arith in inr (diff
 
 pub shows-scratchpad : ShowsScratchpad
 shows-scratchpad b code i fit apart f at long bytes =
-    shown-by-one b code pad fit fits f own long bytes one
+    shown-by-one b code fit fits f (deviceAt b i .scratchpad) long bytes one
   where
-    pad : List ℕ
-    pad = deviceAt b i .scratchpad
-
     there : getD (live b) i vacant ≡ deviceAt b i
     there = device-live b code i at
 
-    has : deviceAt b i .code ≡ code
-    has = rw there at (place-found b code i at)
-
-    among : OneAmong (λ d. d ≡ deviceAt b i) (λ d. d .code ≢ code) (live b)
-    among = rw (there, has) at (one-at (live b) i (place-live b code i at) apart)
+    has : getD (live b) i vacant .code ≡ code
+    has = place-found b code i at
 
     fits : code < 2 ^ 64
-    fits = rw (place-found b code i at) at (code-at (λ c. c < 2 ^ 64) (live b) i (place-live b code i at) fit)
+    fits = rw has at (code-at (λ c. c < 2 ^ 64) (live b) i (place-live b code i at) fit)
 
-    own : Each (λ d. d .code ≡ code → d .scratchpad ≡ pad) (live b)
-    own = one-each (λ d e g. ap (λ x. x .scratchpad) e) (λ d n g. absurd (n g)) (live b) among
-
-    one : OneAmong (λ c. c ≡ code) (λ c. c ≢ code) (codesOf b)
+    one : OneAmong (λ d. (d .code ≡ code) × (d .scratchpad ≡ deviceAt b i .scratchpad)) (λ d. d .code ≢ code) (live b)
     one =
-        one-mapped (λ d. d ≡ deviceAt b i) (λ d. d .code ≢ code) (λ c. c ≡ code) (λ c. c ≢ code) (λ d. d .code) (λ d e. ap (λ x. x .code) e ∙ has) (λ d n. n)
-        (live b) among
+        one-implies (λ d e. (ap (λ x. x .code) e ∙ has, ap (λ x. x .scratchpad) (e ∙ there))) (λ d n e. n (e ∙ sym has)) (live b)
+        (one-at (live b) i (place-live b code i at) apart)
 
 pub shows-ones : ShowsOnes
-shows-ones b code fits fit f at =
-    let n = place-nowhere b code at in
-    shown-by-none b code [] fit fits f (each-implies (λ d m e. absurd (m e)) (live b) n) (codes-each (λ c. c ≢ code) (live b) n)
+shows-ones b code fits fit f at = shown-by-none b code fit fits f (place-nowhere b code at)
+
+pub read-kept : ReadKeeps
+unfolding readAt readBack
+read-kept b code fits fit = by-admission (eqb (admission b code) accepted) refl
+  where
+    restarted-kept : (ds : List Device) → map unstaged (map resetOf ds) ≡ map unstaged ds
+    restarted-kept [] = refl
+    restarted-kept (d ∷ ds) = let i = restarted-kept ds in rw i
+
+    by-presence : (p : Bool) → presenceOf b ≡ p → admission b code ≡ accepted → map unstaged (live (readBack code b .bench)) ≡ map unstaged (live b)
+    by-presence true e h =
+        let f = admitted-free b code h in
+        rw (reset-accepted b f, e) (ap (λ c. map unstaged (live c)) (fetched-bench code (restarted b)) ∙ asked-kept b code fit fits f)
+    by-presence false e h = rw (reset-accepted b (admitted-free b code h), e) (ap (map unstaged) (restarted-live b) ∙ restarted-kept (live b))
+
+    by-admission : (t : Bool) → eqb (admission b code) accepted ≡ t → map unstaged (live ((if not t then refusedAt (admission b code) b else readBack code b) .bench)) ≡ map unstaged (live b)
+    by-admission true e = by-presence (presenceOf b) refl (eqb-true (admission b code) accepted e)
+    by-admission false e = refl
