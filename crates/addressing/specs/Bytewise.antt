@@ -1,7 +1,7 @@
 -- A device that calls reach holds bytes wherever it keeps a byte: in its scratchpad, in the limits of its EEPROM and of a copy under way, and in the part of a byte of 4Eh
 -- that it has taken. And nothing changes byte 7 of its scratchpad, which is never 0: so no scratchpad is all zeros.
 --     Bytewise d           the claim
---     bytewise-after       it holds of each device of the bench after every history
+--     Readable b           the bench is sound, its codes have 64 bits, and each device is bytewise: law `readable-after`, after every history
 -- Assumes nothing.
 use Prim.Native.Nat.{ℕ, zero, suc, _+_, _/_, _%_, _<_, _≤_}
 use mathlib.Core.Bool.{Bool, true, false, not, Bool·beq, _&&_}
@@ -38,6 +38,7 @@ use Rattle.temperature.specs.declared.Reading.the-variants.{InSixteenths, InHal
 use Rattle.temperature.specs.declared.Sixteenths.{Sixteenths}
 use Rattle.scratchpad.specs.Stored.{storedReading, scratchpadAfter}
 use Rattle.scratchpad.specs.StoredLaws.{after-other, stored-range}
+use Rattle.search_law.specs.Numbers.{Below}
 use Rattle.device.specs.Finish.{conversionDone, copyDone}
 use Rattle.device.specs.Hear.{afterBit, romCommand, hearRom, idleCommand, functionCommand, hearFunction, storeSetting, hearSettings, hearAt, hearOf}
 use Rattle.device.specs.Outcomes.{hear-outcome}
@@ -55,8 +56,15 @@ use Rattle.device.specs.declared.Settings.{Settings}
 use Rattle.device.specs.declared.Stage.{Stage}
 use Rattle.device.specs.declared.Stage.the-variants.{AwaitRom, SendRom, Match, Search, AwaitFunction, TakeSettings, SendScratchpad, SendStatus, SendPower, Quiet}
 use Rattle.bench.specs.Bench.{live}
-use Rattle.bench_laws.specs.Everywhere.{Invariant}
+use Rattle.bench.specs.Slot.{lineBit, slotted, resetDone}
+use Rattle.bench.specs.declared.Bench.{Bench}
+use Rattle.bench_laws.specs.Everywhere.{Invariant, heard-each, restarted-each}
+use Rattle.bench_laws.specs.Laws.{slot-cases, reset-cases}
+use Rattle.bench_laws.specs.Sound.{codesOf, BenchSound}
+use Rattle.bench_laws.specs.SoundLaws.{heard-codes, restarted-codes, slotted-sound, reset-done-sound}
+use Rattle.history.specs.Corollaries.{bench-is-sound}
 use Rattle.history.specs.History.{Call, add, Typed, after}
+use Rattle.history.specs.Reached.{reached-after}
 use Rattle.addressing.specs.Lasting.{lasts-after}
 
 abbrev pub LimitBytes : Settings → Type 0
@@ -319,5 +327,28 @@ bytewise-lasts = record {
   by-copy = copy-bytewise;
 }
 
-pub bytewise-after : (h : List Call) → Each Typed h → Each Bytewise (live (after h))
-bytewise-after = lasts-after Bytewise bytewise-lasts joined-bytewise
+-- what the answer to a read goes by, of a bench
+pub record Readable (b : Bench) : Type 0 where
+  pub sound : BenchSound b
+  pub codes-fit : Below 64 (codesOf b)
+  pub bytewise : Each Bytewise (live b)
+
+pub readable-after : (h : List Call) → Each Typed h → Readable (after h)
+readable-after h t =
+    let m = reached-after h t .marked in
+    record { sound = bench-is-sound h t; codes-fit = rw (m .codes-are) (m .codes-fit); bytewise = lasts-after Bytewise bytewise-lasts joined-bytewise h t }
+
+-- every slot and every reset keeps it, and so do calls that make nothing else
+pub readable-slot : (m : Bool) (b : Bench) → Readable b → Readable (slotted b m .bench)
+readable-slot m b r = record {
+  sound = slotted-sound b m (r .sound);
+  codes-fit = slot-cases b m (λ s. Below 64 (codesOf (s .bench))) (λ f. rw (heard-codes b (lineBit b m)) (r .codes-fit)) (λ f. r .codes-fit);
+  bytewise = slot-cases b m (λ s. Each Bytewise (live (s .bench))) (λ f. heard-each Bytewise bytewise-lasts b (r .bytewise) (lineBit b m)) (λ f. r .bytewise);
+}
+
+pub readable-reset : (b : Bench) → Readable b → Readable (resetDone b .bench)
+readable-reset b r = record {
+  sound = reset-done-sound b (r .sound);
+  codes-fit = reset-cases b (λ s. Below 64 (codesOf (s .bench))) (λ f. rw (restarted-codes b) (r .codes-fit)) (λ f. r .codes-fit);
+  bytewise = reset-cases b (λ s. Each Bytewise (live (s .bench))) (λ f. restarted-each Bytewise bytewise-lasts b (r .bytewise)) (λ f. r .bytewise);
+}

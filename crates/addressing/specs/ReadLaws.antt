@@ -1,4 +1,4 @@
--- The answers of reads. A bench that calls reach is sound, and its devices hold bytes (`Bytewise`): so a read at the code of a device shows its scratchpad with a right
+-- The answers of reads. A bench that calls reach is sound, and its devices hold bytes (`Readable`): so a read at the code of a device shows its scratchpad with a right
 -- CRC, not all zeros, a configuration in stored form and a reading in range, which the judgement accepts; and a read at any other code shows ones, which it refuses with 5.
 -- Assumes nothing.
 use Prim.Native.Nat.{ℕ, _<_}
@@ -12,7 +12,6 @@ use lib.Dec.{eqb, lit<}
 use lib.ListN.{length, getD, replicate, length-take}
 use lib.Seq.{take-at}
 use Rattle.lists.specs.Choice.{if_then_else_}
-use Rattle.lists.specs.Each.{Each}
 use Rattle.lists.specs.EachLaws.{each-at}
 use Rattle.lists.specs.Fold.{fold, all}
 use Rattle.lists.specs.FoldLaws.{all-at}
@@ -27,7 +26,6 @@ use Rattle.rom.specs.Code.{familyOf, crcByteOf, codeRefusal, sound}
 use Rattle.scratchpad.specs.Judgement.{crcRight, allZeros, judged}
 use Rattle.scratchpad.specs.Stored.{readingIn}
 use Rattle.scratchpad.specs.StoredLaws.{raw-range}
-use Rattle.search_law.specs.Numbers.{Below}
 use Rattle.device.specs.Offer.{nineBytes}
 use Rattle.device.specs.OfferLaws.{nine-length, nine-byte, nine-crc}
 use Rattle.device.specs.Record.{rowOf}
@@ -39,19 +37,16 @@ use Rattle.bench.specs.declared.Bench.{Bench}
 use Rattle.bench.specs.declared.Place.{Place}
 use Rattle.bench.specs.declared.Place.the-variants.{At, Nowhere}
 use Rattle.bench_laws.specs.Laws.{reset-accepted, place-live, place-found, device-live}
-use Rattle.bench_laws.specs.Sound.{codesOf}
 use Rattle.master_rules.specs.declared.Access.{Access}
 use Rattle.master_rules.specs.Access.{addressed, afterSlots, judgedReply, fetched, readBack, admission, readAt}
 use Rattle.master_rules.specs.AccessLaws.{read-unsent}
 use Rattle.master_rules.specs.Issued.{issued}
-use Rattle.history.specs.History.{Call, Typed, after}
-use Rattle.history.specs.Corollaries.{bench-is-sound}
-use Rattle.history.specs.Reached.{reached-after}
+use Rattle.history.specs.History.{after}
 use Rattle.addressing.specs.Unrefused.{readBits}
 use Rattle.addressing.specs.Laws.{admitted-free, read-unrefused}
 use Rattle.addressing.specs.Shown.{shownAt, AbsentRefused, ReadAnswer, NeverOutOfRange}
 use Rattle.addressing.specs.ShownLaws.{code-at, shows-scratchpad, shows-ones}
-use Rattle.addressing.specs.Bytewise.{Bytewise, bytewise-after}
+use Rattle.addressing.specs.Bytewise.{Bytewise, Readable, readable-after}
 
 -- ## A read that is admitted, where somebody shows presence
 
@@ -98,7 +93,7 @@ nine-judged family pad known s n =
     let at : (k : ℕ) → k < 8 → getD (nineBytes pad) k 0 ≡ getD pad k 0 = nine-at row pad s in
     rw (nine-crc-right row pad s, nine-not-zero row pad s n, known, at 0 (lit< tt), at 1 (lit< tt), at 4 (lit< tt), s .in-form, raw-range row pad (s .in-range))
 
--- ## A device of a bench that calls reach
+-- ## A device of a readable bench
 
 sound-known : (code : ℕ) → codeRefusal code ≡ accepted → propertiesOf (familyOf code) .known ≡ true
 unfolding codeRefusal
@@ -117,73 +112,69 @@ seventh-set family known e =
     = every-row (λ row. not (row .known) || not (eqb (getD (row .initial) 7 0) 0)) refl family in
     false≢true (rw (known, e) at test)
 
-module _ (h : List Call) (t : Each Typed h) where
-  codes-fit : Below 64 (codesOf (after h))
-  codes-fit = let m = reached-after h t .marked in rw (m .codes-are) (m .codes-fit)
+module _ (b : Bench) (r : Readable b) (code i : ℕ) (f : free b ≡ true) (at : placeOf b code ≡ At i) where
+  place-lt : i < length (live b)
+  place-lt = place-live b code i at
 
-  module _ (code i : ℕ) (f : free (after h) ≡ true) (at : placeOf (after h) code ≡ At i) where
-    place-lt : i < length (live (after h))
-    place-lt = place-live (after h) code i at
+  has : deviceAt b i .code ≡ code
+  has = rw (device-live b code i at) at (place-found b code i at)
 
-    has : deviceAt (after h) i .code ≡ code
-    has = rw (device-live (after h) code i at) at (place-found (after h) code i at)
+  code-sound : codeRefusal code ≡ accepted
+  code-sound =
+      eqb-true (codeRefusal code) accepted
+      (rw (place-found b code i at) at (code-at (λ c. sound c ≡ true) (live b) i place-lt (r .sound .codes-sound)))
 
-    code-sound : codeRefusal code ≡ accepted
-    code-sound =
-        eqb-true (codeRefusal code) accepted
-        (rw (place-found (after h) code i at) at (code-at (λ c. sound c ≡ true) (live (after h)) i place-lt (bench-is-sound h t .codes-sound)))
+  admitted : admission b code ≡ accepted
+  unfolding admission
+  admitted = rw (code-sound, f)
 
-    admitted : admission (after h) code ≡ accepted
-    unfolding admission
-    admitted = rw (code-sound, f)
+  present : presenceOf b ≡ true
+  present = let l = place-lt in let k = length-take (b .count) (b .devices) in lt-ltb 0 (b .count) (omega arith)
 
-    present : presenceOf (after h) ≡ true
-    present = let l = place-lt in let k = length-take (after h .count) (after h .devices) in lt-ltb 0 (after h .count) (omega arith)
+  pad-sound : PadSound (propertiesOf (familyOf code)) (deviceAt b i .scratchpad)
+  unfolding rowOf
+  pad-sound =
+      let s = rw (device-live b code i at) at (each-at Sound (live b) i vacant place-lt (r .sound .devices-sound)) in
+      rw has at (s .pad-sound)
 
-    pad-sound : PadSound (propertiesOf (familyOf code)) (deviceAt (after h) i .scratchpad)
-    unfolding rowOf
-    pad-sound =
-        let s = rw (device-live (after h) code i at) at (each-at Sound (live (after h)) i vacant place-lt (bench-is-sound h t .devices-sound)) in
-        rw has at (s .pad-sound)
+  bytewise : Bytewise (deviceAt b i)
+  bytewise = rw (device-live b code i at) at (each-at Bytewise (live b) i vacant place-lt (r .bytewise))
 
-    bytewise : Bytewise (deviceAt (after h) i)
-    bytewise = rw (device-live (after h) code i at) at (each-at Bytewise (live (after h)) i vacant place-lt (bytewise-after h t))
+  seventh-is : getD (deviceAt b i .scratchpad) 7 0 ≢ 0
+  unfolding rowOf
+  seventh-is e =
+      let k = sound-known code code-sound in
+      seventh-set (familyOf code) k (sym (rw has at (bytewise .stored .seventh)) ∙ e)
 
-    seventh-is : getD (deviceAt (after h) i .scratchpad) 7 0 ≢ 0
-    unfolding rowOf
-    seventh-is e =
-        let k = sound-known code code-sound in
-        seventh-set (familyOf code) k (sym (rw has at (bytewise .stored .seventh)) ∙ e)
+  shown-is : shownAt b code ≡ nineBytes (deviceAt b i .scratchpad)
+  shown-is =
+      shows-scratchpad b code i (r .codes-fit) (r .sound .codes-distinct) f at (pad-sound .eight) (bytewise .stored .pad-bytes)
 
-    shown-is : shownAt (after h) code ≡ nineBytes (deviceAt (after h) i .scratchpad)
-    shown-is =
-        shows-scratchpad (after h) code i codes-fit (bench-is-sound h t .codes-distinct) f at (pad-sound .eight) (bytewise .stored .pad-bytes)
+  -- the answer, with the bench after its slots
+  abbrev answered : Bench → Access
+  answered c = record {
+    refusal = accepted;
+    pad = nineBytes (deviceAt b i .scratchpad);
+    reading = readingIn (rowOf code) (deviceAt b i .scratchpad);
+    bench = c;
+  }
 
-    -- the answer, with the bench after its slots
-    abbrev answered : Bench → Access
-    answered c = record {
-      refusal = accepted;
-      pad = nineBytes (deviceAt (after h) i .scratchpad);
-      reading = readingIn (rowOf code) (deviceAt (after h) i .scratchpad);
-      bench = c;
-    }
+  read-is : readAt b code ≡ answered (afterSlots 72 (addressed code readScratchpad (restarted b)))
+  unfolding rowOf
+  read-is =
+      read-judged b code admitted present
+      ∙ rw (shown-is, nine-judged (familyOf code) (deviceAt b i .scratchpad) (sound-known code code-sound) pad-sound seventh-is)
 
-    read-is : readAt (after h) code ≡ answered (afterSlots 72 (addressed code readScratchpad (restarted (after h))))
-    unfolding rowOf
-    read-is =
-        read-judged (after h) code admitted present
-        ∙ rw (shown-is, nine-judged (familyOf code) (deviceAt (after h) i .scratchpad) (sound-known code code-sound) pad-sound seventh-is)
+  bench-is : readAt b code .bench ≡ issued (readBits code ∷ []) b .bench
+  bench-is = rw present at (read-unrefused b code admitted .bench-is)
 
-    bench-is : readAt (after h) code .bench ≡ issued (readBits code ∷ []) (after h) .bench
-    bench-is = rw present at (read-unrefused (after h) code admitted .bench-is)
-
-    read-answered : readAt (after h) code ≡ answered (issued (readBits code ∷ []) (after h) .bench)
-    read-answered = read-is ∙ ap answered (sym (ap (λ a. a .bench) read-is) ∙ bench-is)
+  pub read-answered : readAt b code ≡ answered (issued (readBits code ∷ []) b .bench)
+  read-answered = read-is ∙ ap answered (sym (ap (λ a. a .bench) read-is) ∙ bench-is)
 
 -- ## The claims
 
 pub read-answer : ReadAnswer
-read-answer h t code i f at = read-answered h t code i f at
+read-answer h t code i f at = read-answered (after h) (readable-after h t) code i f at
 
 -- the tests before anything is sent
 admission-codes : (b : Bench) (code : ℕ) → admission b code ≢ outOfRange
@@ -213,7 +204,7 @@ never-out-of-range h t code fits = by-admission (eqb (admission (after h) code) 
         let r = ap (λ x. x .refusal) (read-answer h t code i (admitted-free (after h) code a) at) in
         let z : accepted ≡ outOfRange = sym r ∙ e in omega arith
     by-place Nowhere at a there e =
-        let z : wrongCrc ≡ outOfRange = sym (absent-refused (after h) code fits (codes-fit h t) a there at) ∙ e in omega arith
+        let z : wrongCrc ≡ outOfRange = sym (absent-refused (after h) code fits (readable-after h t .codes-fit) a there at) ∙ e in omega arith
 
     by-presence : (p : Bool) → presenceOf (after h) ≡ p → admission (after h) code ≡ accepted → readAt (after h) code .refusal ≢ outOfRange
     by-presence true there a e = by-place (placeOf (after h) code) refl a there e
