@@ -9,7 +9,6 @@ use device::Activity;
 use device::Settings;
 use laying::Written;
 use putting::LINE_ROOM;
-use putting::SPACE;
 use putting::behind;
 use putting::no_room;
 use putting::put_bytes;
@@ -19,6 +18,7 @@ use putting::put_flag;
 use putting::put_number;
 use temperature::Reading;
 use text::LINE_FEED;
+use text::SPACE;
 
 // The nine bytes of a scratchpad as a master reads them, and the eight that a device holds.
 pub type Pad = [u8; 9];

@@ -5,7 +5,7 @@
 --     placesIn w             the places of a list that a search is lent, at most 32
 --     bytesIn w              the bytes of a recording that a search is lent, at most 1,824
 --     countIn w              a count of sixteenths from -32768 to 32767, with a minus in front where it is negative; -0 is taken
---     settingsIn h l c       three bytes: high limit, low limit, configuration
+--     threeBytesIn h l c       three bytes: high limit, low limit, configuration
 --     powerIn w              line or external
 -- Decimal numbers have one to five digits; zeros in front are taken.
 -- Assumes nothing.
@@ -72,8 +72,8 @@ settings h l c = record {
   settings = record { high = h .number; low = l .number; configuration = c .number };
 }
 
-unfoldable pub settingsIn : List ℕ → List ℕ → List ℕ → SettingsRead
-settingsIn h l c = settings (byteIn h) (byteIn l) (byteIn c)
+unfoldable pub threeBytesIn : List ℕ → List ℕ → List ℕ → SettingsRead
+threeBytesIn h l c = settings (byteIn h) (byteIn l) (byteIn c)
 
 unfoldable pub powerIn : List ℕ → PowerRead
 powerIn w = record {

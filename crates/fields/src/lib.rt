@@ -1,7 +1,7 @@
 // The fields of a call.
 ghost use mathlib.Core.Path.{_≡_};
 ghost use mathlib.Core.Bool.{_&&_};
-ghost use Rattle.fields.specs.Fields.{codeIn, byteIn, bitIn, placesIn, bytesIn, isNegative, countIn, settingsIn, powerIn};
+ghost use Rattle.fields.specs.Fields.{codeIn, byteIn, bitIn, placesIn, bytesIn, isNegative, countIn, threeBytesIn, powerIn};
 use device::Power;
 use device::Settings;
 use temperature::Sixteenths;
@@ -28,9 +28,6 @@ pub struct SettingsRead {
     pub valid: bool,
     pub settings: Settings,
 }
-
-// The character in front of a negative count.
-const MINUS: u8 = 0x2D;
 
 // The most digits of a decimal number.
 const MOST_DIGITS: usize = 5;
@@ -71,7 +68,7 @@ fn is_negative(w: &[u8]) -> bool
     if w.len() < 1 {
         return false;
     }
-    w[0] == MINUS
+    w[0] == text::MINUS
 }
 
 pub fn count_in(w: &[u8]) -> CountRead
@@ -100,7 +97,7 @@ fn both(a: bool, b: bool) -> bool
 
 // The high limit, the low limit and the configuration.
 pub fn settings_in(high: &[u8], low: &[u8], configuration: &[u8]) -> SettingsRead
-    ensures answer { λ r. ⌜ r ≡ settingsIn (now (high .entry)) (now (low .entry)) (now (configuration .entry)) ⌝ }
+    ensures answer { λ r. ⌜ r ≡ threeBytesIn (now (high .entry)) (now (low .entry)) (now (configuration .entry)) ⌝ }
 {
     let h = byte_in(high);
     let l = byte_in(low);

@@ -5,7 +5,7 @@
 --     LineContent            what a line says: a frame, or the number with which it is refused
 --     readLine l             what a line says
 --     Found, foundAt s at    what stands at a place of a recording: a line and the place of the next, or nothing more
---     answerOf x             the fields of the reader's answer, case by case
+--     lineAnswerOf x             the fields of the reader's answer, case by case
 --     lineReadAt s at        the reader's answer at a place
 -- Assumes nothing.
 use Prim.Native.Nat.{ℕ, _+_, _*_}
@@ -23,24 +23,24 @@ use Rattle.frame_lines.specs.declared.LineRead.{LineRead}
 use Rattle.frame.specs.Frames.{noBits, blankFrame, bytesFor, clearFrom, lineable}
 
 -- the most characters that stand before a feed: presence, count and the 64 bytes of 512 slots
-abbrev pub longest : ℕ
-longest = 134
+abbrev pub longestLine : ℕ
+longestLine = 134
 
 -- what the first two digits say
 abbrev pub presenceIn : List ℕ → ℕ
 presenceIn cs = numberIn 16 (take 2 cs)
 
 -- what the four digits after them say
-abbrev pub countIn : List ℕ → ℕ
-countIn cs = numberIn 16 (take 4 (drop 2 cs))
+abbrev pub slotCountIn : List ℕ → ℕ
+slotCountIn cs = numberIn 16 (take 4 (drop 2 cs))
 
 -- the frame that digits spell, its bytes filled up with zeros
 abbrev pub frameIn : List ℕ → Frame
-frameIn cs = record { presence = eqb (presenceIn cs) 1; count = countIn cs; bits = laid noBits 0 (bytesOf (drop 6 cs)) }
+frameIn cs = record { presence = eqb (presenceIn cs) 1; count = slotCountIn cs; bits = laid noBits 0 (bytesOf (drop 6 cs)) }
 
 -- whether presence is 00 or 01, the length is that of the count, and a line can carry the frame
 abbrev pub wellFormed : List ℕ → Bool
-wellFormed cs = leb (presenceIn cs) 1 && eqb (length cs) (6 + 2 * bytesFor (countIn cs)) && lineable (frameIn cs)
+wellFormed cs = leb (presenceIn cs) 1 && eqb (length cs) (6 + 2 * bytesFor (slotCountIn cs)) && lineable (frameIn cs)
 
 -- what a line says: a frame, or the number with which it is refused
 pub data LineContent : Type 0 where
@@ -54,7 +54,7 @@ readDigits cs = if wellFormed cs then carries (frameIn cs) else noFrame malforme
 -- what a line says: an over-long one is refused first, then one with another character or no feed
 unfoldable pub readLine : Line → LineContent
 readLine l =
-    if ltb longest (length (l .chars)) then noFrame malformed
+    if ltb longestLine (length (l .chars)) then noFrame malformed
     else if spells 16 (l .chars) && l .fed then readDigits (l .chars)
     else noFrame notHex
 
@@ -66,10 +66,10 @@ pub data Found : Type 0 where
   done : ℕ → Found
 
 -- the fields of the answer: for a frame, for a refused line, and where nothing stands; the place of the next line, or the place asked for
-abbrev pub answerOf : Found → LineRead
-answerOf (found (carries f) next) = record { refusal = accepted; done = false; next = next; frame = f }
-answerOf (found (noFrame n) next) = record { refusal = n; done = false; next = next; frame = blankFrame false }
-answerOf (done at) = record { refusal = accepted; done = true; next = at; frame = blankFrame false }
+abbrev pub lineAnswerOf : Found → LineRead
+lineAnswerOf (found (carries f) next) = record { refusal = accepted; done = false; next = next; frame = f }
+lineAnswerOf (found (noFrame n) next) = record { refusal = n; done = false; next = next; frame = blankFrame false }
+lineAnswerOf (done at) = record { refusal = accepted; done = true; next = at; frame = blankFrame false }
 
 -- the first of the lines from a place on
 abbrev pub firstFound : ℕ → List Line → Found
@@ -82,11 +82,11 @@ foundAt s at = firstFound at (linesOf (drop at s))
 
 -- the reader's answer at a place
 abbrev pub lineReadAt : List ℕ → ℕ → LineRead
-lineReadAt s at = answerOf (foundAt s at)
+lineReadAt s at = lineAnswerOf (foundAt s at)
 
 -- ## The digits of the slots
 
 -- what they say behind a head that is in order
-unfoldable pub readSlots : Bool → ℕ → List ℕ → LineContent
-readSlots p n cs =
+unfoldable pub readBody : Bool → ℕ → List ℕ → LineContent
+readBody p n cs =
     if clearFrom n (bytesOf cs) then carries record { presence = p; count = n; bits = laid noBits 0 (bytesOf cs) } else noFrame malformed

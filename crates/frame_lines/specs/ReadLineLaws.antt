@@ -18,31 +18,31 @@ use Rattle.text.specs.DigitsLaws.{bytes-length}
 use Rattle.frame.specs.Frames.{noBits, bytesFor, countAllowed, clearFrom, mostSlots}
 use Rattle.frame.specs.FramesLaws.{pad-clear}
 use Rattle.text.specs.Lines.{Line}
-use Rattle.frame_lines.specs.ReadLine.{longest, presenceIn, countIn, frameIn, wellFormed, carries, noFrame, readDigits, readLine, readSlots}
+use Rattle.frame_lines.specs.ReadLine.{longestLine, presenceIn, slotCountIn, frameIn, wellFormed, carries, noFrame, readDigits, readLine, readBody}
 
 -- ## Each way a line is refused before its digits are looked into
 
 module _ (l : Line) where
-  pub read-long : longest < length (l .chars) → readLine l ≡ noFrame malformed
+  pub read-long : longestLine < length (l .chars) → readLine l ≡ noFrame malformed
   unfolding readLine
-  read-long h = rw (lt-ltb longest (length (l .chars)) h)
+  read-long h = rw (lt-ltb longestLine (length (l .chars)) h)
 
-  pub read-open : length (l .chars) ≤ longest → l .fed ≡ false → readLine l ≡ noFrame notHex
+  pub read-open : length (l .chars) ≤ longestLine → l .fed ≡ false → readLine l ≡ noFrame notHex
   unfolding readLine
-  read-open h e = rw (le-ltb longest (length (l .chars)) h, e, and-false (spells 16 (l .chars)))
+  read-open h e = rw (le-ltb longestLine (length (l .chars)) h, e, and-false (spells 16 (l .chars)))
 
-  pub read-other : length (l .chars) ≤ longest → spells 16 (l .chars) ≡ false → readLine l ≡ noFrame notHex
+  pub read-other : length (l .chars) ≤ longestLine → spells 16 (l .chars) ≡ false → readLine l ≡ noFrame notHex
   unfolding readLine
-  read-other h e = rw (le-ltb longest (length (l .chars)) h, e)
+  read-other h e = rw (le-ltb longestLine (length (l .chars)) h, e)
 
-  pub read-fed : length (l .chars) ≤ longest → l .fed ≡ true → spells 16 (l .chars) ≡ true → readLine l ≡ readDigits (l .chars)
+  pub read-fed : length (l .chars) ≤ longestLine → l .fed ≡ true → spells 16 (l .chars) ≡ true → readLine l ≡ readDigits (l .chars)
   unfolding readLine
-  read-fed h e d = rw (le-ltb longest (length (l .chars)) h, e, d)
+  read-fed h e d = rw (le-ltb longestLine (length (l .chars)) h, e, d)
 
 -- ## What an accepted line tells
 
 pub record Accepted (l : Line) (f : Frame) : Type 0 where
-  pub short : length (l .chars) ≤ longest
+  pub short : length (l .chars) ≤ longestLine
   pub digital : spells 16 (l .chars) ≡ true
   pub ended : l .fed ≡ true
   pub formed : wellFormed (l .chars) ≡ true
@@ -50,16 +50,16 @@ pub record Accepted (l : Line) (f : Frame) : Type 0 where
 
 pub read-accepted : (l : Line) (f : Frame) → readLine l ≡ carries f → Accepted l f
 unfolding readLine readDigits
-read-accepted l f h = by-test (ltb longest (length (l .chars))) refl (spells 16 (l .chars) && l .fed) refl (wellFormed (l .chars)) refl h
+read-accepted l f h = by-test (ltb longestLine (length (l .chars))) refl (spells 16 (l .chars) && l .fed) refl (wellFormed (l .chars)) refl h
   where
-    by-test : (t : Bool) → ltb longest (length (l .chars)) ≡ t → (u : Bool) → (spells 16 (l .chars) && l .fed) ≡ u → (v : Bool) → wellFormed (l .chars) ≡ v
+    by-test : (t : Bool) → ltb longestLine (length (l .chars)) ≡ t → (u : Bool) → (spells 16 (l .chars) && l .fed) ≡ u → (v : Bool) → wellFormed (l .chars) ≡ v
         → (if t then noFrame malformed else if u then (if v then carries (frameIn (l .chars)) else noFrame malformed) else noFrame notHex) ≡ carries f
         → Accepted l f
     by-test true a u b v c h = let z : _≡_ {A = ℕ} 0 1 = cc in absurd (omega arith)
     by-test false a false b v c h = let z : _≡_ {A = ℕ} 0 1 = cc in absurd (omega arith)
     by-test false a true b false c h = let z : _≡_ {A = ℕ} 0 1 = cc in absurd (omega arith)
     by-test false a true b true c h = record {
-      short = ltb-false longest (length (l .chars)) a;
+      short = ltb-false longestLine (length (l .chars)) a;
       digital = and-left (spells 16 (l .chars)) (l .fed) b;
       ended = and-right (spells 16 (l .chars)) (l .fed) b;
       formed = c;
@@ -69,7 +69,7 @@ read-accepted l f h = by-test (ltb longest (length (l .chars))) refl (spells 16 
 pub accepted-read : (l : Line) (f : Frame) → Accepted l f → readLine l ≡ carries f
 unfolding readLine readDigits
 accepted-read l f a =
-    rw (le-ltb longest (length (l .chars)) (a .short), a .digital, a .ended, a .formed, a .spelt)
+    rw (le-ltb longestLine (length (l .chars)) (a .short), a .digital, a .ended, a .formed, a .spelt)
 
 -- ## The slots' digits
 
@@ -77,12 +77,12 @@ pub body-length : (cs : List ℕ) (n : ℕ) → length cs ≡ 2 * bytesFor n →
 body-length cs n e = bytes-length (bytesFor n) cs e
 
 pub slots-clear : (p : Bool) (n : ℕ) (cs : List ℕ) → clearFrom n (bytesOf cs) ≡ true
-    → readSlots p n cs ≡ carries record { presence = p; count = n; bits = laid noBits 0 (bytesOf cs) }
-unfolding readSlots
+    → readBody p n cs ≡ carries record { presence = p; count = n; bits = laid noBits 0 (bytesOf cs) }
+unfolding readBody
 slots-clear p n cs h = rw h
 
-pub slots-spare : (p : Bool) (n : ℕ) (cs : List ℕ) → clearFrom n (bytesOf cs) ≡ false → readSlots p n cs ≡ noFrame malformed
-unfolding readSlots
+pub slots-spare : (p : Bool) (n : ℕ) (cs : List ℕ) → clearFrom n (bytesOf cs) ≡ false → readBody p n cs ≡ noFrame malformed
+unfolding readBody
 slots-spare p n cs h = rw h
 
 -- ## Each way a line of digits is refused by its head
@@ -95,20 +95,20 @@ module _ (cs : List ℕ) where
   pub wrong-presence : 1 < presenceIn cs → readDigits cs ≡ noFrame malformed
   wrong-presence h = unformed (rw (lt-leb (presenceIn cs) 1 h))
 
-  pub wrong-length : (length cs ≡ 6 + 2 * bytesFor (countIn cs) → ⊥) → readDigits cs ≡ noFrame malformed
-  wrong-length h = unformed (rw (ne-eqb (length cs) (6 + 2 * bytesFor (countIn cs)) h, and-false (leb (presenceIn cs) 1)))
+  pub wrong-length : (length cs ≡ 6 + 2 * bytesFor (slotCountIn cs) → ⊥) → readDigits cs ≡ noFrame malformed
+  wrong-length h = unformed (rw (ne-eqb (length cs) (6 + 2 * bytesFor (slotCountIn cs)) h, and-false (leb (presenceIn cs) 1)))
 
-  pub wrong-count : countAllowed (eqb (presenceIn cs) 1) (countIn cs) ≡ false → readDigits cs ≡ noFrame malformed
-  wrong-count h = unformed (rw (h, and-false (leb (presenceIn cs) 1 && eqb (length cs) (6 + 2 * bytesFor (countIn cs)))))
+  pub wrong-count : countAllowed (eqb (presenceIn cs) 1) (slotCountIn cs) ≡ false → readDigits cs ≡ noFrame malformed
+  wrong-count h = unformed (rw (h, and-false (leb (presenceIn cs) 1 && eqb (length cs) (6 + 2 * bytesFor (slotCountIn cs)))))
 
   -- behind a head that is in order the slots decide
-  pub right-head : presenceIn cs ≤ 1 → countAllowed (eqb (presenceIn cs) 1) (countIn cs) ≡ true → length cs ≡ 6 + 2 * bytesFor (countIn cs)
-      → readDigits cs ≡ readSlots (eqb (presenceIn cs) 1) (countIn cs) (drop 6 cs)
-  unfolding readDigits readSlots
+  pub right-head : presenceIn cs ≤ 1 → countAllowed (eqb (presenceIn cs) 1) (slotCountIn cs) ≡ true → length cs ≡ 6 + 2 * bytesFor (slotCountIn cs)
+      → readDigits cs ≡ readBody (eqb (presenceIn cs) 1) (slotCountIn cs) (drop 6 cs)
+  unfolding readDigits readBody
   right-head p c l =
-      let few : countIn cs ≤ mostSlots = leb-true (countIn cs) mostSlots (and-left (leb (countIn cs) mostSlots) (eqb (presenceIn cs) 1 || eqb (countIn cs) 0) c) in
-      let b = body-length (drop 6 cs) (countIn cs) (length-drop 6 cs ∙ omega arith) in
+      let few : slotCountIn cs ≤ mostSlots = leb-true (slotCountIn cs) mostSlots (and-left (leb (slotCountIn cs) mostSlots) (eqb (presenceIn cs) 1 || eqb (slotCountIn cs) 0) c) in
+      let b = body-length (drop 6 cs) (slotCountIn cs) (length-drop 6 cs ∙ omega arith) in
       let small : length (bytesOf (drop 6 cs)) ≤ 64 = omega arith in
-      let wide : countIn cs ≤ 8 * length (bytesOf (drop 6 cs)) = omega arith in
+      let wide : slotCountIn cs ≤ 8 * length (bytesOf (drop 6 cs)) = omega arith in
       rw
-      (le-leb (presenceIn cs) 1 p, eq-eqb (length cs) (6 + 2 * bytesFor (countIn cs)) l, c, pad-clear (bytesOf (drop 6 cs)) small (countIn cs) wide)
+      (le-leb (presenceIn cs) 1 p, eq-eqb (length cs) (6 + 2 * bytesFor (slotCountIn cs)) l, c, pad-clear (bytesOf (drop 6 cs)) small (slotCountIn cs) wide)

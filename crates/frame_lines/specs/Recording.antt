@@ -16,7 +16,7 @@ use Rattle.text.specs.Lines.{linesOf}
 use Rattle.frame.specs.declared.Frame.{Frame}
 use Rattle.frame_lines.specs.declared.LineRead.{LineRead}
 use Rattle.frame.specs.Frames.{lineable, Held}
-use Rattle.frame_lines.specs.ReadLine.{LineContent, carries, readLine, found, done, answerOf, lineReadAt}
+use Rattle.frame_lines.specs.ReadLine.{LineContent, carries, readLine, found, done, lineAnswerOf, lineReadAt}
 use Rattle.frame_lines.specs.Writing.{fedLine, lineWriteAnswer, lineWriteLeaves}
 
 -- what each line says, in order
@@ -47,5 +47,5 @@ readCalls (suc n) s at = lineReadAt s at ∷ (if lineReadAt s at .done then [] e
 
 -- the answers that show frames, line after line from a place on, and then done
 unfoldable pub shownFrom : ℕ → List Frame → List LineRead
-shownFrom at [] = answerOf (done at) ∷ []
-shownFrom at (f ∷ fs) = answerOf (found (carries f) (at + length (fedLine f))) ∷ shownFrom (at + length (fedLine f)) fs
+shownFrom at [] = lineAnswerOf (done at) ∷ []
+shownFrom at (f ∷ fs) = lineAnswerOf (found (carries f) (at + length (fedLine f))) ∷ shownFrom (at + length (fedLine f)) fs

@@ -24,7 +24,7 @@ use Rattle.text.specs.Lines.{Line, lineFeed, notFeed, linesOf, linesBytes, feed
 use Rattle.text.specs.LinesLaws.{lines-bytes, lines-cut, lines-next, lines-done}
 use Rattle.laying.specs.LayingLaws.{lay-fits}
 use Rattle.frame.specs.declared.Frame.{Frame}
-use Rattle.frame_lines.specs.ReadLine.{carries, readLine, lineReadAt, firstFound, found, done, answerOf}
+use Rattle.frame_lines.specs.ReadLine.{carries, readLine, lineReadAt, firstFound, found, done, lineAnswerOf}
 use Rattle.frame_lines.specs.Writing.{charactersOf, fedLine}
 use Rattle.frame_lines.specs.WritingLaws.{line-digits, read-written, written-read}
 use Rattle.frame_lines.specs.Recording.{readAll, writeAll, Writable, none, one, writeCalls, readCalls, shownFrom}
@@ -74,18 +74,18 @@ write-back s fs h = lines-back (linesOf s) fs h ∙ lines-bytes s
 
 module _ (s : List ℕ) (at : ℕ) where
   -- at or past the end the reader answers done and stays where it is
-  pub read-done : length s ≤ at → lineReadAt s at ≡ answerOf (done at)
+  pub read-done : length s ≤ at → lineReadAt s at ≡ lineAnswerOf (done at)
   read-done h = rw (lines-done s at h)
 
   -- before it the reader answers what the line says that starts there, by where its characters end
   pub read-first : (e : ℕ) → at < length s → at + feedAt (drop at s) ≡ e
-      → lineReadAt s at ≡ answerOf (found (readLine record { chars = take (e - at) (drop at s); fed = ltb e (length s) }) (if ltb e (length s) then e + 1 else e))
+      → lineReadAt s at ≡ lineAnswerOf (found (readLine record { chars = take (e - at) (drop at s); fed = ltb e (length s) }) (if ltb e (length s) then e + 1 else e))
   read-first e h k =
-      ap (λ (ls : List Line). answerOf (firstFound at ls)) (lines-next s at h) ∙ by-test (ltb e (length s)) refl
+      ap (λ (ls : List Line). lineAnswerOf (firstFound at ls)) (lines-next s at h) ∙ by-test (ltb e (length s)) refl
     where
       by-test : (u : Bool) → ltb e (length s) ≡ u
-          → answerOf (found (readLine (firstLine (drop at s))) (at + width (firstLine (drop at s))))
-          ≡ answerOf (found (readLine record { chars = take (e - at) (drop at s); fed = u }) (if u then e + 1 else e))
+          → lineAnswerOf (found (readLine (firstLine (drop at s))) (at + width (firstLine (drop at s))))
+          ≡ lineAnswerOf (found (readLine record { chars = take (e - at) (drop at s); fed = u }) (if u then e + 1 else e))
       by-test true p =
           let m = ltb-true e (length s) p in
           let t = drop at s in
@@ -119,7 +119,7 @@ write-calls (one {f} {fs} held sound rest) s at h =
 
 -- what stands at a place where a written line starts
 line-found : (f : Frame) (s more : List ℕ) (at : ℕ) → readLine record { chars = charactersOf f; fed = true } ≡ carries f → drop at s ≡ fedLine f ++ more
-    → lineReadAt s at ≡ answerOf (found (carries f) (at + length (fedLine f)))
+    → lineReadAt s at ≡ lineAnswerOf (found (carries f) (at + length (fedLine f)))
 line-found f s more at says here =
     let plain = digits-no-feed (charactersOf f) (line-digits f) in
     let width-is : length (charactersOf f) + 1 ≡ length (fedLine f) = sym (length-append (charactersOf f) (lineFeed ∷ [])) in

@@ -25,7 +25,7 @@ use Rattle.text.specs.DigitsLaws.{digits-length, digits-are, number-digits, dig
 use Rattle.frame.specs.Frames.{noBits, bytesFor, countAllowed, clearFrom, lineable, mostSlots, Held}
 use Rattle.frame.specs.FramesLaws.{pad-back, pad-length, pad-bytes}
 use Rattle.text.specs.Lines.{Line, lineFeed}
-use Rattle.frame_lines.specs.ReadLine.{presenceIn, countIn, frameIn, wellFormed, readLine, carries}
+use Rattle.frame_lines.specs.ReadLine.{presenceIn, slotCountIn, frameIn, wellFormed, readLine, carries}
 use Rattle.frame_lines.specs.ReadLineLaws.{read-accepted, accepted-read}
 use Rattle.frame_lines.specs.Writing.{headOf, slotBytes, charactersOf, fedLine, lineWriteAnswer, lineWriteLeaves}
 
@@ -101,7 +101,7 @@ module _ (f : Frame) (held : Held f) (h : lineable f ≡ true) where
   spelt-presence : presenceIn (charactersOf f) ≡ bitNumber (f .presence)
   spelt-presence = rw (line-presence f) (number-digits 16 (lit< tt) (lit≤ tt) 2 (bitNumber (f .presence)) (bit-small (f .presence)))
 
-  spelt-count : countIn (charactersOf f) ≡ f .count
+  spelt-count : slotCountIn (charactersOf f) ≡ f .count
   spelt-count =
       let c = lineable-count f h in
       rw (line-count f) (number-digits 16 (lit< tt) (lit≤ tt) 4 (f .count) (omega arith))
@@ -135,23 +135,23 @@ module _ (f : Frame) (held : Held f) (h : lineable f ≡ true) where
 -- ## An accepted line is written as it was, and its frame can be written
 
 module _ (cs : List ℕ) (digital : spells 16 cs ≡ true) (formed : wellFormed cs ≡ true) where
-  head-formed : (leb (presenceIn cs) 1 && eqb (length cs) (6 + 2 * bytesFor (countIn cs))) ≡ true
-  head-formed = and-left (leb (presenceIn cs) 1 && eqb (length cs) (6 + 2 * bytesFor (countIn cs))) (lineable (frameIn cs)) formed
+  head-formed : (leb (presenceIn cs) 1 && eqb (length cs) (6 + 2 * bytesFor (slotCountIn cs))) ≡ true
+  head-formed = and-left (leb (presenceIn cs) 1 && eqb (length cs) (6 + 2 * bytesFor (slotCountIn cs))) (lineable (frameIn cs)) formed
 
   formed-lineable : lineable (frameIn cs) ≡ true
-  formed-lineable = and-right (leb (presenceIn cs) 1 && eqb (length cs) (6 + 2 * bytesFor (countIn cs))) (lineable (frameIn cs)) formed
+  formed-lineable = and-right (leb (presenceIn cs) 1 && eqb (length cs) (6 + 2 * bytesFor (slotCountIn cs))) (lineable (frameIn cs)) formed
 
   formed-presence : presenceIn cs ≤ 1
-  formed-presence = leb-true (presenceIn cs) 1 (and-left (leb (presenceIn cs) 1) (eqb (length cs) (6 + 2 * bytesFor (countIn cs))) head-formed)
+  formed-presence = leb-true (presenceIn cs) 1 (and-left (leb (presenceIn cs) 1) (eqb (length cs) (6 + 2 * bytesFor (slotCountIn cs))) head-formed)
 
-  formed-length : length cs ≡ 6 + 2 * bytesFor (countIn cs)
-  formed-length = eqb-true (length cs) (6 + 2 * bytesFor (countIn cs)) (and-right (leb (presenceIn cs) 1) (eqb (length cs) (6 + 2 * bytesFor (countIn cs))) head-formed)
+  formed-length : length cs ≡ 6 + 2 * bytesFor (slotCountIn cs)
+  formed-length = eqb-true (length cs) (6 + 2 * bytesFor (slotCountIn cs)) (and-right (leb (presenceIn cs) 1) (eqb (length cs) (6 + 2 * bytesFor (slotCountIn cs))) head-formed)
 
-  rest-length : length (drop 6 cs) ≡ 2 * bytesFor (countIn cs)
+  rest-length : length (drop 6 cs) ≡ 2 * bytesFor (slotCountIn cs)
   rest-length = let l = formed-length in length-drop 6 cs ∙ omega arith
 
-  body-length : length (bytesOf (drop 6 cs)) ≡ bytesFor (countIn cs)
-  body-length = bytes-length (bytesFor (countIn cs)) (drop 6 cs) rest-length
+  body-length : length (bytesOf (drop 6 cs)) ≡ bytesFor (slotCountIn cs)
+  body-length = bytes-length (bytesFor (slotCountIn cs)) (drop 6 cs) rest-length
 
   body-few : length (bytesOf (drop 6 cs)) ≤ 64
   body-few = let b = body-length in let c = lineable-count (frameIn cs) formed-lineable in omega arith
@@ -170,13 +170,13 @@ module _ (cs : List ℕ) (digital : spells 16 cs ≡ true) (formed : wellFormed 
   back-count : hexDigits 4 (frameIn cs .count) ≡ take 4 (drop 2 cs)
   back-count =
       let l : length (take 4 (drop 2 cs)) ≡ 4 = let f = formed-length in simp (length-take, length-drop) (omega arith) in
-      ap (λ (k : ℕ). hexDigits k (countIn cs)) (sym l) ∙ digits-number 16 (lit< tt) (lit≤ tt) (take 4 (drop 2 cs)) (all-take (isDigit 16) 4 (drop 2 cs) (all-drop (isDigit 16) 2 cs digital))
+      ap (λ (k : ℕ). hexDigits k (slotCountIn cs)) (sym l) ∙ digits-number 16 (lit< tt) (lit≤ tt) (take 4 (drop 2 cs)) (all-take (isDigit 16) 4 (drop 2 cs) (all-drop (isDigit 16) 2 cs digital))
 
   back-slots : hexOf (slotBytes (frameIn cs)) ≡ drop 6 cs
   back-slots =
       let b : slotBytes (frameIn cs) ≡ bytesOf (drop 6 cs) =
       ap (λ (k : ℕ). take k (laid noBits 0 (bytesOf (drop 6 cs)))) (sym body-length) ∙ laid-read noBits 0 (bytesOf (drop 6 cs)) (omega arith) in
-      ap hexOf b ∙ hex-bytes (bytesFor (countIn cs)) (drop 6 cs) rest-length (all-drop (isDigit 16) 6 cs digital)
+      ap hexOf b ∙ hex-bytes (bytesFor (slotCountIn cs)) (drop 6 cs) rest-length (all-drop (isDigit 16) 6 cs digital)
 
   written-back : charactersOf (frameIn cs) ≡ cs
   unfolding charactersOf

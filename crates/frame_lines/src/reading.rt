@@ -5,7 +5,7 @@ ghost use Prim.Native.Nat.{_*_, _≤_};
 ghost use lib.ListN.{length};
 ghost use Rattle.text.specs.Digits.{spells};
 ghost use Rattle.frame.specs.Frames.{bytesFor, mostSlots};
-ghost use Rattle.frame_lines.specs.ReadLine.{presenceIn, countIn, readSlots, readDigits, readLine, found, answerOf, noFrame};
+ghost use Rattle.frame_lines.specs.ReadLine.{presenceIn, slotCountIn, readBody, readDigits, readLine, found, lineAnswerOf, noFrame};
 use crate::LineRead;
 use frame::Frame;
 
@@ -17,7 +17,7 @@ const HEAD: usize = 6;
 
 // The answer for a refused line.
 fn refuse(refusal: u8, next: usize) -> LineRead
-    ensures { λ r. ⌜ r ≡ answerOf (found (noFrame refusal) next) ⌝ }
+    ensures { λ r. ⌜ r ≡ lineAnswerOf (found (noFrame refusal) next) ⌝ }
 {
     LineRead {
         refusal,
@@ -30,7 +30,7 @@ fn refuse(refusal: u8, next: usize) -> LineRead
 // The slots' bytes, behind a head that is in order.
 fn read_slots(body: &[u8], presence: bool, count: u16, next: usize) -> LineRead
     requires { ⌜ (count ≤ mostSlots) × (length (now body) ≡ 2 * bytesFor count) × (spells 16 (now body) ≡ true) ⌝ }
-    ensures { λ r. ⌜ r ≡ answerOf (found (readSlots presence count (now (body .entry))) next) ⌝ }
+    ensures { λ r. ⌜ r ≡ lineAnswerOf (found (readBody presence count (now (body .entry))) next) ⌝ }
 {
     let n = frame::bytes_for(count);
     let mut bits = [0u8; 64];
@@ -63,7 +63,7 @@ fn presence_of(line: &[u8]) -> u64
 // What the four digits after them say.
 fn count_of(line: &[u8]) -> u16
     requires { ⌜ (6 ≤ length (now line)) × (spells 16 (now line) ≡ true) ⌝ }
-    ensures { λ r. ⌜ r ≡ countIn (now (line .entry)) ⌝ }
+    ensures { λ r. ⌜ r ≡ slotCountIn (now (line .entry)) ⌝ }
 {
     let read = text::read_fixed(&line[2..6], 16, 4);
     read.number as u16
@@ -72,7 +72,7 @@ fn count_of(line: &[u8]) -> u16
 // A line of digits only, with a feed behind it: presence, count and the slots' bytes.
 fn read_digits(line: &[u8], next: usize) -> LineRead
     requires { ⌜ spells 16 (now line) ≡ true ⌝ }
-    ensures { λ r. ⌜ r ≡ answerOf (found (readDigits (now (line .entry))) next) ⌝ }
+    ensures { λ r. ⌜ r ≡ lineAnswerOf (found (readDigits (now (line .entry))) next) ⌝ }
 {
     if line.len() < HEAD {
         return refuse(refusals::MALFORMED, next);
@@ -97,7 +97,7 @@ fn read_digits(line: &[u8], next: usize) -> LineRead
 // A line, by its characters before the feed or the end and whether there is a feed. The place of the
 // next line is handed on.
 pub fn read_line(line: &[u8], fed: bool, next: usize) -> LineRead
-    ensures answer { λ r. ⌜ r ≡ answerOf (found (readLine record { chars = now (line .entry); fed = fed }) next) ⌝ }
+    ensures answer { λ r. ⌜ r ≡ lineAnswerOf (found (readLine record { chars = now (line .entry); fed = fed }) next) ⌝ }
 {
     if LONGEST < line.len() {
         return refuse(refusals::MALFORMED, next);

@@ -11,20 +11,20 @@ use lib.Dec.{leb}
 use lib.ListN.{length, take, length-take, length-append}
 use lib.Seq.{take-all, take-append-le, take-suc-set, length-take-le}
 use Rattle.text.specs.Lines.{lineFeed}
-use Rattle.requests.specs.Requests.{requestOf, longest}
+use Rattle.requests.specs.Requests.{requestOf, longestRequest}
 use Rattle.gathering.specs.Gathering.{mostHeld, gathered, taken, takenLeaves}
 
 -- a line that is cut at 81 characters asks for what the whole line asks for
 pub held-tells : (s : List ℕ) → requestOf (take mostHeld s) ≡ requestOf s
 unfolding requestOf
-held-tells s = by-test (leb (length s) longest) refl
+held-tells s = by-test (leb (length s) longestRequest) refl
   where
-    by-test : (t : Bool) → leb (length s) longest ≡ t → requestOf (take mostHeld s) ≡ requestOf s
-    by-test true e = let h = leb-true (length s) longest e in ap requestOf (take-all mostHeld s (omega arith))
+    by-test : (t : Bool) → leb (length s) longestRequest ≡ t → requestOf (take mostHeld s) ≡ requestOf s
+    by-test true e = let h = leb-true (length s) longestRequest e in ap requestOf (take-all mostHeld s (omega arith))
     by-test false e =
-        let h = leb-false (length s) longest e in
+        let h = leb-false (length s) longestRequest e in
         let cut : length (take mostHeld s) ≡ 81 = length-take mostHeld s ∙ omega arith in
-        rw (e, lt-leb (length (take mostHeld s)) longest (omega arith))
+        rw (e, lt-leb (length (take mostHeld s)) longestRequest (omega arith))
 
 -- the buffer of 81 bytes after a character that is no feed
 module _ (line : List ℕ) (held c : ℕ) (size : length line ≡ mostHeld) (within : held ≤ mostHeld) (other : c ≡ lineFeed → ⊥) where

@@ -131,8 +131,8 @@ pub record Ledger : Type 0 where
   pub book : ℕ → Page
 
 -- the book with one page replaced
-abbrev pub withPage : (ℕ → Page) → ℕ → Page → ℕ → Page
-withPage book code p k = if eqb k code then p else book k
+abbrev pub bookWith : (ℕ → Page) → ℕ → Page → ℕ → Page
+bookWith book code p k = if eqb k code then p else book k
 
 abbrev pub codesAfter : List ℕ → Entry → List ℕ
 codesAfter codes (joins code) = codes ++ (code ∷ [])
@@ -141,9 +141,9 @@ codesAfter codes (writes code p) = codes
 codesAfter codes nothing = codes
 
 abbrev pub bookAfter : (ℕ → Page) → Entry → ℕ → Page
-bookAfter book (joins code) = withPage book code emptyPage
-bookAfter book (empties code) = withPage book code emptyPage
-bookAfter book (writes code p) = withPage book code p
+bookAfter book (joins code) = bookWith book code emptyPage
+bookAfter book (empties code) = bookWith book code emptyPage
+bookAfter book (writes code p) = bookWith book code p
 bookAfter book nothing = book
 
 abbrev pub step : Ledger → Call → Ledger

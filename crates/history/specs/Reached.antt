@@ -36,7 +36,7 @@ use Rattle.bench.specs.declared.Bench.{Bench}
 use Rattle.bench.specs.declared.Changed.{Changed}
 use Rattle.bench.specs.declared.Place.the-variants.{At, Nowhere}
 use Rattle.history.specs.Kept.{read-keeps, write-keeps, outcome-keeps}
-use Rattle.history.specs.History.{Call, add, reset, slot, finishConversion, finishCopy, powerCycle, search, searchAlarms, read, write, Typed, Code64, apply, pageOf, pageAt, Entry, joins, empties, writes, nothing, entry, ifAccepted, Ledger, withPage, codesAfter, bookAfter, step, start, ledger}
+use Rattle.history.specs.History.{Call, add, reset, slot, finishConversion, finishCopy, powerCycle, search, searchAlarms, read, write, Typed, Code64, apply, pageOf, pageAt, Entry, joins, empties, writes, nothing, entry, ifAccepted, Ledger, bookWith, codesAfter, bookAfter, step, start, ledger}
 
 -- each device's page is the book's
 abbrev pub PagesAre : (ℕ → Page) → List Device → Type 0
@@ -93,13 +93,13 @@ module _ (l : Ledger) where
 -- ## Pages after a change of one device
 
 -- the page of another code stays
-page-other : (book : ℕ → Page) (code : ℕ) (p : Page) (k : ℕ) → k ≢ code → withPage book code p k ≡ book k
+page-other : (book : ℕ → Page) (code : ℕ) (p : Page) (k : ℕ) → k ≢ code → bookWith book code p k ≡ book k
 page-other book code p k h = rw (ne-eqb k code h)
 
-page-own : (book : ℕ → Page) (code : ℕ) (p : Page) → withPage book code p code ≡ p
+page-own : (book : ℕ → Page) (code : ℕ) (p : Page) → bookWith book code p code ≡ p
 page-own book code p = rw (eq-eqb code code refl)
 
-pages-others : (book : ℕ → Page) (code : ℕ) (p : Page) (ds : List Device) → Each (λ d. d .code ≢ code) ds → PagesAre book ds → PagesAre (withPage book code p) ds
+pages-others : (book : ℕ → Page) (code : ℕ) (p : Page) (ds : List Device) → Each (λ d. d .code ≢ code) ds → PagesAre book ds → PagesAre (bookWith book code p) ds
 pages-others book code p [] h k = tt
 pages-others book code p (d ∷ ds) h k = (k .0 ∙ sym (page-other book code p (d .code) (h .0)), pages-others book code p ds (h .1) (k .1))
 
@@ -115,7 +115,7 @@ at-differs code (d ∷ ds) (suc i) h k = at-differs code ds i (omega arith) (k .
 
 -- one device's page is written
 pages-set : (book : ℕ → Page) (ds : List Device) (i : ℕ) (v : Device) (p : Page) → Distinct (map (λ d. d .code) ds) → i < length ds
-    → v .code ≡ getD ds i vacant .code → v .page ≡ p → PagesAre book ds → PagesAre (withPage book (v .code) p) (set ds i v)
+    → v .code ≡ getD ds i vacant .code → v .page ≡ p → PagesAre book ds → PagesAre (bookWith book (v .code) p) (set ds i v)
 pages-set book [] i v p d h c e k = absurd (omega arith)
 pages-set book (x ∷ ds) zero v p d h c e k =
     (e ∙ sym (page-own book (v .code) p), pages-others book (v .code) p ds (rw c (others-differ (x .code) ds (d .0))) (k .1))
@@ -156,21 +156,21 @@ module _ (l : Ledger) (r : Reached l) where
     marked =
         added-cases (l .bench) new (λ c. Marked (answered l (joins (new .code)) c)) (r .sound .places) (refusal-kept (joins (new .code))) (λ after a.
         let m = r .marked in
-        let own : joined new .page ≡ withPage (l .book) (new .code) emptyPage (joined new .code) =
-        joined-fresh new .page-empty ∙ sym (ap (withPage (l .book) (new .code) emptyPage) (joined-fresh new .code-is) ∙ page-own (l .book) (new .code) emptyPage) in
+        let own : joined new .page ≡ bookWith (l .book) (new .code) emptyPage (joined new .code) =
+        joined-fresh new .page-empty ∙ sym (ap (bookWith (l .book) (new .code) emptyPage) (joined-fresh new .code-is) ∙ page-own (l .book) (new .code) emptyPage) in
         record {
           codes-are = added-codes (l .bench) new after a ∙ ap (λ (cs : List ℕ). cs ++ (new .code ∷ [])) (m .codes-are);
           codes-fit = below-snoc (l .codes) (new .code) (m .codes-fit) h;
           pages-are =
               rw (a .live-is)
-              (pages-snoc (withPage (l .book) (new .code) emptyPage) (live (l .bench)) (joined new)
+              (pages-snoc (bookWith (l .book) (new .code) emptyPage) (live (l .bench)) (joined new)
               (pages-others (l .book) (new .code) emptyPage (live (l .bench)) (a .code-new) (m .pages-are)) own);
         });
   }
 
   -- one device changes and its page is written
   marked-written : (code : ℕ) (f : Device → Device) (p : Page) (after : Bench) (o : OneChanged (l .bench) code f after) → ((d : Device) → f d .code ≡ d .code)
-      → f (getD (live (l .bench)) (o .place) vacant) .page ≡ p → Marked (record { bench = after; codes = l .codes; book = withPage (l .book) code p })
+      → f (getD (live (l .bench)) (o .place) vacant) .page ≡ p → Marked (record { bench = after; codes = l .codes; book = bookWith (l .book) code p })
   marked-written code f p after o same e =
       let m = r .marked in
       let d = getD (live (l .bench)) (o .place) vacant in

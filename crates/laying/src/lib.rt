@@ -11,9 +11,6 @@ ghost use Rattle.text.specs.Digits.{valueOf, spells, digits, hexDigits, hexOf, 
 ghost use Rattle.text.specs.Decimal.{decimal, signedDecimal};
 ghost use Rattle.laying.specs.Laying.{hasRoom, layAnswer, layLeaves, decodeAnswer, decodeLeaves};
 
-// The character in front of a negative number.
-const MINUS: u8 = 0x2D;
-
 // What came of laying text at a place.
 pub struct Written {
     pub refusal: u8,
@@ -133,7 +130,7 @@ fn lay_negative(out: &mut [u8], at: usize, size: u64) -> Written
     if !room {
         return refuse(refusals::NO_ROOM);
     }
-    out[at] = MINUS;
+    out[at] = text::MINUS;
     lay_decimal(out, at + 1, size)
 }
 

@@ -27,7 +27,7 @@ use Rattle.frame.specs.declared.Frame.{Frame}
 use Rattle.naming.specs.declared.Name.{Name}
 use Rattle.naming.specs.declared.Name.the-variants.{Empty, Search, Alarm, Nobody, Pad, Other}
 use Rattle.naming.specs.declared.PassRead.{PassRead}
-use Rattle.naming.specs.Naming.{named, plain, refusedName, sends, tripleAllowed, triplesAllowed, thirds, passSlots, passRead, coded, namedPass, isNobody, isPad, lowFirst, codeIn, padIn, rawOf, namedPad}
+use Rattle.naming.specs.Naming.{named, plain, refusedName, sends, tripleAllowed, triplesAllowed, thirds, passSlots, passRead, coded, namedPass, isNobody, isPad, lowFirst, codeMatched, padIn, rawOf, namedPad}
 
 pub one-at-most : (b : Bool) → bitNumber b ≤ 1
 one-at-most true = omega arith
@@ -213,10 +213,10 @@ named-small f = by-test (not (f .presence)) (sends f 200 searchRom) (sends f 200
   where
     by-test : (t u v w x : Bool)
         → (if t then plain Empty else if u then namedPass Search (passRead (passSlots (f .bits))) else if v then namedPass Alarm (passRead (passSlots (f .bits)))
-        else if w then plain Nobody else if x then namedPad (codeIn (f .bits)) (padIn (f .bits)) else plain Other) .refusal < 100
+        else if w then plain Nobody else if x then namedPad (codeMatched (f .bits)) (padIn (f .bits)) else plain Other) .refusal < 100
     by-test true u v w x = lit< tt
     by-test false true v w x = pass-small Search (passRead (passSlots (f .bits)))
     by-test false false true w x = pass-small Alarm (passRead (passSlots (f .bits)))
     by-test false false false true x = lit< tt
-    by-test false false false false true = scratchpad-small (codeIn (f .bits)) (padIn (f .bits))
+    by-test false false false false true = scratchpad-small (codeMatched (f .bits)) (padIn (f .bits))
     by-test false false false false false = lit< tt

@@ -110,8 +110,8 @@ unfoldable pub lowFirst : List ℕ → ℕ
 lowFirst [] = 0
 lowFirst (b ∷ bs) = b + 256 * lowFirst bs
 
-abbrev pub codeIn : List ℕ → ℕ
-codeIn bytes = lowFirst (take 8 (drop 1 bytes))
+abbrev pub codeMatched : List ℕ → ℕ
+codeMatched bytes = lowFirst (take 8 (drop 1 bytes))
 
 abbrev pub padIn : List ℕ → List ℕ
 padIn bytes = take 9 (drop 10 bytes)
@@ -136,7 +136,7 @@ named f =
     else if sends f 200 searchRom then namedPass Search (passRead (passSlots (f .bits)))
     else if sends f 200 alarmSearch then namedPass Alarm (passRead (passSlots (f .bits)))
     else if isNobody f then plain Nobody
-    else if isPad f then namedPad (codeIn (f .bits)) (padIn (f .bits))
+    else if isPad f then namedPad (codeMatched (f .bits)) (padIn (f .bits))
     else plain Other
 
 -- the number of a frame's name; that of OTHER on a refusal

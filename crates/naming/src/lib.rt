@@ -4,7 +4,7 @@ ghost use Prim.Native.Nat.{_+_, _*_, _<_};
 ghost use mathlib.Core.Bool.{false};
 ghost use lib.ListN.{length, getD};
 ghost use Rattle.bits.specs.Bits.{bytesBits, bitNumber};
-ghost use Rattle.naming.specs.Naming.{nameNumber, named, frameNumber, plain, refusedName, sends, coded, tripleAllowed, passRead, passSlots, namedPass, searches, isNobody, isPad, codeIn, padIn, namedPad, believed};
+ghost use Rattle.naming.specs.Naming.{nameNumber, named, frameNumber, plain, refusedName, sends, coded, tripleAllowed, passRead, passSlots, namedPass, searches, isNobody, isPad, codeMatched, padIn, namedPad, believed};
 use frame::Frame;
 use scratchpad::Judged;
 use scratchpad::NineBytes;
@@ -139,7 +139,7 @@ fn read_pass(bits: &[u8]) -> PassRead
 // The code in bytes 1 to 8.
 fn code_in(bits: &[u8]) -> u64
     requires { ⌜ length (now bits) ≡ 64 ⌝ }
-    ensures { λ r. ⌜ r ≡ codeIn (now (bits .entry)) ⌝ }
+    ensures { λ r. ⌜ r ≡ codeMatched (now (bits .entry)) ⌝ }
 {
     let mut code: u64 = 0;
     let mut left: usize = 8;

@@ -19,13 +19,14 @@ use Rattle.text.specs.DecimalLaws.{decimal-length, decimal-most}
 use Rattle.text.specs.Lines.{Line, lineFeed}
 use Rattle.laying.specs.Laying.{layAnswer, layLeaves}
 use Rattle.laying.specs.LayingLaws.{lay-fits, lay-behind}
-use Rattle.frame_lines.specs.ReadLine.{longest, wellFormed, frameIn, carries, noFrame, readDigits, readLine, found, answerOf}
+use Rattle.frame_lines.specs.ReadLine.{longestLine, wellFormed, frameIn, carries, noFrame, readDigits, readLine, found, lineAnswerOf}
 use Rattle.naming.specs.Naming.{readNamed, lineNamed}
 use Rattle.naming.specs.declared.Name.{Name}
 use Rattle.naming.specs.declared.Name.the-variants.{Empty, Search, Alarm, Nobody, Pad, Other}
 use Rattle.naming.specs.declared.Named.{Named}
 use Rattle.printing.specs.declared.Text.{Text}
-use Rattle.printing.specs.Printing.{space, word, refusedWord, refusedText, detail, described, printedName, blankText, printedText, nameOfRead}
+use Rattle.text.specs.Lines.{space}
+use Rattle.printing.specs.Printing.{word, refusedWord, refusedText, detail, described, printedName, blankText, printedText, nameOfRead}
 
 -- ## How long the details are
 
@@ -149,13 +150,13 @@ text-read n =
 
 -- ## A reader's answer, named
 
-pub line-read : (next : ℕ) (l : Line) → nameOfRead (answerOf (found (readLine l) next)) ≡ lineNamed l
+pub line-read : (next : ℕ) (l : Line) → nameOfRead (lineAnswerOf (found (readLine l) next)) ≡ lineNamed l
 unfolding readLine readDigits
-line-read next l = by-test (ltb longest (length (l .chars))) (spells 16 (l .chars) && l .fed) (wellFormed (l .chars))
+line-read next l = by-test (ltb longestLine (length (l .chars))) (spells 16 (l .chars) && l .fed) (wellFormed (l .chars))
   where
     by-test : (t u v : Bool) →
         let r = if t then noFrame malformed else if u then (if v then carries (frameIn (l .chars)) else noFrame malformed) else noFrame notHex in
-        nameOfRead (answerOf (found r next)) ≡ readNamed r
+        nameOfRead (lineAnswerOf (found r next)) ≡ readNamed r
     by-test true u v = refl
     by-test false true true = refl
     by-test false true false = refl

@@ -17,7 +17,7 @@ use Rattle.lists.specs.Laid.{laid}
 use Rattle.refusals.specs.Refusals.{accepted}
 use Rattle.text.specs.Digits.{hexDigits, codeDigits}
 use Rattle.text.specs.Decimal.{decimal}
-use Rattle.text.specs.Lines.{Line, lineFeed}
+use Rattle.text.specs.Lines.{Line, lineFeed, space}
 use Rattle.frame_lines.specs.declared.LineRead.{LineRead}
 use Rattle.naming.specs.Naming.{named, refusedName, lineNamed}
 use Rattle.naming.specs.declared.Name.{Name}
@@ -37,9 +37,6 @@ word Other = 0x4F ∷ 0x54 ∷ 0x48 ∷ 0x45 ∷ 0x52 ∷ []  -- OTHER
 -- REFUSED and a space
 abbrev pub refusedWord : List ℕ
 refusedWord = 0x52 ∷ 0x45 ∷ 0x46 ∷ 0x55 ∷ 0x53 ∷ 0x45 ∷ 0x44 ∷ 0x20 ∷ []
-
-abbrev pub space : ℕ
-space = 0x20
 
 -- what stands behind the word: the code of a pass, the code and the reading of a scratchpad, nothing for the others
 abbrev pub detail : Name → ℕ → ℕ → List ℕ

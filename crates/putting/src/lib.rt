@@ -12,9 +12,6 @@ use laying::Written;
 // What must be left for a line: more than any line needs.
 pub const LINE_ROOM: usize = 64;
 
-// The character between two fields.
-pub const SPACE: u8 = 0x20;
-
 // What is answered where there is no room for a line.
 pub fn no_room() -> Written
     ensures answer { λ r. ⌜ r ≡ record { refusal = noRoom; next = 0 } ⌝ }

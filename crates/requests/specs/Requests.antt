@@ -18,7 +18,7 @@ use Rattle.requests.specs.declared.Request.{Request}
 use Rattle.requests.specs.declared.Request.the-variants.{Bad, Add, Reset, Slot, Converted, Copied, Cycle, Search, Alarm, Read, Write, Show, Why}
 use Rattle.fields.specs.declared.SettingsRead.{SettingsRead}
 use Rattle.words.specs.Words.{same, wordOf, wordsOf}
-use Rattle.fields.specs.Fields.{codeIn, bitIn, placesIn, bytesIn, countIn, settingsIn, powerIn, mostPlaces, mostBytes}
+use Rattle.fields.specs.Fields.{codeIn, bitIn, placesIn, bytesIn, countIn, threeBytesIn, powerIn, mostPlaces, mostBytes}
 
 -- ## The requests, by what was read of their fields
 
@@ -66,14 +66,14 @@ ofMaster ws =
     else if asks (ascii "search") 2 ws then lent Search (placesIn (field 1)) (bytesIn (field 2))
     else if asks (ascii "alarm") 2 ws then lent Alarm (placesIn (field 1)) (bytesIn (field 2))
     else if asks (ascii "read") 1 ws then atCode Read (codeIn (field 1))
-    else if asks (ascii "write") 4 ws then writeAsked (codeIn (field 1)) (settingsIn (field 2) (field 3) (field 4))
+    else if asks (ascii "write") 4 ws then writeAsked (codeIn (field 1)) (threeBytesIn (field 2) (field 3) (field 4))
     else Bad
 
 -- ADD CODE POWER HIGH LOW CONFIGURATION; RESET; SLOT BIT; CONVERTED CODE COUNT; COPIED, CYCLE, SHOW, WHY CODE
 unfoldable pub ofBench : List (List ℕ) → Request
 ofBench ws =
     let field = wordOf ws in
-    if asks (ascii "add") 5 ws then addAsked (codeIn (field 1)) (powerIn (field 2)) (settingsIn (field 3) (field 4) (field 5))
+    if asks (ascii "add") 5 ws then addAsked (codeIn (field 1)) (powerIn (field 2)) (threeBytesIn (field 3) (field 4) (field 5))
     else if asks (ascii "reset") 0 ws then Reset
     else if asks (ascii "slot") 1 ws then slotAsked (bitIn (field 1))
     else if asks (ascii "converted") 2 ws then convertedAsked (codeIn (field 1)) (countIn (field 2))
@@ -84,9 +84,9 @@ ofBench ws =
     else ofMaster ws
 
 -- the most characters of a line
-abbrev pub longest : ℕ
-longest = 80
+abbrev pub longestRequest : ℕ
+longestRequest = 80
 
 -- what a line, without its feed, asks for
 unfoldable pub requestOf : List ℕ → Request
-requestOf s = if leb (length s) longest then ofBench (wordsOf s) else Bad
+requestOf s = if leb (length s) longestRequest then ofBench (wordsOf s) else Bad

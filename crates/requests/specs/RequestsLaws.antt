@@ -12,7 +12,7 @@ use Rattle.text.specs.Ascii.{ascii}
 use Rattle.requests.specs.declared.Request.the-variants.{Bad, Reset, Copied, Cycle, Search, Alarm, Read, Show, Why}
 use Rattle.words.specs.Words.{same, wordOf}
 use Rattle.words.specs.WordsLaws.{same-equal}
-use Rattle.fields.specs.Fields.{codeIn, bitIn, placesIn, bytesIn, countIn, settingsIn, powerIn, mostPlaces, mostBytes}
+use Rattle.fields.specs.Fields.{codeIn, bitIn, placesIn, bytesIn, countIn, threeBytesIn, powerIn, mostPlaces, mostBytes}
 use Rattle.requests.specs.Requests.{asks, slotAsked, convertedAsked, atCode, lent, writeAsked, addAsked, ofMaster, ofBench}
 
 module _ (name : List ℕ) (n : ℕ) (ws : List (List ℕ)) (e : asks name n ws ≡ true) where
@@ -25,7 +25,7 @@ module _ (name : List ℕ) (n : ℕ) (ws : List (List ℕ)) (e : asks name n ws 
 -- ## The calls on the bench
 
 module _ (ws : List (List ℕ)) where
-  pub row-add : asks (ascii "add") 5 ws ≡ true → addAsked (codeIn (wordOf ws 1)) (powerIn (wordOf ws 2)) (settingsIn (wordOf ws 3) (wordOf ws 4) (wordOf ws 5)) ≡ ofBench ws
+  pub row-add : asks (ascii "add") 5 ws ≡ true → addAsked (codeIn (wordOf ws 1)) (powerIn (wordOf ws 2)) (threeBytesIn (wordOf ws 3) (wordOf ws 4) (wordOf ws 5)) ≡ ofBench ws
   unfolding ofBench same
   row-add e = rw (asks-name (ascii "add") 5 ws e, asks-fields (ascii "add") 5 ws e)
 
@@ -85,7 +85,7 @@ module _ (ws : List (List ℕ)) where
   unfolding ofMaster same
   row-read e = rw (asks-name (ascii "read") 1 ws e, asks-fields (ascii "read") 1 ws e)
 
-  pub row-write : asks (ascii "write") 4 ws ≡ true → writeAsked (codeIn (wordOf ws 1)) (settingsIn (wordOf ws 2) (wordOf ws 3) (wordOf ws 4)) ≡ ofMaster ws
+  pub row-write : asks (ascii "write") 4 ws ≡ true → writeAsked (codeIn (wordOf ws 1)) (threeBytesIn (wordOf ws 2) (wordOf ws 3) (wordOf ws 4)) ≡ ofMaster ws
   unfolding ofMaster same
   row-write e = rw (asks-name (ascii "write") 4 ws e, asks-fields (ascii "write") 4 ws e)
 

@@ -1,7 +1,7 @@
 // The calls, by name, number of fields and request.
 ghost use mathlib.Core.Path.{_≡_};
 ghost use Rattle.words.specs.Words.{wordsOf, wordOf};
-ghost use Rattle.fields.specs.Fields.{codeIn, bitIn, placesIn, bytesIn, countIn, settingsIn, powerIn};
+ghost use Rattle.fields.specs.Fields.{codeIn, bitIn, placesIn, bytesIn, countIn, threeBytesIn, powerIn};
 ghost use Rattle.requests.specs.declared.Request.the-variants.{Copied, Cycle, Search, Alarm, Read, Show, Why};
 ghost use Rattle.requests.specs.Requests.{asks, slotAsked, convertedAsked, atCode, lent, writeAsked, addAsked, ofMaster, ofBench};
 use crate::Request;
@@ -23,7 +23,7 @@ use words::word;
 
 // `add CODE POWER HIGH LOW CONFIGURATION`
 fn add(line: &[u8]) -> Request
-    ensures { λ r. ⌜ r ≡ addAsked (codeIn (wordOf (wordsOf (now (line .entry))) 1)) (powerIn (wordOf (wordsOf (now (line .entry))) 2)) (settingsIn (wordOf (wordsOf (now (line .entry))) 3) (wordOf (wordsOf (now (line .entry))) 4) (wordOf (wordsOf (now (line .entry))) 5)) ⌝ }
+    ensures { λ r. ⌜ r ≡ addAsked (codeIn (wordOf (wordsOf (now (line .entry))) 1)) (powerIn (wordOf (wordsOf (now (line .entry))) 2)) (threeBytesIn (wordOf (wordsOf (now (line .entry))) 3) (wordOf (wordsOf (now (line .entry))) 4) (wordOf (wordsOf (now (line .entry))) 5)) ⌝ }
 {
     let code = code_in(word(line, 1));
     let p = power_in(word(line, 2));
@@ -166,7 +166,7 @@ fn alarm(line: &[u8]) -> Request
 
 // `write CODE HIGH LOW CONFIGURATION`
 fn write(line: &[u8]) -> Request
-    ensures { λ r. ⌜ r ≡ writeAsked (codeIn (wordOf (wordsOf (now (line .entry))) 1)) (settingsIn (wordOf (wordsOf (now (line .entry))) 2) (wordOf (wordsOf (now (line .entry))) 3) (wordOf (wordsOf (now (line .entry))) 4)) ⌝ }
+    ensures { λ r. ⌜ r ≡ writeAsked (codeIn (wordOf (wordsOf (now (line .entry))) 1)) (threeBytesIn (wordOf (wordsOf (now (line .entry))) 2) (wordOf (wordsOf (now (line .entry))) 3) (wordOf (wordsOf (now (line .entry))) 4)) ⌝ }
 {
     let code = code_in(word(line, 1));
     let s = settings_in(word(line, 2), word(line, 3), word(line, 4));

@@ -44,16 +44,16 @@ abbrev pub caseReading : ℕ → ℕ → ℕ → Reading
 caseReading f bits c = readingIn (propertiesOf f) (bits % 256 ∷ bits / 256 ∷ 0 ∷ 0 ∷ c ∷ [])
 
 -- whether two readings are one number in one unit
-abbrev pub same : Reading → Reading → Bool
-same (InSixteenths a) (InSixteenths b) = leZ (a .0) (b .0) && leZ (b .0) (a .0)
-same (InHalves a) (InHalves b) = leZ (a .0) (b .0) && leZ (b .0) (a .0)
-same (InSixteenths a) (InHalves b) = false
-same (InHalves a) (InSixteenths b) = false
+abbrev pub sameReading : Reading → Reading → Bool
+sameReading (InSixteenths a) (InSixteenths b) = leZ (a .0) (b .0) && leZ (b .0) (a .0)
+sameReading (InHalves a) (InHalves b) = leZ (a .0) (b .0) && leZ (b .0) (a .0)
+sameReading (InSixteenths a) (InHalves b) = false
+sameReading (InHalves a) (InSixteenths b) = false
 
 -- whether a case is as the definitions have it
 abbrev pub right : Case → Bool
 right (crc bytes is byte) = eqb (crcOf bytes) byte
-right (family f register bits at c reads t) = same (caseReading f bits c) t
+right (family f register bits at c reads t) = sameReading (caseReading f bits c) t
 right (register bits high h low l flags b) = Bool·beq (verdict (caseReading ds18b20 bits 0x7F) h l) b
 
 abbrev pub cases : List Case

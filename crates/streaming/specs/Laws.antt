@@ -22,7 +22,7 @@ use Rattle.pieces.specs.Pieces.{together, pieces, Enough}
 use Rattle.pieces.specs.Cuts.{any-cuts}
 use Rattle.pieces.specs.Walk.{Short}
 use Rattle.frame.specs.Frames.{bytesFor, lineable}
-use Rattle.frame_lines.specs.ReadLine.{LineContent, longest, presenceIn, countIn, wellFormed, frameIn, carries, noFrame, readDigits, readLine}
+use Rattle.frame_lines.specs.ReadLine.{LineContent, longestLine, presenceIn, slotCountIn, wellFormed, frameIn, carries, noFrame, readDigits, readLine}
 use Rattle.frame_lines.specs.ReadLineLaws.{read-accepted, read-long}
 use Rattle.naming.specs.Naming.{named, refusedName, readNamed}
 use Rattle.naming.specs.Laws.{named-small}
@@ -35,7 +35,7 @@ use Rattle.streaming.specs.Streaming.{printed, longestCarried, mostPrint
 
 read-small : (l : Line) (n : ℕ) → readLine l ≡ noFrame n → n < 10
 unfolding readLine readDigits
-read-small l n h = by-test (ltb longest (length (l .chars))) (spells 16 (l .chars) && l .fed) (wellFormed (l .chars)) h
+read-small l n h = by-test (ltb longestLine (length (l .chars))) (spells 16 (l .chars) && l .fed) (wellFormed (l .chars)) h
   where
     by-test : (t u v : Bool)
         → (if t then noFrame malformed else if u then (if v then carries (frameIn (l .chars)) else noFrame malformed) else noFrame notHex) ≡ noFrame n
@@ -63,8 +63,8 @@ text-short l h = by-reading (readLine l) refl
     by-reading (carries f) e =
         let a = read-accepted l f e in
         let cs = l .chars in
-        let head = and-left (leb (presenceIn cs) 1 && eqb (length cs) (6 + 2 * bytesFor (countIn cs))) (lineable (frameIn cs)) (a .formed) in
-        let size = eqb-true (length cs) (6 + 2 * bytesFor (countIn cs)) (and-right (leb (presenceIn cs) 1) (eqb (length cs) (6 + 2 * bytesFor (countIn cs))) head) in
+        let head = and-left (leb (presenceIn cs) 1 && eqb (length cs) (6 + 2 * bytesFor (slotCountIn cs))) (lineable (frameIn cs)) (a .formed) in
+        let size = eqb-true (length cs) (6 + 2 * bytesFor (slotCountIn cs)) (and-right (leb (presenceIn cs) 1) (eqb (length cs) (6 + 2 * bytesFor (slotCountIn cs))) head) in
         let w : width l ≡ length cs + 1 = rw (a .ended) in
         let k = printed-length (named f) (omega (arith, named-small f)) in
         omega arith
@@ -72,7 +72,7 @@ text-short l h = by-reading (readLine l) refl
 -- ## Over-long lines print the same, whatever stands in them
 
 long-printed : (l : Line) → longestCarried ≤ length (l .chars) → printedLine l ≡ printedName (refusedName malformed)
-long-printed l h = let k : longest < length (l .chars) = omega arith in ap (λ (r : LineContent). printedName (readNamed r)) (read-long l k)
+long-printed l h = let k : longestLine < length (l .chars) = omega arith in ap (λ (r : LineContent). printedName (readNamed r)) (read-long l k)
 
 pub carried-tells : Enough printedLine longestCarried
 carried-tells = record { some = lit< tt; same = λ l m a b agree fed. long-printed l a ∙ sym (long-printed m b) }

@@ -1,7 +1,7 @@
 -- The temperature register, scratchpad bytes 0 and 1: a 16-bit two's complement number, low byte first.
 --     unitOf r, countOf r        a reading by its values: the unit that it is counted in, and how many of them
 --     readingWith unit z         the reading with these values
---     bytesOf z                  the sixteen bits of a number as two bytes
+--     countBytes z                  the sixteen bits of a number as two bytes
 --     registerOf r               the two bytes of a reading
 --     rawReading unit low high   the reading that all sixteen bits of two bytes make, in the unit of the family
 --     clearedOf r configuration  a reading without the bits that its configuration leaves undefined: sixteenths are rounded down to the step, half degrees stay
@@ -30,11 +30,11 @@ abbrev pub readingWith : Unit → ℤ → Reading
 readingWith inSixteenths z = InSixteenths (record { 0 = z })
 readingWith inHalfDegrees z = InHalves (record { 0 = z })
 
-abbrev pub bytesOf : ℤ → Register
-bytesOf z = record { low = bits16 z % 256; high = bits16 z / 256 }
+abbrev pub countBytes : ℤ → Register
+countBytes z = record { low = bits16 z % 256; high = bits16 z / 256 }
 
 abbrev pub registerOf : Reading → Register
-registerOf r = bytesOf (countOf r)
+registerOf r = countBytes (countOf r)
 
 abbrev pub rawReading : Unit → ℕ → ℕ → Reading
 rawReading unit low high = readingWith unit (signed16 (low + 256 * high))

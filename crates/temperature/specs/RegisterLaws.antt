@@ -10,7 +10,7 @@ use Rattle.signed.specs.Complement.{Fits16, signed16, bits16}
 use Rattle.signed.specs.ComplementLaws.{signed-bits, bits-signed}
 use Rattle.temperature.specs.declared.Reading.{Reading}
 use Rattle.temperature.specs.declared.Reading.the-variants.{InSixteenths, InHalves}
-use Rattle.temperature.specs.Register.{unitOf, countOf, readingWith, bytesOf, registerOf, rawReading}
+use Rattle.temperature.specs.Register.{unitOf, countOf, readingWith, countBytes, registerOf, rawReading}
 
 -- ## A reading and its values
 
@@ -29,7 +29,7 @@ count-with inHalfDegrees z = refl
 -- ## There and back
 
 -- the sixteen bits from the two bytes
-bits-joined : (z : ℤ) → bytesOf z .low + 256 * bytesOf z .high ≡ bits16 z
+bits-joined : (z : ℤ) → countBytes z .low + 256 * countBytes z .high ≡ bits16 z
 bits-joined z = let n = bits16 z in omega arith
 
 pub reading-register : (r : Reading) → Fits16 (countOf r) → rawReading (unitOf r) (registerOf r .low) (registerOf r .high) ≡ r

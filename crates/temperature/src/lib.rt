@@ -6,7 +6,7 @@ ghost use Rattle.temperature.specs.Alarm.{alarmsAt, limitOf, limitByteOf
 ghost use Rattle.temperature.specs.Degrees.{degreesOf, IsSixteenths};
 ghost use Rattle.temperature.specs.Measured.{measuredOf, roundedOf};
 ghost use Rattle.temperature.specs.Range.{between, inRange, wholeInRange, isLimit};
-ghost use Rattle.temperature.specs.Register.{countOf, bytesOf, readingOf, registerOf};
+ghost use Rattle.temperature.specs.Register.{countOf, countBytes, readingOf, registerOf};
 ghost use Rattle.temperature.specs.Units.{converted, notConverted, toHalfDegrees, toSixteenths, wholeToSixteenths, wholeOf};
 ghost use Rattle.signed.specs.Complement.{signed16, bits16};
 use family::Unit;
@@ -250,7 +250,7 @@ fn signed_of(bits: u16) -> i16
 
 // A number as two bytes, low byte first.
 fn bytes_of(z: i16) -> Register
-    ensures answer { λ r. ⌜ r ≡ bytesOf z ⌝ }
+    ensures answer { λ r. ⌜ r ≡ countBytes z ⌝ }
 {
     let bits = bits_of(z);
     Register {

@@ -5,6 +5,7 @@
 --     lineBytes l            a line as it stands in the text, with its feed if it has one
 --     linesBytes ls          lines put back one after the other
 --     width l                how many bytes a line takes
+--     space                  the character between two words
 --     feedAt s               how many bytes stand before the first feed; all where there is none
 --     firstLine s            the first line of some bytes
 --     notFeed c              whether a character is no line feed
@@ -20,6 +21,10 @@ use Rattle.lists.specs.First.{firstAt}
 -- the character that ends a line
 abbrev pub lineFeed : ℕ
 lineFeed = 0x0A
+
+-- the character between two words
+abbrev pub space : ℕ
+space = 0x20
 
 -- the characters before the feed or the end, and whether there was a feed
 pub record Line : Type 0 where

@@ -11,8 +11,12 @@ pub use numbers::read_fixed;
 pub use numbers::read_number;
 pub use numbers::value;
 
-// The character that ends a line.
+// The character that ends a line, that between two words, and that in front of a negative number.
 pub const LINE_FEED: u8 = 0x0A;
+
+pub const SPACE: u8 = 0x20;
+
+pub const MINUS: u8 = 0x2D;
 
 // A number that was read, or that there is none.
 pub struct NumberRead {

@@ -6,8 +6,8 @@ ghost use Rattle.putting.specs.Putting.{Puts, lineRoom, lineAnswer, lineLeaves}
 ghost use Rattle.why_answers.specs.WhyLine.{fieldsLine, whyLine};
 use laying::Written;
 use putting::LINE_ROOM;
-use putting::SPACE;
 use text::LINE_FEED;
+use text::SPACE;
 use why_rules::Why;
 
 // The fields of the line, each with the character behind it.

@@ -13,10 +13,7 @@ use lib.Dec.{eqb}
 use lib.ListN.{getD}
 use Rattle.lists.specs.Choice.{if_then_else_}
 use Rattle.lists.specs.First.{firstAt}
-
--- the character between two words
-abbrev pub space : ℕ
-space = 0x20
+use Rattle.text.specs.Lines.{space}
 
 -- one character more in front of the first word
 abbrev pub lengthened : ℕ → List (List ℕ) → List (List ℕ)

@@ -14,7 +14,8 @@ use Rattle.lists.specs.Choice.{if_then_else_}
 use Rattle.lists.specs.First.{firstAt}
 use Rattle.lists.specs.FirstLaws.{at-within}
 use Rattle.lists.specs.ChoiceLaws.{and-left, and-right}
-use Rattle.words.specs.Words.{space, lengthened, wordsOf, wordOf, same, spaceAt, wordsEnded}
+use Rattle.text.specs.Lines.{space}
+use Rattle.words.specs.Words.{lengthened, wordsOf, wordOf, same, spaceAt, wordsEnded}
 
 -- ## How many words there are, as a loop counts them
 

@@ -4,8 +4,7 @@ ghost use Prim.Native.Nat.{_+_, _<_, _≤_};
 ghost use lib.ListN.{length, drop};
 ghost use Rattle.words.specs.Words.{spaceAt, wordsEnded, wordsOf, wordOf, same};
 
-// The character between two words.
-const SPACE: u8 = 0x20;
+use text::SPACE;
 
 // Where the word that starts at a place ends: at the next space, or at the end of the line.
 fn word_end(line: &[u8], at: usize) -> usize

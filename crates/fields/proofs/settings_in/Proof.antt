@@ -1,6 +1,6 @@
 -- Two digits are a byte. Assumes nothing.
 use denote.Ref.{now}
-use Rattle.fields.specs.Fields.{settingsIn}
+use Rattle.fields.specs.Fields.{threeBytesIn}
 use Rattle.fields.specs.FieldsLaws.{byte-below}
 use borrow.Author.Needs.{needs}
 use Rattle.fields.proofs.settings_in.Statement.{statement}
@@ -42,7 +42,7 @@ cast-t11 c =
     record { fits = rw read (byte-below (now (last .before .before .before .before .before .before .args .configuration))) }
 
 returns : tie.Need-returns
-unfolding settingsIn
+unfolding threeBytesIn
 returns c =
     let tests = c .before .before .before in
     let last = tests .before .before in

@@ -7,7 +7,7 @@ use denote.Ref.{now}
 use lib.ListN.{length}
 use Rattle.lists.specs.LaidLaws.{laid-none, laid-then}
 use Rattle.text.specs.Digits.{hexDigits}
-use Rattle.printing.specs.Printing.{space}
+use Rattle.text.specs.Lines.{space}
 use Rattle.printing.specs.Laws.{spaced-length, pad-length, place-none}
 use borrow.Author.Needs.{needs}
 use Rattle.printing.proofs.put_detail.Statement.{statement}

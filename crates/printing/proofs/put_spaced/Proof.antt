@@ -9,7 +9,7 @@ use Rattle.lists.specs.LaidLaws.{laid-sets}
 use Rattle.laying.specs.LayingLaws.{lay-behind}
 use Rattle.text.specs.Digits.{hexDigits}
 use Rattle.text.specs.DigitsLaws.{digits-length}
-use Rattle.printing.specs.Printing.{space}
+use Rattle.text.specs.Lines.{space}
 use borrow.Author.Needs.{needs}
 use Rattle.printing.proofs.put_spaced.Statement.{statement}
 use Rattle.printing.proofs.put_spaced.Tie as tie

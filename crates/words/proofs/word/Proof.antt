@@ -3,7 +3,8 @@ use denote.Ref.{now}
 use native.Mathlib.Omega.{arith}
 use lib.ListN.{drop, length-drop}
 use mathlib.Core.Path.{refl}
-use Rattle.words.specs.Words.{space, wordsOf}
+use Rattle.text.specs.Lines.{space}
+use Rattle.words.specs.Words.{wordsOf}
 use Rattle.words.specs.WordsLaws.{word-here, word-past}
 use Rattle.lists.specs.FirstLaws.{at-within}
 use borrow.Author.Needs.{needs}

@@ -4,7 +4,8 @@ use Prim.Native.Nat.{_+_, _≤_, _-_}
 use mathlib.Core.Path.{_≡_, refl, sym, _∙_}
 use native.Mathlib.Omega.{arith}
 use lib.ListN.{length, drop}
-use Rattle.words.specs.Words.{space, spaceAt}
+use Rattle.text.specs.Lines.{space}
+use Rattle.words.specs.Words.{spaceAt}
 use Rattle.lists.specs.FirstLaws.{at-here, at-on, at-end}
 use borrow.Author.Needs.{needs}
 use Rattle.words.proofs.word_end.Statement.{statement}

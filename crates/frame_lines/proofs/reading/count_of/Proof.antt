@@ -11,7 +11,7 @@ use Rattle.text.specs.declared.NumberRead.{NumberRead}
 use Rattle.text.specs.Digits.{isDigit, spells, numberIn}
 use Rattle.text.specs.DigitsLaws.{number-below}
 use Rattle.text.specs.NumbersLaws.{fixed-hex}
-use Rattle.frame_lines.specs.ReadLine.{countIn}
+use Rattle.frame_lines.specs.ReadLine.{slotCountIn}
 use borrow.Author.Needs.{needs}
 use Rattle.frame_lines.proofs.reading.count_of.Statement.{statement}
 use Rattle.frame_lines.proofs.reading.count_of.Tie as tie
@@ -23,7 +23,7 @@ four c = let cs = now (c .args .line) in let l = length-drop 2 cs in let m = c .
 spelt : (c : tie.Start) → spells 16 (take 4 (drop 2 (now (c .args .line)))) ≡ true
 spelt c = let cs = now (c .args .line) in all-take (isDigit 16) 4 (drop 2 cs) (all-drop (isDigit 16) 2 cs (c .pre .1))
 
-read : (c : tie.After-read-fixed) → c .read-fixed .result .number ≡ countIn (now (c .before .before .before .args .line))
+read : (c : tie.After-read-fixed) → c .read-fixed .result .number ≡ slotCountIn (now (c .before .before .before .args .line))
 read c =
     let a = c .before .before .before in
     ap (λ (r : NumberRead). r .number) (c .read-fixed .ensures ∙ fixed-hex 4 (take 4 (drop 2 (now (a .args .line)))) (four a) (omega arith) (spelt a))
@@ -43,7 +43,7 @@ read-fixed-requires c κs = search needs
 cast-result : tie.Need-cast-result
 cast-result c =
     let a = c .before .before .before .before in
-    let below : countIn (now (a .args .line)) < 16 ^ 4 = rw (four a) at (number-below 16 (take 4 (drop 2 (now (a .args .line)))) (spelt a)) in
+    let below : slotCountIn (now (a .args .line)) < 16 ^ 4 = rw (four a) at (number-below 16 (take 4 (drop 2 (now (a .args .line)))) (spelt a)) in
     let is = read (c .before) in
     record { fits = omega arith }
 

@@ -11,7 +11,7 @@ use Rattle.text.specs.Digits.{bytesOf}
 use Rattle.laying.specs.LayingLaws.{lay-fits}
 use Rattle.frame.specs.Frames.{noBits, bytesFor, clearFrom}
 use Rattle.frame.specs.FramesLaws.{pad-length}
-use Rattle.frame_lines.specs.ReadLine.{LineContent, found, answerOf}
+use Rattle.frame_lines.specs.ReadLine.{LineContent, found, lineAnswerOf}
 use Rattle.frame_lines.specs.ReadLineLaws.{body-length, slots-clear, slots-spare}
 use borrow.Author.Needs.{needs}
 use Rattle.frame_lines.proofs.reading.read_slots.Statement.{statement}
@@ -83,7 +83,7 @@ returns c =
     let test = c .before .before in
     let a = test .before .before .before .before .before .before .before .before .args in
     let spare = slots-spare (a .presence) (a .count) (now (a .body)) (sym (seen test) ∙ not-true (test .clear-from .result) (c .before .if1 .taken)) in
-    c .refuse .ensures ∙ ap (λ (r : LineContent). answerOf (found r (a .next))) (sym spare)
+    c .refuse .ensures ∙ ap (λ (r : LineContent). lineAnswerOf (found r (a .next))) (sym spare)
 
 returns-2 : tie.Need-returns-2
 returns-2 c =
