@@ -3,7 +3,7 @@
 -- Assumes nothing.
 use Prim.Native.Nat.{ℕ}
 use mathlib.Core.Bool.{Bool, true, false, not, _&&_, and-true}
-use mathlib.Core.List.{List, [], _∷_, _++_, map, append-assoc, append-nil}
+use mathlib.Core.List.{List, [], _∷_, _++_, map}
 use mathlib.Core.Path.{_≡_, refl, sym, ap, _∙_}
 use native.Mathlib.Omega.{arith}
 use borrow.Author.Tests.{eqb-false}
@@ -15,7 +15,7 @@ use Rattle.lists.specs.Fold.{fold, all}
 use Rattle.bits.specs.Bits.{bitsOf}
 use Rattle.refusals.specs.Refusals.{accepted, wireBusy, mismatch}
 use Rattle.search_law.specs.Issued.{slots-append}
-use Rattle.search_law.specs.Wire.{Bus, run, slots}
+use Rattle.search_law.specs.Wire.{slots}
 use Rattle.device.specs.Hear.{hearOf}
 use Rattle.device.specs.Offer.{offerOf}
 use Rattle.device.specs.Power.{resetOf}
@@ -36,10 +36,10 @@ use Rattle.scratchpad.specs.Judgement.{judged}
 use Rattle.device.specs.declared.Settings.{Settings}
 use Rattle.master_rules.specs.declared.Access.{Access as Answer}
 use Rattle.master_rules.specs.Wire.{sent}
-use Rattle.master_rules.specs.Access.{refusedAt, addressed, afterSlots, bytesShown, readSlots, fetched, onPresence, readBack, admission, readAt, settingsSent, asAsked, compared, writtenAndRead, writeAt}
+use Rattle.master_rules.specs.Access.{refusedAt, addressed, afterSlots, bytesShown, readSlots, fetched, onPresence, readBack, admission, readAt, settingsSent, asAsked, writtenAndRead, writeAt}
 use Rattle.master_rules.specs.Issued.{issued, Granted}
 use Rattle.master_rules.specs.IssuedLaws.{slots-presence, granted-run}
-use Rattle.addressing.specs.Unrefused.{addressBits, readBits, settingsBits, writeBits, readPasses, writePasses, Unrefused, ReadClaim, WriteClaim}
+use Rattle.addressing.specs.Unrefused.{addressBits, readBits, settingsBits, writeBits, Unrefused, ReadClaim, WriteClaim}
 use Rattle.addressing.specs.Course.{Calm, Hears, Settled, settled-calm, settled-hears, Access, reading, writing, addressed as address-heard}
 
 -- ## One slot

@@ -4,7 +4,7 @@
 --     readPasses, writePasses    each reset with the bits after it; with nobody on the wire the reset alone
 --     Unrefused passes b a       the answer's bench is where these resets and slots leave it, by the slot rule, and none of them is refused
 use Prim.Native.Nat.{ℕ}
-use mathlib.Core.Bool.{Bool, true}
+use mathlib.Core.Bool.{Bool}
 use mathlib.Core.List.{List, [], _∷_, _++_}
 use mathlib.Core.Path.{_≡_}
 use Rattle.lists.specs.Choice.{if_then_else_}

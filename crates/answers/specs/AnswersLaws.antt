@@ -12,7 +12,6 @@ use Rattle.lists.specs.Choice.{if_then_else_}
 use Rattle.refusals.specs.Refusals.{accepted}
 use Rattle.bench.specs.declared.Looked.{Looked}
 use lib.Seq.{take-suc}
-use Rattle.text.specs.Decimal.{decimal}
 use Rattle.text.specs.DigitsLaws.{digits-length, hex-length}
 use Rattle.temperature.specs.declared.Reading.{Reading}
 use Rattle.device.specs.declared.Activity.{Activity}

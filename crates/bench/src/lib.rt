@@ -1,6 +1,6 @@
 // A bench of up to 32 thermometers on one wire. The bench goes in by value and comes back in the
 // answer; its fields are private, so that only these calls make or change one.
-ghost use Prim.Native.Nat.{ℕ, _<_};
+ghost use Prim.Native.Nat.{_<_};
 ghost use mathlib.Core.Path.{_≡_};
 ghost use Rattle.bench.specs.Bench.{vacant, emptyBench, placeOf, free};
 ghost use Rattle.bench.specs.Slot.{slotted, resetDone};

@@ -4,7 +4,7 @@
 --     crc-bit-lt, crc-lt, crc-bytes-lt    the register stays a byte
 --     crc-turn, crc-done, crc-byte-turn   the bits of a number, as a loop takes them one by one or by whole bytes
 -- Assumes nothing.
-use Prim.Native.Nat.{ℕ, zero, suc, _+_, _*_, _-_, _/_, _%_, _<_, _≤_}
+use Prim.Native.Nat.{ℕ, suc, _+_, _*_, _-_, _/_, _%_, _<_, _≤_}
 use mathlib.Core.Path.{_≡_, refl, sym, ap, _∙_}
 use mathlib.Core.Bool.{Bool, true, false, Bool·beq}
 use mathlib.Core.List.{List, [], _∷_, _++_, append-nil}

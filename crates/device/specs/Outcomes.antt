@@ -14,12 +14,12 @@ use Rattle.commands.specs.Bytes.{shiftIn}
 use Rattle.commands.specs.BytesLaws.{shifted-cases}
 use Rattle.commands.specs.Commands.{convert, writeScratchpad, readScratchpad, copyScratchpad, recallEeprom, readPower}
 use Rattle.family.specs.Layout.{highLimitPlace}
-use Rattle.device.specs.declared.Activity.the-variants.{Converting, Copying}
+use Rattle.device.specs.declared.Activity.the-variants.{Converting}
 use Rattle.device.specs.declared.Device.{Device}
 use Rattle.device.specs.declared.Stage.{Stage}
 use Rattle.device.specs.declared.Stage.the-variants.{AwaitRom, SendRom, Match, Search, AwaitFunction, TakeSettings, SendScratchpad, SendStatus, SendPower, Quiet}
 use Rattle.device.specs.Record.{withStage, withActivity, withScratchpad, rowOf, busy}
-use Rattle.device.specs.Settings.{settingsIn, withSettings, settingsCount, settingByte}
+use Rattle.device.specs.Settings.{settingsCount, settingByte}
 use Rattle.device.specs.Hear.{copying, recalled, hearRom, idleCommand, functionCommand, hearFunction, storeSetting, hearSettings, hearAt, hearOf}
 
 pub record Outcomes (d : Device) (l : Bool) (P : Device → Type 0) : Type 0 where

@@ -4,15 +4,15 @@
 --     flags-are          a device's flag is set exactly where its page in the book has the verdict
 --     search-again       a search right after a search lists the same codes, and an alarm search right after an alarm search
 -- Assumes nothing.
-use Prim.Native.Nat.{ℕ, suc, _<_, _≤_}
-use mathlib.Core.Bool.{Bool, true}
+use Prim.Native.Nat.{ℕ, _<_, _≤_}
+use mathlib.Core.Bool.{true}
 use mathlib.Core.List.{List, [], _∷_, map}
 use mathlib.Core.Path.{_≡_, refl, sym, ap, _∙_}
 use native.Mathlib.Omega.{arith}
 use lib.ListN.{length}
 use Rattle.bits.specs.Bits.{bitsOf}
 use Rattle.commands.specs.Commands.{searchRom, alarmSearch}
-use Rattle.lists.specs.Each.{Each, Distinct}
+use Rattle.lists.specs.Each.{Each}
 use Rattle.search_law.specs.Listing.{inOrder}
 use Rattle.search_law.specs.Numbers.{Below}
 use Rattle.device.specs.Sound.{Sound}
@@ -26,7 +26,7 @@ use Rattle.searching.specs.OnTheBench as bench
 use Rattle.searching.specs.OnTheBench.{flaggedCodes}
 use Rattle.master_rules.specs.Search.{mostPasses, searchRun}
 use Rattle.history.specs.History.{Call, Typed, ledger, after, added, page, alarmed}
-use Rattle.history.specs.Reached.{PagesAre, Marked, Reached, reached-after}
+use Rattle.history.specs.Reached.{PagesAre, reached-after}
 
 module _ (h : List Call) (t : Each Typed h) where
   pub bench-is-sound : BenchSound (after h)

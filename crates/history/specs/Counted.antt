@@ -1,17 +1,15 @@
 -- The numbers of a search by its frames: each pass is one frame with presence, with as many slots as the line showed bits, and a line of known length.
 --     frames-counted      passes, slots and bytes of frames that all have n slots
 -- Assumes nothing.
-use Prim.Native.Nat.{ℕ, zero, suc, _+_, _*_, _/_, _≤_}
-use mathlib.Core.Bool.{Bool, true, false}
-use mathlib.Core.List.{List, [], _∷_, _++_, map}
-use mathlib.Core.Path.{_≡_, refl, sym, ap, _∙_}
+use Prim.Native.Nat.{ℕ, _+_, _*_, _≤_}
+use mathlib.Core.Bool.{Bool, true}
+use mathlib.Core.List.{List, [], _∷_, map}
+use mathlib.Core.Path.{_≡_, ap, _∙_}
 use native.Mathlib.Nat.{mul-zero, mul-suc, zero-add}
 use native.Mathlib.Omega.{arith}
-use lib.Dec.{lit≤}
 use lib.ListN.{length, length-append, length-map}
-use Rattle.lists.specs.Choice.{if_then_else_}
 use Rattle.lists.specs.Fold.{fold}
-use Rattle.frame.specs.Frames.{blankFrame, bytesFor, mostSlots, pushedAll, Recorded}
+use Rattle.frame.specs.Frames.{bytesFor, mostSlots}
 use Rattle.frame.specs.FramesLaws.{recorded-all}
 use Rattle.frame_lines.specs.Recording.{writeAll}
 use Rattle.frame_lines.specs.Writing.{fedLine}

@@ -9,7 +9,7 @@
 --                       power cycle empties it, an accepted finish of a conversion writes it, and nothing else changes it. It never looks at a flag
 --     alarmed p         whether a page has the verdict: not empty, and its reading at or past one of its limits
 use Prim.Native.Nat.{ℕ, _^_, _<_}
-use mathlib.Core.Bool.{Bool, true, false, _&&_}
+use mathlib.Core.Bool.{Bool, true, _&&_}
 use mathlib.Core.List.{List, [], _∷_, _++_}
 use lib.Dec.{eqb}
 use lib.ListN.{getD}

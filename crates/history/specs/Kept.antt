@@ -3,20 +3,16 @@
 -- Assumes nothing.
 use Prim.Native.Nat.{ℕ}
 use mathlib.Core.Bool.{Bool, true, false, not, _&&_, _||_}
-use mathlib.Core.List.{List, []}
-use mathlib.Core.Path.{_≡_}
 use lib.Dec.{eqb, ltb}
 use Rattle.lists.specs.Choice.{if_then_else_}
 use Rattle.bits.specs.Bits.{bitsOf}
 use Rattle.commands.specs.Commands.{readScratchpad, writeScratchpad}
-use Rattle.refusals.specs.Refusals.{accepted, noRoom, noPresence, wireBusy, mismatch}
+use Rattle.refusals.specs.Refusals.{accepted, noRoom, wireBusy}
 use Rattle.family.specs.Families.{propertiesOf}
 use Rattle.family.specs.declared.Properties.{Properties}
 use Rattle.rom.specs.Code.{familyOf}
 use Rattle.scratchpad.specs.Judgement.{judged}
-use Rattle.scratchpad.specs.declared.Judged.{Judged}
 use Rattle.search_law.specs.Holds.{slots-hold, search-holds}
-use Rattle.search_law.specs.Wire.{slots, wireSearch}
 use Rattle.device.specs.declared.Settings.{Settings}
 use Rattle.bench.specs.Bench.{free}
 use Rattle.bench.specs.Slot.{slotted, resetDone}
@@ -24,8 +20,8 @@ use Rattle.bench.specs.declared.Bench.{Bench}
 use Rattle.master_rules.specs.declared.Access.{Access}
 use Rattle.searching.specs.Buses.{calls}
 use Rattle.master_rules.specs.Wire.{sent}
-use Rattle.master_rules.specs.Access.{refusedAt, addressed, readSlots, bytesShown, afterSlots, judgedReply, fetched, onPresence, readBack, admission, readAt, settingsSent, asAsked, compared, writtenAndRead, writeAt}
-use Rattle.master_rules.specs.Search.{fewestPlaces, fewestBytes, codeLength, mostPasses, Outcome, refusedOutcome, lonelyOutcome, foundOutcome, searchRun, searchOutcome}
+use Rattle.master_rules.specs.Access.{addressed, readSlots, bytesShown, afterSlots, fetched, onPresence, readBack, admission, readAt, settingsSent, asAsked, writtenAndRead, writeAt}
+use Rattle.master_rules.specs.Search.{fewestPlaces, fewestBytes, codeLength, mostPasses, refusedOutcome, lonelyOutcome, foundOutcome, searchRun, searchOutcome}
 
 module _ (Q : Bench → Type 0) (by-slot : (m : Bool) (b : Bench) → Q b → Q (slotted b m .bench)) (by-reset : (b : Bench) → Q b → Q (resetDone b .bench)) where
   sent-keeps : (n x : ℕ) (b : Bench) → Q b → Q (sent n x b)

@@ -4,15 +4,13 @@
 --     reached-after     it holds after every history
 -- Assumes nothing.
 use Prim.Native.Nat.{ℕ, zero, suc, _^_, _<_}
-use mathlib.Core.Bool.{Bool, true, false, not, _&&_}
+use mathlib.Core.Bool.{Bool}
 use mathlib.Core.List.{List, [], _∷_, _++_, map}
 use mathlib.Core.Logic.{_≢_}
 use mathlib.Core.Path.{_≡_, refl, sym, ap, _∙_}
 use native.Mathlib.Omega.{arith}
 use borrow.Author.Tests.{eq-eqb, ne-eqb}
-use lib.Dec.{eqb}
 use lib.ListN.{length, getD, set}
-use Rattle.lists.specs.Choice.{if_then_else_}
 use Rattle.lists.specs.Fold.{fold}
 use Rattle.commands.specs.Commands.{searchRom, alarmSearch}
 use Rattle.refusals.specs.Refusals.{accepted}
@@ -26,17 +24,16 @@ use Rattle.device.specs.Power.{emptyPage, powerUp, resetOf, joined}
 use Rattle.device.specs.declared.Device.{Device}
 use Rattle.device.specs.declared.Joining.{Joining}
 use Rattle.device.specs.declared.Page.{Page}
-use Rattle.bench.specs.Bench.{live, vacant, free, placeOf}
-use Rattle.bench.specs.Calls.{refused, changed, addedTo, conversionFinished, copyFinished, powerCycled, deviceAt}
-use Rattle.bench_laws.specs.Laws.{heard-live, restarted-live, slot-cases, reset-cases, Added, added-cases, OneChanged, conversion-cases, copy-cases, cycle-cases}
-use Rattle.bench.specs.Slot.{lineBit, heard, restarted, slotted, resetDone}
+use Rattle.bench.specs.Bench.{live, vacant, placeOf}
+use Rattle.bench.specs.Calls.{refused}
+use Rattle.bench_laws.specs.Laws.{heard-live, restarted-live, slot-cases, reset-cases, added-cases, OneChanged, conversion-cases, copy-cases, cycle-cases}
+use Rattle.bench.specs.Slot.{lineBit, slotted, resetDone}
 use Rattle.bench_laws.specs.Sound.{codesOf, BenchSound}
 use Rattle.bench_laws.specs.SoundLaws.{heard-codes, restarted-codes, added-codes, one-changed-codes, empty-sound, slotted-sound, reset-done-sound, added-sound, conversion-finished-sound, copy-finished-sound, power-cycled-sound}
 use Rattle.bench.specs.declared.Bench.{Bench}
 use Rattle.bench.specs.declared.Changed.{Changed}
-use Rattle.bench.specs.declared.Place.the-variants.{At, Nowhere}
 use Rattle.history.specs.Kept.{read-keeps, write-keeps, outcome-keeps}
-use Rattle.history.specs.History.{Call, add, reset, slot, finishConversion, finishCopy, powerCycle, search, searchAlarms, read, write, Typed, Code64, apply, pageOf, pageAt, Entry, joins, empties, writes, nothing, entry, ifAccepted, Ledger, bookWith, codesAfter, bookAfter, step, start, ledger}
+use Rattle.history.specs.History.{Call, add, reset, slot, finishConversion, finishCopy, powerCycle, search, searchAlarms, read, write, Typed, pageOf, pageAt, Entry, joins, empties, writes, ifAccepted, Ledger, bookWith, codesAfter, bookAfter, step, start, ledger}
 
 -- each device's page is the book's
 abbrev pub PagesAre : (ℕ → Page) → List Device → Type 0

@@ -3,17 +3,17 @@
 --     search-issued      as many codes as passes
 --     search-unheard     no code, and one pass of the command and two slots
 -- Assumes nothing.
-use mathlib.Core.Path.{_≡_, refl, sym, ap, _∙_}
+use mathlib.Core.Path.{_≡_, refl, sym, ap}
 use mathlib.Core.Bool.{Bool, true}
-use mathlib.Core.Option.{Option, none, some, Option·map}
+use mathlib.Core.Option.{Option, none, some}
 use mathlib.Core.List.{List, [], _∷_, _++_}
 use Prim.Native.Nat.{ℕ, zero, suc, _+_}
 use native.Mathlib.Omega.{arith}
 use lib.ListN.{length, length-append}
-use Rattle.search_law.specs.Codes.{Code, first, rest}
+use Rattle.search_law.specs.Codes.{first, rest}
 use Rattle.search_law.specs.Pass.{Triple, triple, Plan, choice, onSome, found, next}
 use Rattle.search_law.specs.PassLaws.{never}
-use Rattle.search_law.specs.Wire.{Bus, Run, run, Passes, ran, Pass, passed, withTriple, Search, searched, unanswered, withCode, passOffers, slots, passes, triplets, wirePass, searchFrom}
+use Rattle.search_law.specs.Wire.{Bus, run, ran, passed, withTriple, Search, searched, unanswered, withCode, slots, passes, triplets, wirePass, searchFrom}
 use Rattle.search_law.specs.Issued.{slots-append, slots-length, pass-issued, runOf}
 
 module _ (B : Bus) (command : List Bool) where

@@ -147,10 +147,6 @@ module _ {B : Bus} {M : Model} (C : Carries B M) {command : List Bool} {n : ℕ}
     pub search-same : (fuel : ℕ) (ds : B .Devices) → Q ds → wireSearch other command fuel n ds ≡ wireSearch B command fuel n ds
     search-same fuel ds q = search-from-same fuel (some []) ds q .0
 
-    -- what every slot of a search keeps, the search keeps
-    pub course-holds : (fuel : ℕ) (ds : B .Devices) → Q ds → Q (wireSearch B command fuel n ds .devices)
-    course-holds fuel ds q = search-from-same fuel (some []) ds q .1
-
 -- ## What holds at every slot of a run
 
 -- Q holds of the devices at each slot in which the master offers these

@@ -7,13 +7,12 @@
 --     flaggedCodes b     the codes of the devices whose flag is set, in the order of the devices
 -- Laws `search-..` are of F0h, laws `alarm-..` of ECh:
 --     ..-calls       on a bench that is free the calls make the search of the wire
---     ..-loop        and so does a loop over the passes
 --     ..-listed      each code is listed once, in order
 --     ..-complete    as many passes as codes, each of 200 slots, and what each shows
 --     ..-passes      the search is the passes of these codes, slot by slot
---     ..-none        where nobody takes part: one pass, of the command and two reads
+--     alarm-none     where no flag is set: one pass, of the command and two reads
 --     ..-keeps       no device changes but for its stage
---     ..-count, ..-free, ..-codes, ..-sound     how many there are, whether the wire is free, who takes part and what holds of every bench: as before
+--     ..-free, ..-codes, ..-sound     whether the wire is free, who takes part and what holds of every bench: as before
 -- Assumes nothing.
 use Prim.Native.Nat.{ℕ, suc, _^_, _<_, _≤_}
 use mathlib.Core.Path.{_≡_, refl, sym, ap, _∙_}
@@ -37,14 +36,13 @@ use Rattle.search_law.specs.Numbers.{Below, Numbered}
 use Rattle.search_law.specs.NumbersLaws.{numbers-complete, numbers-listed, bits-sized, bits-distinct}
 use Rattle.search_law.specs.Keeps.{Keeps, search-keeps as keeps-search}
 use Rattle.search_law.specs.Holds.{search-holds}
-use Rattle.search_law.specs.SearchLoop.{SameSearch, loopSearch, loop-search}
 use Rattle.device.specs.Hear.{hearOf}
 use Rattle.device.specs.Laws.{hear-only-stage}
 use Rattle.device.specs.Power.{resetOf}
 use Rattle.device.specs.declared.Device.{Device}
 use Rattle.device.specs.Record.{holdsWire}
 use Rattle.bench.specs.Bench.{live, free}
-use Rattle.bench_laws.specs.Laws.{line-live, heard-live, heard-count, restarted-live, restarted-count, free-live, slot-accepted, reset-accepted}
+use Rattle.bench_laws.specs.Laws.{line-live, heard-live, restarted-live, free-live, slot-accepted, reset-accepted}
 use Rattle.bench.specs.Slot.{lineBit, heard, slotted, restarted, resetDone}
 use Rattle.bench_laws.specs.Sound.{codesOf, BenchSound}
 use Rattle.bench_laws.specs.SoundLaws.{heard-sound, restarted-sound}
@@ -113,10 +111,6 @@ module _ {command : List Bool} (Z : Searchers thermometers command 64) (K : Keep
 
   kept : map unstaged (live (wireSearch slotRule command fuel 64 b .devices)) ≡ map unstaged (live b)
   kept = keeps-search onBench Z unstaged K fuel b
-
-  counted : wireSearch slotRule command fuel 64 b .devices .count ≡ b .count
-  counted =
-      search-holds slotRule (λ c. c .count ≡ b .count) (λ m c e. heard-count c (lineBit c m) ∙ e) (λ c e. restarted-count c ∙ e) command 64 fuel b refl
 
   module _ (ns : List ℕ) (e : participants Z (live b) ≡ map (bitsOf 64) ns) (l : Below 64 ns) (d : Distinct ns) (h : 0 < length ns) (f : length ns ≤ fuel) where
     listed : Numbered 64 ns (wireSearch slotRule command fuel 64 b .codes)
@@ -211,15 +205,8 @@ module _ (fuel : ℕ) (b : Bench) where
   pub search-calls : free b ≡ true → wireSearch calls searchBits fuel 64 b ≡ searchOn fuel b
   search-calls = calls-search everybody everybody-keeps everybody-course fuel b
 
-  -- as a loop over the passes makes it
-  pub search-loop : free b ≡ true → SameSearch (searchOn fuel b) (loopSearch calls searchBits fuel 64 b)
-  search-loop h = rw (search-calls h) at (loop-search calls searchBits 64 fuel b)
-
   pub search-keeps : map unstaged (live (searchOn fuel b .devices)) ≡ map unstaged (live b)
   search-keeps = kept everybody everybody-keeps everybody-course fuel b
-
-  pub search-count : searchOn fuel b .devices .count ≡ b .count
-  search-count = counted everybody everybody-keeps everybody-course fuel b
 
   pub search-free : free (searchOn fuel b .devices) ≡ free b
   search-free = same-free (searchOn fuel b .devices) b search-keeps
@@ -240,25 +227,14 @@ module _ (fuel : ℕ) (b : Bench) where
     pub search-passes : searchOn fuel b ≡ swept slotRule searchBits (inOrder 64 (map (bitsOf 64) (codesOf b))) b
     search-passes = in-passes everybody everybody-keeps everybody-course fuel b (codesOf b) (everybody-codes (live b)) l d h f
 
-  pub search-none : codesOf b ≡ []
-      → searchOn (suc fuel) b
-      ≡ searched [] ((searchBits ++ true ∷ true ∷ []) ∷ []) (slots slotRule (searchBits ++ true ∷ true ∷ []) (restarted b) .devices)
-  search-none e = search-nobody onBench everybody fuel b (lit< tt) (everybody-codes (live b) ∙ rw e)
-
 -- ## ECh
 
 module _ (fuel : ℕ) (b : Bench) where
   pub alarm-calls : free b ≡ true → wireSearch calls alarmBits fuel 64 b ≡ alarmSearchOn fuel b
   alarm-calls = calls-search flagged flagged-keeps flagged-course fuel b
 
-  pub alarm-loop : free b ≡ true → SameSearch (alarmSearchOn fuel b) (loopSearch calls alarmBits fuel 64 b)
-  alarm-loop h = rw (alarm-calls h) at (loop-search calls alarmBits 64 fuel b)
-
   pub alarm-keeps : map unstaged (live (alarmSearchOn fuel b .devices)) ≡ map unstaged (live b)
   alarm-keeps = kept flagged flagged-keeps flagged-course fuel b
-
-  pub alarm-count : alarmSearchOn fuel b .devices .count ≡ b .count
-  alarm-count = counted flagged flagged-keeps flagged-course fuel b
 
   pub alarm-free : free (alarmSearchOn fuel b .devices) ≡ free b
   alarm-free = same-free (alarmSearchOn fuel b .devices) b alarm-keeps

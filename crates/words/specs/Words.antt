@@ -6,7 +6,7 @@
 --     spaceAt s              how many characters stand before the first space; all where there is none
 --     wordsEnded c           how many words a character ends: a space ends one
 -- Assumes nothing.
-use Prim.Native.Nat.{ℕ, suc}
+use Prim.Native.Nat.{ℕ}
 use mathlib.Core.Bool.{Bool, true, false, _&&_}
 use mathlib.Core.List.{List, [], _∷_}
 use lib.Dec.{eqb}

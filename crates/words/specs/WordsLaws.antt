@@ -12,7 +12,6 @@ use lib.ListN.{length, take, drop, getD, drop-of-length-le, length-drop, List·g
 use lib.Seq.{drop-cons, drop-drop, getD-drop}
 use Rattle.lists.specs.Choice.{if_then_else_}
 use Rattle.lists.specs.First.{firstAt}
-use Rattle.lists.specs.FirstLaws.{at-within}
 use Rattle.lists.specs.ChoiceLaws.{and-left, and-right}
 use Rattle.text.specs.Lines.{space}
 use Rattle.words.specs.Words.{lengthened, wordsOf, wordOf, same, spaceAt, wordsEnded}

@@ -3,7 +3,6 @@ ghost use mathlib.Core.Path.{_≡_};
 ghost use Prim.Native.Nat.{_+_, _<_, _≤_};
 ghost use lib.ListN.{length, drop};
 ghost use Rattle.words.specs.Words.{spaceAt, wordsEnded, wordsOf, wordOf, same};
-
 use text::SPACE;
 
 // Where the word that starts at a place ends: at the next space, or at the end of the line.

@@ -1,6 +1,5 @@
 -- By the room, as the definition tests it, and by what the line asks for. Assumes nothing.
 use denote.Ref.{now}
-use mathlib.Core.List.{List}
 use mathlib.Core.Path.{_≡_, subst}
 use Rattle.text.specs.Lines.{Line}
 use Rattle.requests.specs.declared.Request.{Request}

@@ -1,6 +1,5 @@
 -- The family of the code, then its properties. Assumes nothing.
 use Rattle.device.specs.Record.{rowOf}
-use mathlib.Core.Path.{refl}
 use borrow.Author.Needs.{needs}
 use Rattle.device.proofs.row_of.Statement.{statement}
 use Rattle.device.proofs.row_of.Tie as tie

@@ -1,7 +1,6 @@
 -- The digits are laid where they fit. Assumes nothing.
 use Prim.Native.Nat.{_+_, _≤_}
 use mathlib.Core.Path.{sym, _∙_}
-use native.Mathlib.Omega.{arith}
 use borrow.Author.Tests.{leb-true, not-true, not-false}
 use denote.Ref.{now}
 use lib.ListN.{length}

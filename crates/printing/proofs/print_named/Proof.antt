@@ -1,7 +1,6 @@
 -- The text is as long as its count says, and is laid where it fits. Assumes nothing.
-use Prim.Native.Nat.{_-_, _<_, _≤_}
+use Prim.Native.Nat.{_-_, _≤_}
 use mathlib.Core.Path.{_≡_}
-use denote.Ref.{now}
 use lib.ListN.{length, take, drop}
 use mir.Syntax.{w8}
 use mir.Val.{Fits}

@@ -1,11 +1,7 @@
 -- The calls give the two sides of the definition's first test and the row of its second. Assumes nothing.
-use mathlib.Core.Path.{_≡_, _∙_, sym}
 use borrow.Author.Needs.{needs}
 use borrow.Author.Tests.{eq-eqb, ne-eqb}
-use lib.Dec.{eqb}
-use Rattle.bits.specs.Bits.{bitsOf}
-use Rattle.crc.specs.Crc.{crcBits}
-use Rattle.rom.specs.Code.{crcByteOf, codeRefusal}
+use Rattle.rom.specs.Code.{codeRefusal}
 use Rattle.rom.proofs.refusal_of.Statement.{statement}
 use Rattle.rom.proofs.refusal_of.Tie as tie
 

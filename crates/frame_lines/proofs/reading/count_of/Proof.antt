@@ -8,7 +8,7 @@ use lib.ListN.{length, take, drop, length-drop}
 use lib.Seq.{length-take-le}
 use Rattle.lists.specs.FoldLaws.{all-take, all-drop}
 use Rattle.text.specs.declared.NumberRead.{NumberRead}
-use Rattle.text.specs.Digits.{isDigit, spells, numberIn}
+use Rattle.text.specs.Digits.{isDigit, spells}
 use Rattle.text.specs.DigitsLaws.{number-below}
 use Rattle.text.specs.NumbersLaws.{fixed-hex}
 use Rattle.frame_lines.specs.ReadLine.{slotCountIn}

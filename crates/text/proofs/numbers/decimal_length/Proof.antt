@@ -1,7 +1,7 @@
 -- The loop's invariant: the digits counted and those of what is left are one more than the number's, since the last digit of all is counted from the
 -- start. The measure is what is left. Assumes nothing.
 use Prim.Native.Nat.{_+_}
-use mathlib.Core.Path.{_≡_, refl}
+use mathlib.Core.Path.{_≡_}
 use native.Mathlib.Omega.{arith}
 use Rattle.text.specs.Decimal.{decimalLength}
 use Rattle.text.specs.DecimalLaws.{length-small, length-tenth, decimal-most}
