@@ -10,6 +10,7 @@ use bench::Changed;
 use bench::Looked;
 use bench::ResetDone;
 use bench::Slotted;
+use laying::Written;
 use master_rules::Access;
 use why_rules::Why;
 
@@ -21,6 +22,17 @@ pub struct Said {
     pub bench: Bench,
 }
 
+// A line that was laid at the front, and the bench.
+fn say(w: Written, bench: Bench) -> Said
+    ensures { λ r. ⌜ r ≡ record { refusal = w .refusal; count = w .next; bench = bench } ⌝ }
+{
+    Said {
+        refusal: w.refusal,
+        count: w.next,
+        bench,
+    }
+}
+
 // A line that asks for nothing that there is.
 pub fn bad(bench: Bench, out: &mut [u8]) -> Said
     ensures answer { λ r. ⌜ r ≡ lineSaid (says badLine bench) (now (out .entry)) ⌝ }
@@ -28,11 +40,7 @@ pub fn bad(bench: Bench, out: &mut [u8]) -> Said
     ensures fits { λ r. ⌜ r .count ≤ lineRoom ⌝ }
 {
     let w = answers::bad_line(out, 0);
-    Said {
-        refusal: w.refusal,
-        count: w.next,
-        bench,
-    }
+    say(w, bench)
 }
 
 // An adding, a finish or a power cycle.
@@ -43,11 +51,7 @@ pub fn change(done: Changed, out: &mut [u8]) -> Said
 {
     let bench = done.bench;
     let w = answers::refusal_line(out, 0, done.refusal);
-    Said {
-        refusal: w.refusal,
-        count: w.next,
-        bench,
-    }
+    say(w, bench)
 }
 
 pub fn reset(done: ResetDone, out: &mut [u8]) -> Said
@@ -57,11 +61,7 @@ pub fn reset(done: ResetDone, out: &mut [u8]) -> Said
 {
     let bench = done.bench;
     let w = answers::bit_line(out, 0, done.refusal, done.presence);
-    Said {
-        refusal: w.refusal,
-        count: w.next,
-        bench,
-    }
+    say(w, bench)
 }
 
 pub fn slot(done: Slotted, out: &mut [u8]) -> Said
@@ -71,11 +71,7 @@ pub fn slot(done: Slotted, out: &mut [u8]) -> Said
 {
     let bench = done.bench;
     let w = answers::bit_line(out, 0, done.refusal, done.line);
-    Said {
-        refusal: w.refusal,
-        count: w.next,
-        bench,
-    }
+    say(w, bench)
 }
 
 // A read or a write at a code.
@@ -88,11 +84,7 @@ pub fn access(done: Access, out: &mut [u8]) -> Said
     let pad = done.pad;
     let reading = done.reading;
     let w = answers::access_line(out, 0, done.refusal, pad, reading);
-    Said {
-        refusal: w.refusal,
-        count: w.next,
-        bench,
-    }
+    say(w, bench)
 }
 
 // A device that was looked at.
@@ -102,11 +94,7 @@ pub fn device(bench: Bench, looked: Looked, out: &mut [u8]) -> Said
     ensures fits { λ r. ⌜ r .count ≤ lineRoom ⌝ }
 {
     let w = answers::show_line(out, 0, looked);
-    Said {
-        refusal: w.refusal,
-        count: w.next,
-        bench,
-    }
+    say(w, bench)
 }
 
 // Why a code is on the list of an alarm search.
@@ -116,9 +104,5 @@ pub fn why(bench: Bench, why: Why, out: &mut [u8]) -> Said
     ensures fits { λ r. ⌜ r .count ≤ lineRoom ⌝ }
 {
     let w = why_answers::why_line(out, 0, why);
-    Said {
-        refusal: w.refusal,
-        count: w.next,
-        bench,
-    }
+    say(w, bench)
 }

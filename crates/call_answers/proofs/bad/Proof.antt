@@ -1,8 +1,10 @@
 -- The line as it is laid, and it is short. Assumes nothing.
 use denote.Ref.{now}
+use mathlib.Core.Path.{ap, _∙_}
 use Rattle.answers.specs.Answers.{badLine}
 use Rattle.answers.specs.AnswersLaws.{bad-short}
 use Rattle.call_answers.specs.SaidLaws.{said-so, said-short}
+use Rattle.call_answers.specs.declared.Said.{Said}
 use borrow.Author.Needs.{needs}
 use Rattle.call_answers.proofs.bad.Statement.{statement}
 use Rattle.call_answers.proofs.bad.Tie as tie
@@ -10,17 +12,21 @@ use Rattle.call_answers.proofs.bad.Tie as tie
 bad-line-requires : tie.Need-bad-line-requires
 bad-line-requires c κs = search needs
 
+say-requires : tie.Need-say-requires
+say-requires c κs = search needs
+
 same-length : tie.Need-same-length
 same-length c = search needs
 
 returns : tie.Need-returns
 returns c =
-    let line = c .before .before in
+    let line = c .before .before .before in
+    let count = ap (λ (s : Said). s .count) (c .say .ensures) in
     let a = line .before .before .before in
     let short = bad-short in
     let answer = line .bad-line .ensures .0 in
     let said = said-so (now (a .args .out)) (badLine) (line .bad-line .result) (a .args .bench) answer in
-    (said, (line .bad-line .ensures .1, said-short (now (a .args .out)) (badLine) (line .bad-line .result) (a .args .bench) answer short))
+    (c .say .ensures ∙ said, (line .bad-line .ensures .1, rw count (said-short (now (a .args .out)) (badLine) (line .bad-line .result) (a .args .bench) answer short)))
 
 pub bad-spec : {M : Type 1} → statement M
-bad-spec = tie.close (tie.spec bad-line-requires same-length returns)
+bad-spec = tie.close (tie.spec bad-line-requires say-requires same-length returns)

@@ -1,8 +1,10 @@
 -- The line as it is laid, and it is short. Assumes nothing.
 use denote.Ref.{now}
+use mathlib.Core.Path.{ap, _∙_}
 use Rattle.answers.specs.Answers.{bitLine}
 use Rattle.answers.specs.AnswersLaws.{bit-short}
 use Rattle.call_answers.specs.SaidLaws.{said-so, said-short}
+use Rattle.call_answers.specs.declared.Said.{Said}
 use borrow.Author.Needs.{needs}
 use Rattle.call_answers.proofs.reset.Statement.{statement}
 use Rattle.call_answers.proofs.reset.Tie as tie
@@ -10,17 +12,21 @@ use Rattle.call_answers.proofs.reset.Tie as tie
 bit-line-requires : tie.Need-bit-line-requires
 bit-line-requires c κs = search needs
 
+say-requires : tie.Need-say-requires
+say-requires c κs = search needs
+
 same-length : tie.Need-same-length
 same-length c = search needs
 
 returns : tie.Need-returns
 returns c =
-    let line = c .before .before in
+    let line = c .before .before .before in
+    let count = ap (λ (s : Said). s .count) (c .say .ensures) in
     let a = line .before .before .before .before in
     let short = bit-short (a .args .done .refusal) (a .args .done .presence) (search needs) in
     let answer = line .bit-line .ensures .0 in
     let said = said-so (now (a .args .out)) (bitLine (a .args .done .refusal) (a .args .done .presence)) (line .bit-line .result) (a .args .done .bench) answer in
-    (said, (line .bit-line .ensures .1, said-short (now (a .args .out)) (bitLine (a .args .done .refusal) (a .args .done .presence)) (line .bit-line .result) (a .args .done .bench) answer short))
+    (c .say .ensures ∙ said, (line .bit-line .ensures .1, rw count (said-short (now (a .args .out)) (bitLine (a .args .done .refusal) (a .args .done .presence)) (line .bit-line .result) (a .args .done .bench) answer short)))
 
 pub reset-spec : {M : Type 1} → statement M
-reset-spec = tie.close (tie.spec bit-line-requires same-length returns)
+reset-spec = tie.close (tie.spec bit-line-requires say-requires same-length returns)

@@ -1,8 +1,10 @@
 -- The line as it is laid, and it is short. Assumes nothing.
 use denote.Ref.{now}
+use mathlib.Core.Path.{ap, _∙_}
 use native.Mathlib.Omega.{arith}
 use Rattle.why_answers.specs.WhyLine.{whyLine}
 use Rattle.call_answers.specs.SaidLaws.{said-so}
+use Rattle.call_answers.specs.declared.Said.{Said}
 use borrow.Author.Needs.{needs}
 use Rattle.call_answers.proofs.why.Statement.{statement}
 use Rattle.call_answers.proofs.why.Tie as tie
@@ -10,16 +12,20 @@ use Rattle.call_answers.proofs.why.Tie as tie
 why-line-requires : tie.Need-why-line-requires
 why-line-requires c κs = search needs
 
+say-requires : tie.Need-say-requires
+say-requires c κs = search needs
+
 same-length : tie.Need-same-length
 same-length c = search needs
 
 returns : tie.Need-returns
 returns c =
-    let line = c .before .before in
+    let line = c .before .before .before in
+    let count = ap (λ (s : Said). s .count) (c .say .ensures) in
     let a = line .before .before .before in
     let laid = line .why-line .ensures in
     let short = laid .1 .1 in
-    (said-so (now (a .args .out)) (whyLine (a .args .why)) (line .why-line .result) (a .args .bench) (laid .0), (laid .1 .0, omega arith))
+    (c .say .ensures ∙ said-so (now (a .args .out)) (whyLine (a .args .why)) (line .why-line .result) (a .args .bench) (laid .0), (laid .1 .0, omega arith))
 
 pub why-spec : {M : Type 1} → statement M
-why-spec = tie.close (tie.spec why-line-requires same-length returns)
+why-spec = tie.close (tie.spec why-line-requires say-requires same-length returns)
