@@ -1,4 +1,5 @@
 -- Laws of sums of bits and of the ones of a string.
+--     plus-self                    a bit and itself
 --     sum-length, sum-at           the sum is as long as the two strings, and at each place the sum of their bits
 --     sum-parity                   it has as many ones as both together, but for an even number
 --     bits-xor                     the bits of an exclusive or are the sum of the bits
@@ -18,6 +19,11 @@ use Rattle.bits.specs.Sums.{plus, sum, ones}
 use Rattle.bits.specs.XorLaws.{xor-half, odd-xor}
 
 -- ## Sums
+
+-- a bit and itself
+pub plus-self : (b : Bool) → plus b b ≡ false
+plus-self true = refl
+plus-self false = refl
 
 pub sum-length : (a b : List Bool) → length a ≡ length b → length (sum a b) ≡ length a
 unfolding sum

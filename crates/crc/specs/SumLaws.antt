@@ -17,6 +17,7 @@ use Rattle.lists.specs.Choice.{if_then_else_}
 use Rattle.lists.specs.Fold.{fold}
 use Rattle.bits.specs.Bits.{odd, bitsOf, bytesBits}
 use Rattle.bits.specs.Sums.{plus, sum}
+use Rattle.bits.specs.SumsLaws.{plus-self}
 use Rattle.bits.specs.XorLaws.{xor-half, odd-xor, xor-swap, xor-assoc}
 use Rattle.crc.specs.Crc.{taps, crcBit, crcBits, crcOf}
 use Rattle.crc.specs.Laws.{crc-none, crc-more, crc-bytes-append, crc-bytes-lt}
@@ -85,14 +86,10 @@ halved x = by-test (odd x)
     by-test true = refl
     by-test false = refl
 
-plus-own : (b : Bool) → plus b b ≡ false
-plus-own true = refl
-plus-own false = refl
-
 -- what is left of x may be added to the register before the step or after it
 xor-step-in : (r x : ℕ) → bitXor (crcBit r (odd x)) (x / 2) ≡ crcBit (bitXor r x) false
 xor-step-in r x =
-    ap (bitXor (crcBit r (odd x))) (sym (halved x)) ∙ sym (crc-bit-sum r x (odd x) (odd x)) ∙ ap (crcBit (bitXor r x)) (plus-own (odd x))
+    ap (bitXor (crcBit r (odd x))) (sym (halved x)) ∙ sym (crc-bit-sum r x (odd x) (odd x)) ∙ ap (crcBit (bitXor r x)) (plus-self (odd x))
 
 -- the bits of a number go in as zeros do, from the register with the number added
 pub crc-merge : (n r x : ℕ) → x < 2 ^ n → crcBits r (bitsOf n x) ≡ crcBits (bitXor r x) (bitsOf n 0)

@@ -5,7 +5,7 @@
 --     placesIn w             the places of a list that a search is lent, at most 32
 --     bytesIn w              the bytes of a recording that a search is lent, at most 1,824
 --     countIn w              a count of sixteenths from -32768 to 32767, with a minus in front where it is negative; -0 is taken
---     threeBytesIn h l c       three bytes: high limit, low limit, configuration
+--     threeBytesIn h l c     three bytes: high limit, low limit, configuration
 --     powerIn w              line or external
 -- Decimal numbers have one to five digits; zeros in front are taken.
 -- Assumes nothing.

@@ -14,7 +14,7 @@ use lib.ListN.{length, getD}
 use Rattle.lists.specs.Choice.{if_then_else_}
 use Rattle.bits.specs.Bits.{bitNumber}
 use Rattle.bits.specs.Sums.{plus, sum, ones}
-use Rattle.bits.specs.SumsLaws.{sum-at}
+use Rattle.bits.specs.SumsLaws.{plus-self, sum-at}
 use Rattle.noise.specs.Noise.{differences, OnlyWithin}
 
 -- ## How many
@@ -53,10 +53,6 @@ sum-differs (false ∷ a) (true ∷ n) h = let e = sum-differs a n (omega arith)
 sum-differs (false ∷ a) (false ∷ n) h = let e = sum-differs a n (omega arith) in omega arith
 
 -- ## Where
-
-plus-self : (t : Bool) → plus t t ≡ false
-plus-self true = refl
-plus-self false = refl
 
 plus-none : (t : Bool) → t ≡ plus t false
 plus-none true = refl

@@ -1,7 +1,7 @@
 -- The temperature register, scratchpad bytes 0 and 1: a 16-bit two's complement number, low byte first.
 --     unitOf r, countOf r        a reading by its values: the unit that it is counted in, and how many of them
 --     readingWith unit z         the reading with these values
---     countBytes z                  the sixteen bits of a number as two bytes
+--     countBytes z               the sixteen bits of a number as two bytes
 --     registerOf r               the two bytes of a reading
 --     rawReading unit low high   the reading that all sixteen bits of two bytes make, in the unit of the family
 --     clearedOf r configuration  a reading without the bits that its configuration leaves undefined: sixteenths are rounded down to the step, half degrees stay

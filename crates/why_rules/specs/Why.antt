@@ -1,7 +1,7 @@
 -- Why a code is on the list of an alarm search, or is not (request E1): the reason, the reading and the two limits as they stood at the last conversion that
 -- finished since power-up, and whether either of today's limits differs.
 --     bandOf t high low      where a whole degree stands to its limits, equality included; with low above high it may be past both
---     reasonOn p             the reason by a page alone: never by the flag, never by today's limits
+--     bandOn p               where a page's reading stands to the page's limits: never by the flag, never by today's limits
 --     onTheList r            whether the reason puts a code on the list: high, low or both
 --     reasonNumber r         the number of a reason, 0 to 5
 --     silent n r             a refusal or a reason without numbers: zero, zero, zero and no
@@ -43,8 +43,8 @@ bandOf t high low =
     else if leZ (t .0) (low .0) then Low
     else InBand
 
-abbrev pub reasonOn : Page → Reason
-reasonOn p = if p .taken then bandOf (wholeOf (p .reading)) (limitOf (p .high)) (limitOf (p .low)) else NoConversion
+abbrev pub bandOn : Page → Reason
+bandOn p = bandOf (wholeOf (p .reading)) (limitOf (p .high)) (limitOf (p .low))
 
 abbrev pub onTheList : Reason → Bool
 onTheList NotOnBench = false
@@ -82,7 +82,7 @@ unfoldable pub toldBy : Page → List ℕ → Why
 toldBy p pad =
     if p .taken then record {
       refusal = accepted;
-      reason = reasonOn p;
+      reason = bandOn p;
       reading = p .reading;
       high = limitOf (p .high);
       low = limitOf (p .low);
