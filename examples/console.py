@@ -1,15 +1,17 @@
 #!/usr/bin/env python3
 """Drives the bench console through a pipe: two probes, a conversion, an alarm search, and a write that shows
-the bytes beside the ones written. Start it from anywhere. It prints
+the bytes beside the ones written; and the fine reading of the probe that stores half degrees. Start it from anywhere. It prints
 
     on the wire: FB00000000000010 1E00000000000028
     alarming: 1E00000000000028
+    the cellar: 25.1875 degrees, from 1612/64
     scratchpad after the write: 910120F01FFF0C1008 reading: 0190
     limits and configuration: 20F01F between 9101 and FF0C1008
 
 `./run bench_console` builds the console where that is needed; `examples/console.py target/bin/bench_console` takes
 the one that is built.
 """
+import fractions
 import pathlib
 import subprocess
 import sys
@@ -61,10 +63,13 @@ print("on the wire:", *bench.search("search")[0])
 bench.call("reset")
 bench.send(0xCC, 0x44)  # to all: convert
 bench.call("converted %s 401" % BATHROOM)  # 25.0625 degrees, in sixteenths
-bench.call("converted %s 400" % CELLAR)
+bench.call("converted %s 403" % CELLAR)  # 25.1875 degrees, stored as 25 and two counts
 print("alarming:", *bench.search("alarm")[0])
 
-refusal, pad, reading = bench.call("write %s 20 F0 1F" % BATHROOM)
+refusal, pad, reading, fine = bench.call("read %s" % CELLAR)
+print("the cellar:", float(fractions.Fraction(fine)), "degrees, from", fine)
+
+refusal, pad, reading, fine = bench.call("write %s 20 F0 1F" % BATHROOM)
 print("scratchpad after the write:", pad, "reading:", reading)
 print("limits and configuration:", pad[4:10], "between", pad[:4], "and", pad[10:])
 raise SystemExit(bench.end())

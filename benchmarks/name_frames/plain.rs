@@ -108,6 +108,9 @@ fn pad_reading(f: &Frame) -> Result<(u64, u16), u8> {
     if reading < low || reading > high {
         return Err(11);
     }
+    if family == 0x10 && (pad[7] == 0 || pad[6] > pad[7]) {
+        return Err(20);
+    }
     Ok((u64::from_le_bytes(code_bytes.try_into().unwrap()), raw))
 }
 

@@ -114,12 +114,21 @@ fn reading(code: u64, pad: &[u8; 9]) -> u16 {
     }
 }
 
+/// The fine reading of S, TEMP_READ - 1/4 + (COUNT_PER_C - COUNT_REMAIN) / COUNT_PER_C, over four times the last.
+fn fine(code: u64, pad: &[u8; 9]) -> String {
+    if code as u8 != 0x10 {
+        return String::from("0/0");
+    }
+    let whole = i32::from(i16::from_le_bytes([pad[0], pad[1]])) >> 1;
+    let (remain, per) = (i32::from(pad[6]), i32::from(pad[7]));
+    format!("{}/{}", 4 * per * whole - per + 4 * (per - remain), 4 * per)
+}
+
 fn access(code: u64, answer: Answer<[u8; 9]>) -> String {
-    let (number, pad) = match answer {
-        Ok(pad) => (0, pad),
-        Err(number) => (number, [0; 9]),
-    };
-    format!("{number} {} {:04X}", digits(&pad), reading(code, &pad))
+    match answer {
+        Ok(pad) => format!("0 {} {:04X} {}", digits(&pad), reading(code, &pad), fine(code, &pad)),
+        Err(number) => format!("{number} {} 0000 0/0", digits(&[0; 9])),
+    }
 }
 
 fn found(answer: Answer<Found>) -> Vec<String> {

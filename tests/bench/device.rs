@@ -206,7 +206,11 @@ impl Device {
     pub fn conversion_done(&mut self, count: i16) -> (i16, i16) {
         // Division by a positive number, rounded down.
         let (register, degrees) = match self.family {
-            Family::S => (count.div_euclid(8), count.div_euclid(8).div_euclid(2)),
+            Family::S => {
+                let degrees = (count + 4).div_euclid(16);
+                self.pad[6..].copy_from_slice(&[(16 * degrees + 12 - count) as u8, 16]);
+                ((count + 4).div_euclid(8), degrees)
+            }
             Family::B => {
                 let step = 8 >> (self.pad[4] >> 5 & 3);
                 let kept = count.div_euclid(step) * step;

@@ -122,7 +122,7 @@ pub fn read(bench: &mut Bench, code: u64) -> Answer<[u8; 9]> {
     Ok(pad)
 }
 
-/// The refusals of nine bytes: 5, 6, 7, 11.
+/// The refusals of nine bytes: 5, 6, 7, 11, 20.
 fn judge(family: Family, pad: &[u8; 9]) -> Answer<()> {
     let count = i16::from_le_bytes([pad[0], pad[1]]);
     let (range, has_configuration) = match family {
@@ -137,6 +137,8 @@ fn judge(family: Family, pad: &[u8; 9]) -> Answer<()> {
         Err(7)
     } else if !range.contains(&count) {
         Err(11)
+    } else if !has_configuration && (pad[7] == 0 || pad[6] > pad[7]) {
+        Err(20)
     } else {
         Ok(())
     }

@@ -21,8 +21,14 @@ fn crc8(bytes: &[u8]) -> u8 {
 
 // ---- Temperatures
 
+// Half degrees, to the nearest, from a quarter up.
 fn register_s(count: i32) -> i16 {
-    count.div_euclid(8) as i16
+    (count + 4).div_euclid(8) as i16
+}
+
+// What COUNT_REMAIN must be, so that TEMP_READ - 1/4 + (16 - COUNT_REMAIN) / 16 is the count.
+fn remain_s(count: i32) -> i32 {
+    16 * (register_s(count) as i32).div_euclid(2) - 4 + 16 - count
 }
 
 fn register_b(count: i32, resolution: u32) -> i16 {
@@ -32,9 +38,9 @@ fn register_b(count: i32, resolution: u32) -> i16 {
 
 fn tables(out: &mut impl Write) -> io::Result<()> {
     for count in -880..=2000 {
-        let registers = [register_s(count), register_b(count, 0), register_b(count, 1), register_b(count, 2), register_b(count, 3)];
-        write!(out, "{count}")?;
-        for register in registers {
+        let half = register_s(count);
+        write!(out, "{count} {:04x} {half} {}", half as u16, remain_s(count))?;
+        for register in (0..4).map(|resolution| register_b(count, resolution)) {
             write!(out, " {:04x} {register}", register as u16)?;
         }
         writeln!(out)?;
@@ -148,6 +154,9 @@ fn name_pad(bits: &[bool]) -> Verdict {
     if !in_range {
         return Verdict::Refused(11);
     }
+    if family == 0x10 && (pad[7] == 0 || pad[6] > pad[7]) {
+        return Verdict::Refused(20);
+    }
     Verdict::Text(format!("PAD {:016X} {:04X}", code, raw as u16))
 }
 
@@ -251,6 +260,12 @@ fn pad_line(r: &mut Random) -> Vec<u8> {
     pad[..2].copy_from_slice(&raw.to_le_bytes());
     if r.below(4) > 0 {
         pad[4] = (pad[4] & 0x60) + 0x1F;
+    }
+    match r.below(4) {
+        0 => pad[7] = 0,
+        1 => pad[6] = pad[7],
+        2 => pad[6] = pad[7].wrapping_add(1),
+        _ => {}
     }
     if r.below(10) == 0 {
         pad = [0; 9];

@@ -1,14 +1,14 @@
 -- A device that calls reach holds bytes wherever it keeps a byte: in its scratchpad, in the limits of its EEPROM and of a copy under way, and in the part of a byte of 4Eh
--- that it has taken. And nothing changes byte 7 of its scratchpad, which is never 0: so no scratchpad is all zeros.
+-- that it has taken. And byte 7 of its scratchpad is what it was at power-up, which is never 0: so no scratchpad is all zeros.
 --     Bytewise d           the claim
 --     Readable b           the bench is sound, its codes have 64 bits, and each device is bytewise: law `readable-after`, after every history
 -- Assumes nothing.
 use Prim.Native.Nat.{ℕ, zero, suc, _+_, _/_, _%_, _<_, _≤_}
-use mathlib.Core.Bool.{Bool, true, false, not, Bool·beq, _&&_}
+use mathlib.Core.Bool.{Bool, true, false, not, Bool·beq, _&&_, _||_}
 use mathlib.Core.List.{List, [], _∷_}
 use mathlib.Core.Path.{_≡_, refl, _∙_}
 use native.Mathlib.Omega.{arith}
-use borrow.Author.Tests.{ltb-true}
+use borrow.Author.Tests.{ltb-true, eqb-true}
 use lib.Bits.{bitAnd, and-le-r}
 use lib.Dec.{eqb, ltb, lit<, lit≤}
 use lib.IntN.{ℤ, pos, negsuc}
@@ -28,6 +28,8 @@ use Rattle.commands.specs.Commands.{readRom, matchRom, skipRom, searchRom, alar
 use Rattle.family.specs.Configuration.{storedForm, keptConfiguration}
 use Rattle.family.specs.FamiliesLaws.{every-row}
 use Rattle.family.specs.declared.Properties.{Properties}
+use Rattle.family.specs.declared.Unit.{Unit as Measure}
+use Rattle.family.specs.declared.Unit.the-variants.{Sixteenths as inSixteenths, HalfDegrees as inHalfDegrees}
 use Rattle.rom.specs.Code.{familyOf}
 use Rattle.signed.specs.Complement.{bits16}
 use Rattle.temperature.specs.Range.{inRange}
@@ -36,8 +38,10 @@ use Rattle.temperature.specs.Register.{countOf}
 use Rattle.temperature.specs.declared.Reading.{Reading}
 use Rattle.temperature.specs.declared.Reading.the-variants.{InSixteenths, InHalves}
 use Rattle.temperature.specs.declared.Sixteenths.{Sixteenths}
-use Rattle.scratchpad.specs.Stored.{storedReading, scratchpadAfter}
-use Rattle.scratchpad.specs.StoredLaws.{after-other, stored-range}
+use Rattle.fine.specs.Fine.{countsPerDegree, remainingOf}
+use Rattle.fine.specs.FineLaws.{remaining-bounds}
+use Rattle.scratchpad.specs.Stored.{storedReading, withCounts, scratchpadAfter}
+use Rattle.scratchpad.specs.StoredLaws.{after-seventh, stored-range}
 use Rattle.search_law.specs.Numbers.{Below}
 use Rattle.device.specs.Finish.{conversionDone, copyDone}
 use Rattle.device.specs.Hear.{afterBit, romCommand, hearRom, idleCommand, functionCommand, hearFunction, storeSetting, hearSettings, hearAt, hearOf}
@@ -154,6 +158,12 @@ reading-bits : (r : Reading) → inRange r ≡ true → bits16 (countOf r) < 655
 reading-bits (InSixteenths c) h = sixteen (c .0) (between-size 879 2000 2000 (c .0) (lit≤ tt) (lit≤ tt) h)
 reading-bits (InHalves c) h = sixteen (c .0) (between-size 109 250 2000 (c .0) (lit≤ tt) (lit≤ tt) h)
 
+counts-bytes : (unit : Measure) (count : Sixteenths) (pad : List ℕ) → Bytes pad → Bytes (withCounts unit count pad)
+counts-bytes inSixteenths count pad b = b
+counts-bytes inHalfDegrees count pad b =
+    let l : remainingOf count < 256 = omega (arith, remaining-bounds count .1) in
+    bytes-set (set pad 6 (remainingOf count)) 7 countsPerDegree (bytes-set pad 6 (remainingOf count) b l) (lit< tt)
+
 after-bytes : (row : Properties) (count : Sixteenths) (pad : List ℕ) → inRange (InSixteenths count) ≡ true → Bytes pad → Bytes (scratchpadAfter row count pad)
 unfolding scratchpadAfter
 after-bytes row count pad h b =
@@ -161,7 +171,20 @@ after-bytes row count pad h b =
     let l : n < 65536 = reading-bits (storedReading row count pad) (stored-range row count pad h) in
     let low : n % 256 < 256 = omega arith in
     let high : n / 256 < 256 = omega arith in
-    bytes-set (set pad 0 (n % 256)) 1 (n / 256) (bytes-set pad 0 (n % 256) b low) high
+    counts-bytes (row .unit) count _ (bytes-set (set pad 0 (n % 256)) 1 (n / 256) (bytes-set pad 0 (n % 256) b low) high)
+
+-- of every row that counts half degrees byte 7 is at power-up what a conversion leaves there
+inHalves : Measure → Bool
+inHalves inSixteenths = false
+inHalves inHalfDegrees = true
+
+seventh-left : (code : ℕ) → rowOf code .unit ≡ inHalfDegrees → countsPerDegree ≡ getD (rowOf code .initial) 7 0
+unfolding rowOf all inHalves
+seventh-left code unit =
+    let row = rowOf code in
+    let test : (not (inHalves (row .unit)) || eqb countsPerDegree (getD (row .initial) 7 0)) ≡ true
+    = every-row (λ r. not (inHalves (r .unit)) || eqb countsPerDegree (getD (r .initial) 7 0)) refl (familyOf code) in
+    eqb-true countsPerDegree (getD (row .initial) 7 0) (rw unit at test)
 
 -- the scratchpad of a family at power-up
 all-bytes : (l : List ℕ) → all (λ x. ltb x 256) l ≡ true → Bytes l
@@ -204,7 +227,7 @@ unfolding conversionDone
 conversion-bytewise d n h b = record {
   stored = record {
     pad-bytes = after-bytes (rowOf (d .code)) n (d .scratchpad) h (b .stored .pad-bytes);
-    seventh = after-other (rowOf (d .code)) n (d .scratchpad) 7 (lit≤ tt) ∙ b .stored .seventh;
+    seventh = after-seventh (rowOf (d .code)) n (d .scratchpad) (λ v. v ≡ getD (rowOf (d .code) .initial) 7 0) (seventh-left (d .code)) (b .stored .seventh);
     eeprom-bytes = b .stored .eeprom-bytes;
     copy-bytes = tt;
   };

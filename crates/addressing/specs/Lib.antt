@@ -9,3 +9,5 @@ pub mod ShownLaws
 pub mod Lasting
 pub mod Bytewise
 pub mod ReadLaws
+pub mod NeverLaws
+pub mod FinishedLaws

@@ -1,5 +1,5 @@
 -- The answers of reads. A bench that calls reach is sound, and its devices hold bytes (`Readable`): so a read at the code of a device shows its scratchpad with a right
--- CRC, not all zeros, a configuration in stored form and a reading in range, which the judgement accepts; and a read at any other code shows ones, which it refuses with 5.
+-- CRC, not all zeros, a configuration in stored form, a reading in range and counts to believe, which the judgement accepts; and a read at any other code shows ones, which it refuses with 5.
 -- Assumes nothing.
 use Prim.Native.Nat.{ℕ, _<_}
 use mathlib.Core.Bool.{Bool, true, false, not, _||_, false≢true}
@@ -17,14 +17,14 @@ use Rattle.lists.specs.Fold.{fold, all}
 use Rattle.lists.specs.FoldLaws.{all-at}
 use Rattle.bits.specs.Bits.{bitsOf, bytesBits}
 use Rattle.commands.specs.Commands.{readScratchpad}
-use Rattle.refusals.specs.Refusals.{accepted, wrongCrc, wrongKind, noPresence, wireBusy, outOfRange}
+use Rattle.refusals.specs.Refusals.{accepted, wrongCrc, wrongKind}
 use Rattle.family.specs.Families.{propertiesOf}
 use Rattle.family.specs.FamiliesLaws.{every-row}
 use Rattle.family.specs.declared.Properties.{Properties}
 use Rattle.crc.specs.Crc.{crcBits, crcOf}
 use Rattle.rom.specs.Code.{familyOf, crcByteOf, codeRefusal, sound}
 use Rattle.scratchpad.specs.Judgement.{crcRight, allZeros, judged}
-use Rattle.scratchpad.specs.Stored.{readingIn}
+use Rattle.scratchpad.specs.Stored.{readingIn, fineIn}
 use Rattle.scratchpad.specs.StoredLaws.{raw-range}
 use Rattle.device.specs.Offer.{nineBytes}
 use Rattle.device.specs.OfferLaws.{nine-length, nine-byte, nine-crc}
@@ -34,17 +34,15 @@ use Rattle.bench.specs.Bench.{live, vacant, placeOf, free}
 use Rattle.bench.specs.Calls.{deviceAt}
 use Rattle.bench.specs.Slot.{presenceOf, restarted}
 use Rattle.bench.specs.declared.Bench.{Bench}
-use Rattle.bench.specs.declared.Place.{Place}
 use Rattle.bench.specs.declared.Place.the-variants.{At, Nowhere}
 use Rattle.bench_laws.specs.Laws.{reset-accepted, place-live, place-found, device-live}
 use Rattle.master_rules.specs.declared.Access.{Access}
 use Rattle.master_rules.specs.Access.{addressed, afterSlots, judgedReply, fetched, readBack, admission, readAt}
-use Rattle.master_rules.specs.AccessLaws.{read-unsent}
 use Rattle.master_rules.specs.Issued.{issued}
 use Rattle.history.specs.History.{after}
 use Rattle.addressing.specs.Unrefused.{readBits}
 use Rattle.addressing.specs.Laws.{admitted-free, read-unrefused}
-use Rattle.addressing.specs.Shown.{shownAt, AbsentRefused, ReadAnswer, NeverOutOfRange}
+use Rattle.addressing.specs.Shown.{shownAt, AbsentRefused, ReadAnswer}
 use Rattle.addressing.specs.ShownLaws.{code-at, shows-scratchpad, shows-ones}
 use Rattle.addressing.specs.Bytewise.{Bytewise, Readable, readable-after}
 
@@ -86,12 +84,12 @@ module _ (row : Properties) (pad : List ℕ) (s : PadSound row pad) where
       by-test false e = refl
 
 nine-judged : (family : ℕ) (pad : List ℕ) → propertiesOf family .known ≡ true → PadSound (propertiesOf family) pad → getD pad 7 0 ≢ 0
-    → judged family (nineBytes pad) ≡ record { refusal = accepted; reading = readingIn (propertiesOf family) pad }
+    → judged family (nineBytes pad) ≡ record { refusal = accepted; reading = readingIn (propertiesOf family) pad; fine = fineIn (propertiesOf family) pad }
 unfolding judged
 nine-judged family pad known s n =
     let row = propertiesOf family in
     let at : (k : ℕ) → k < 8 → getD (nineBytes pad) k 0 ≡ getD pad k 0 = nine-at row pad s in
-    rw (nine-crc-right row pad s, nine-not-zero row pad s n, known, at 0 (lit< tt), at 1 (lit< tt), at 4 (lit< tt), s .in-form, raw-range row pad (s .in-range))
+    rw (nine-crc-right row pad s, nine-not-zero row pad s n, known, at 0 (lit< tt), at 1 (lit< tt), at 4 (lit< tt), at 6 (lit< tt), at 7 (lit< tt), s .in-form, raw-range row pad (s .in-range), s .counts-believed)
 
 -- ## A device of a readable bench
 
@@ -156,6 +154,7 @@ module _ (b : Bench) (r : Readable b) (code i : ℕ) (f : free b ≡ true) (at :
     refusal = accepted;
     pad = nineBytes (deviceAt b i .scratchpad);
     reading = readingIn (rowOf code) (deviceAt b i .scratchpad);
+    fine = fineIn (rowOf code) (deviceAt b i .scratchpad);
     bench = c;
   }
 
@@ -175,43 +174,3 @@ module _ (b : Bench) (r : Readable b) (code i : ℕ) (f : free b ≡ true) (at :
 
 pub read-answer : ReadAnswer
 read-answer h t code i f at = read-answered (after h) (readable-after h t) code i f at
-
--- the tests before anything is sent
-admission-codes : (b : Bench) (code : ℕ) → admission b code ≢ outOfRange
-unfolding admission codeRefusal
-admission-codes b code = by-tests (eqb (crcByteOf code) (crcBits 0 (bitsOf 56 code))) (propertiesOf (familyOf code) .known) (free b)
-  where
-    by-tests : (t u v : Bool)
-        → (if not (eqb (if not t then wrongCrc else if not u then wrongKind else accepted) accepted)
-        then (if not t then wrongCrc else if not u then wrongKind else accepted)
-        else if v then accepted else wireBusy)
-        ≢ outOfRange
-    by-tests true true true e = omega arith
-    by-tests true true false e = omega arith
-    by-tests true false v e = omega arith
-    by-tests false u v e = omega arith
-
--- nobody shows presence
-lonely-refused : (b : Bench) (code : ℕ) → admission b code ≡ accepted → presenceOf b ≡ false → readAt b code .refusal ≡ noPresence
-unfolding readAt readBack
-lonely-refused b code h absent = rw (h, reset-accepted b (admitted-free b code h), absent)
-
-pub never-out-of-range : NeverOutOfRange
-never-out-of-range h t code fits = by-admission (eqb (admission (after h) code) accepted) refl
-  where
-    by-place : (p : Place) → placeOf (after h) code ≡ p → admission (after h) code ≡ accepted → presenceOf (after h) ≡ true → readAt (after h) code .refusal ≢ outOfRange
-    by-place (At i) at a there e =
-        let r = ap (λ x. x .refusal) (read-answer h t code i (admitted-free (after h) code a) at) in
-        let z : accepted ≡ outOfRange = sym r ∙ e in omega arith
-    by-place Nowhere at a there e =
-        let z : wrongCrc ≡ outOfRange = sym (absent-refused (after h) code fits (readable-after h t .codes-fit) a there at) ∙ e in omega arith
-
-    by-presence : (p : Bool) → presenceOf (after h) ≡ p → admission (after h) code ≡ accepted → readAt (after h) code .refusal ≢ outOfRange
-    by-presence true there a e = by-place (placeOf (after h) code) refl a there e
-    by-presence false there a e = let z : noPresence ≡ outOfRange = sym (lonely-refused (after h) code a there) ∙ e in omega arith
-
-    by-admission : (v : Bool) → eqb (admission (after h) code) accepted ≡ v → readAt (after h) code .refusal ≢ outOfRange
-    by-admission true v e = by-presence (presenceOf (after h)) refl (eqb-true (admission (after h) code) accepted v) e
-    by-admission false v e =
-        admission-codes (after h) code
-        (sym (ap (λ a. a .refusal) (read-unsent (after h) code (eqb-false (admission (after h) code) accepted v))) ∙ e)

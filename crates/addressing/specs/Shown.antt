@@ -1,37 +1,42 @@
--- What a read at a code shows (the scope, "The master"), and that no read of a bench that calls reach is refused with 11.
+-- What a read at a code shows (the scope, "The master"), and that no read and no write of a bench that calls reach is refused with 6, 11 or 20.
 --     shownAt b code        the nine bytes that the line shows in the 72 read slots of a read at the code
 --     ShowsScratchpad       where a device has the code, they are its scratchpad and the CRC of that
 --     ShowsOnes             where no device has it, they are all FFh
 --     AbsentRefused         and then the read is refused with 5
 --     ReadKeeps             a read, refused or not, changes nothing of any device but its stage
 --     ReadAnswer            after every history a read at the code of a device, where none holds the wire, is accepted and answers that device's own nine bytes and the
---                           reading in them, and the bench is where the slot rule leaves it
---     NeverOutOfRange       after every history no read is refused with 11
+--                           reading in them, with the fine one, and the bench is where the slot rule leaves it
+--     FineIsCount           after every history that ends with an accepted finish of a device in half degrees, the fine reading that a read at its code answers is the count of that finish
+--     NeverDamaged          after every history no read and no write is refused with 6, 11 or 20
 -- The nine bytes of a scratchpad are `nineBytes`, as the device sends them. Assumes nothing.
 use Prim.Native.Nat.{ℕ}
 use mathlib.Core.Bool.{true}
-use mathlib.Core.List.{List, [], _∷_, map}
+use mathlib.Core.List.{List, [], _∷_, _++_, map}
 use mathlib.Core.Logic.{_≢_}
 use mathlib.Core.Path.{_≡_}
+use lib.IntN.{pos, _*ℤ_}
 use lib.ListN.{length, replicate}
 use Rattle.lists.specs.Each.{Each, Distinct}
 use Rattle.bits.specs.Bytes.{Bytes}
 use Rattle.commands.specs.Commands.{readScratchpad}
-use Rattle.refusals.specs.Refusals.{accepted, wrongCrc, outOfRange}
-use Rattle.scratchpad.specs.Stored.{readingIn}
+use Rattle.refusals.specs.Refusals.{accepted, wrongCrc, allZero, outOfRange, wrongCounts}
+use Rattle.family.specs.declared.Unit.the-variants.{HalfDegrees as inHalfDegrees}
+use Rattle.temperature.specs.declared.Sixteenths.{Sixteenths}
+use Rattle.scratchpad.specs.Stored.{readingIn, fineIn}
 use Rattle.search_law.specs.Numbers.{Below}
 use Rattle.device.specs.Offer.{nineBytes}
 use Rattle.device.specs.Record.{rowOf}
+use Rattle.device.specs.declared.Settings.{Settings}
 use Rattle.bench.specs.Bench.{live, placeOf, free}
-use Rattle.bench.specs.Calls.{deviceAt}
+use Rattle.bench.specs.Calls.{deviceAt, conversionFinished}
 use Rattle.bench.specs.Slot.{presenceOf, restarted}
 use Rattle.bench.specs.declared.Bench.{Bench}
 use Rattle.bench.specs.declared.Place.the-variants.{At, Nowhere}
 use Rattle.bench_laws.specs.Sound.{codesOf}
 use Rattle.searching.specs.Thermometers.{unstaged}
-use Rattle.master_rules.specs.Access.{addressed, bytesShown, admission, readAt}
+use Rattle.master_rules.specs.Access.{addressed, bytesShown, admission, readAt, writeAt}
 use Rattle.master_rules.specs.Issued.{issued}
-use Rattle.history.specs.History.{Call, Typed, Code64, after}
+use Rattle.history.specs.History.{Call, finishConversion, Typed, Code64, after}
 use Rattle.addressing.specs.Unrefused.{readBits}
 
 abbrev pub shownAt : Bench → ℕ → List ℕ
@@ -66,8 +71,21 @@ ReadAnswer = (h : List Call) → Each Typed h → (code i : ℕ) → free (after
       refusal = accepted;
       pad = nineBytes (deviceAt (after h) i .scratchpad);
       reading = readingIn (rowOf code) (deviceAt (after h) i .scratchpad);
+      fine = fineIn (rowOf code) (deviceAt (after h) i .scratchpad);
       bench = issued (readBits code ∷ []) (after h) .bench;
     }
 
-abbrev pub NeverOutOfRange : Type 0
-NeverOutOfRange = (h : List Call) → Each Typed h → (code : ℕ) → Code64 code → readAt (after h) code .refusal ≢ outOfRange
+-- s sixteenths are 4 s over 64 degrees
+abbrev pub FineIsCount : Type 0
+FineIsCount = (h : List Call) (code : ℕ) (count : Sixteenths) → Each Typed h → Typed (finishConversion code count) → rowOf code .unit ≡ inHalfDegrees
+    → conversionFinished (after h) code count .refusal ≡ accepted
+    → let b = after (h ++ (finishConversion code count ∷ [])) in
+    free b ≡ true → readAt b code .fine ≡ record { numerator = count .0 *ℤ pos 4; denominator = 64 }
+
+-- the refusals of a reply that came through whole and cannot be
+abbrev pub damage : List ℕ
+damage = allZero ∷ outOfRange ∷ wrongCounts ∷ []
+
+abbrev pub NeverDamaged : Type 0
+NeverDamaged = (h : List Call) → Each Typed h → (code : ℕ) → Code64 code
+    → Each (λ n. readAt (after h) code .refusal ≢ n) damage × ((s : Settings) → Each (λ n. writeAt (after h) code s .refusal ≢ n) damage)

@@ -4,7 +4,6 @@
 --     bitLine                REFUSAL PRESENCE of a reset, REFUSAL LINE of a slot
 --     searchLine             REFUSAL CODES PASSES SLOTS BYTES of a search
 --     codeLine, codeLines    a code that a search listed, and all of them
---     accessLine             REFUSAL PAD READING of a read or a write at a code
 --     showLine               REFUSAL PAD8 EEPROM FLAG BUSY of a device, and zeros for a code that is not on the bench
 -- Assumes nothing.
 use Prim.Native.Nat.{ℕ}
@@ -18,8 +17,6 @@ use Rattle.text.specs.Ascii.{ascii}
 use Rattle.text.specs.Decimal.{decimal}
 use Rattle.text.specs.Digits.{codeDigits, hexOf}
 use Rattle.putting.specs.Putting.{line, flag}
-use Rattle.temperature.specs.declared.Reading.{Reading}
-use Rattle.temperature.specs.Register.{registerOf}
 use Rattle.device.specs.declared.Activity.{Activity}
 use Rattle.device.specs.declared.Activity.the-variants.{Idle, Converting, Copying}
 use Rattle.device.specs.declared.Settings.{Settings}
@@ -43,13 +40,6 @@ codeLine code = line (codeDigits code ∷ [])
 unfoldable pub codeLines : List ℕ → List ℕ
 codeLines [] = []
 codeLines (c ∷ cs) = codeLine c ++ codeLines cs
-
--- the four digits of a reading, byte 1 of its register first
-abbrev pub readingDigits : Reading → List ℕ
-readingDigits r = hexOf (registerOf r .high ∷ registerOf r .low ∷ [])
-
-unfoldable pub accessLine : ℕ → List ℕ → Reading → List ℕ
-accessLine r pad reading = line (decimal r ∷ hexOf pad ∷ readingDigits reading ∷ [])
 
 -- the six digits of EEPROM bytes; a family without a configuration holds 0 there
 abbrev pub settingsDigits : Settings → List ℕ

@@ -13,11 +13,10 @@ use Rattle.refusals.specs.Refusals.{accepted}
 use Rattle.bench.specs.declared.Looked.{Looked}
 use lib.Seq.{take-suc}
 use Rattle.text.specs.DigitsLaws.{digits-length, hex-length}
-use Rattle.temperature.specs.declared.Reading.{Reading}
 use Rattle.device.specs.declared.Activity.{Activity}
 use Rattle.device.specs.declared.Activity.the-variants.{Idle, Converting, Copying}
 use Rattle.device.specs.declared.Settings.{Settings}
-use Rattle.answers.specs.Answers.{badLine, refusalLine, bitLine, searchLine, codeLine, codeLines, readingDigits, accessLine, settingsDigits, busyDigit, recordLine, showLine}
+use Rattle.answers.specs.Answers.{badLine, refusalLine, bitLine, searchLine, codeLine, codeLines, settingsDigits, busyDigit, recordLine, showLine}
 use Rattle.putting.specs.Putting.{lineRoom}
 use Rattle.putting.specs.FieldsLaws.{byte-digits, word-digits, flag-length}
 
@@ -58,14 +57,6 @@ code-length code = let l = digits-length 16 16 code in simp length-append (omega
 
 pub code-short : (code : ℕ) → length (codeLine code) ≤ lineRoom
 code-short code = let l = code-length code in omega arith
-
-pub access-short : (r : ℕ) (pad : List ℕ) (reading : Reading) → r < 256 → length pad ≡ 9 → length (accessLine r pad reading) ≤ lineRoom
-unfolding accessLine
-access-short r pad reading h k =
-    let a = byte-digits r h in
-    let b = hex-length pad in
-    let c : length (readingDigits reading) ≡ 4 = hex-length _ in
-    simp length-append (omega arith)
 
 pub record-short : (r : ℕ) (pad : List ℕ) (eeprom : Settings) (alarm : Bool) (activity : Activity) → r < 256 → length pad ≡ 8
     → length (recordLine r pad eeprom alarm activity) ≤ lineRoom

@@ -1,6 +1,6 @@
 // The lines that answer the calls of the bench console, laid at a place of a buffer.
 ghost use mathlib.Core.Path.{_≡_};
-ghost use Rattle.answers.specs.Answers.{badLine, refusalLine, bitLine, searchLine, codeLine, accessLine, recordLine, showLine};
+ghost use Rattle.answers.specs.Answers.{badLine, refusalLine, bitLine, searchLine, codeLine, recordLine, showLine};
 ghost use Rattle.answers.specs.Answers.{busyDigit};
 ghost use Rattle.putting.specs.Putting.{Puts, fieldNext, fieldLeaves, lineAnswer, lineLeaves};
 ghost use mathlib.Core.List.{[], _∷_};
@@ -16,13 +16,10 @@ use putting::put_char;
 use putting::put_digits;
 use putting::put_flag;
 use putting::put_number;
-use temperature::Reading;
 use text::LINE_FEED;
 use text::SPACE;
 
-// The nine bytes of a scratchpad as a master reads them, and the eight that a device holds.
-pub type Pad = [u8; 9];
-
+// The eight bytes of a scratchpad that a device holds.
 pub type Scratchpad = [u8; 8];
 
 fn put_bad(out: &mut [u8], at: usize) -> usize
@@ -123,29 +120,6 @@ pub fn code_line(out: &mut [u8], at: usize, code: u64) -> Written
         return no_room();
     }
     behind(put_digits(out, at, 16, code, LINE_FEED))
-}
-
-fn put_access(out: &mut [u8], at: usize, refusal: u8, pad: Pad, reading: Reading) -> usize
-    ensures { λ r. ⌜ Puts (now (out .entry)) at (accessLine refusal pad reading) (now (out .exit)) r ⌝ }
-{
-    let bytes = pad;
-    let register = temperature::register_of(reading);
-    let digits = [register.high, register.low];
-    let behind_refusal = put_number(out, at, refusal as u64, SPACE);
-    let behind_pad = put_bytes(out, behind_refusal, &bytes, SPACE);
-    put_bytes(out, behind_pad, &digits, LINE_FEED)
-}
-
-// To a read or a write at a code.
-pub fn access_line(out: &mut [u8], at: usize, refusal: u8, pad: Pad, reading: Reading) -> Written
-    ensures answer { λ r. ⌜ r ≡ lineAnswer (now (out .entry)) at (accessLine refusal pad reading) ⌝ }
-    ensures written { λ r. ⌜ now (out .exit) ≡ lineLeaves (now (out .entry)) at (accessLine refusal pad reading) ⌝ }
-{
-    let room = laying::has_room(out, at, LINE_ROOM);
-    if !room {
-        return no_room();
-    }
-    behind(put_access(out, at, refusal, pad, reading))
 }
 
 fn busy_digit(activity: Activity) -> u8

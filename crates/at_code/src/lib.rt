@@ -6,6 +6,7 @@ ghost use Rattle.at_code.specs.Replies.{byteReadOf, replied};
 use bench::Bench;
 use device::Settings;
 use family::Properties;
+use fine::FineDegrees;
 use master_rules::Access;
 use scratchpad::NineBytes;
 use temperature::Reading;
@@ -46,6 +47,10 @@ fn refuse(number: u8, bench: Bench) -> Access
         refusal: number,
         pad: [0; 9],
         reading: Reading::InSixteenths(Sixteenths(0)),
+        fine: FineDegrees {
+            numerator: 0,
+            denominator: 0,
+        },
         bench,
     }
 }
@@ -99,11 +104,13 @@ fn fetch(bench: Bench, code: u64) -> Access
     let judged = scratchpad::judge(rom::family_of(code), pad);
     if judged.refusal == refusals::ACCEPTED {
         let reading = judged.reading;
+        let fine = judged.fine;
         let after = reply.bench;
         return Access {
             refusal: refusals::ACCEPTED,
             pad,
             reading,
+            fine,
             bench: after,
         };
     }

@@ -11,7 +11,8 @@ use Rattle.bench.specs.declared.Changed.{Changed}
 use Rattle.bench.specs.declared.ResetDone.{ResetDone}
 use Rattle.bench.specs.declared.Slotted.{Slotted}
 use Rattle.master_rules.specs.declared.Access.{Access}
-use Rattle.answers.specs.Answers.{refusalLine, bitLine, accessLine}
+use Rattle.answers.specs.Answers.{refusalLine, bitLine}
+use Rattle.access_answers.specs.AccessLine.{accessLine}
 use Rattle.putting.specs.Putting.{lineAnswer, lineLeaves}
 use Rattle.call_answers.specs.declared.Said.{Said}
 
@@ -35,7 +36,7 @@ abbrev pub ofSlot : Slotted → Answered
 ofSlot r = says (bitLine (r .refusal) (r .line)) (r .bench)
 
 abbrev pub ofAccess : Access → Answered
-ofAccess r = says (accessLine (r .refusal) (r .pad) (r .reading)) (r .bench)
+ofAccess r = says (accessLine (r .refusal) (r .pad) (r .reading) (r .fine)) (r .bench)
 
 -- ## Said in one line
 

@@ -83,7 +83,8 @@ pub fn access(done: Access, out: &mut [u8]) -> Said
     let bench = done.bench;
     let pad = done.pad;
     let reading = done.reading;
-    let w = answers::access_line(out, 0, done.refusal, pad, reading);
+    let fine = done.fine;
+    let w = access_answers::access_line(out, 0, done.refusal, pad, reading, fine);
     say(w, bench)
 }
 

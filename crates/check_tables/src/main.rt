@@ -1,7 +1,7 @@
 // Prints, for each count of sixteenths from -880 to 2000, the register that it is stored as and the
-// number that this register reads back as: by a family that counts half degrees, then by one that
-// counts sixteenths at 9, 10, 11 and 12 bits. The stored output is that of the second implementation
-// under tests/.
+// number that this register reads back as: by a family that counts half degrees, with the count byte
+// behind it, then by one that counts sixteenths at 9, 10, 11 and 12 bits. The stored output is that of
+// the second implementation under tests/.
 use family::Unit;
 use libc::STDOUT_FILENO;
 use temperature::Reading;
@@ -65,6 +65,8 @@ fn say_line(above: u16) {
     let count = count_of(above);
     say_number(count.0);
     say_stored(Unit::HalfDegrees, count, 0);
+    say(b" ");
+    io::print_decimal(STDOUT_FILENO, fine::remaining(count) as u64);
     say_stored(Unit::Sixteenths, count, BITS_9);
     say_stored(Unit::Sixteenths, count, BITS_10);
     say_stored(Unit::Sixteenths, count, BITS_11);

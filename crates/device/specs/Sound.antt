@@ -1,5 +1,5 @@
 -- What holds of every device that the calls reach (the scope, "One slot" and "Temperatures"): the configuration of a family that has one is in its
--- stored form wherever it is kept, the stored reading is in range, and the flag is the verdict on the page.
+-- stored form wherever it is kept, the stored reading is in range, the counts behind it can be believed, and the flag is the verdict on the page.
 --     verdictOn page          whether a page is not empty and its reading is at or past a limit of the page
 --     PadSound row pad        what holds of a scratchpad
 --     Sound d                 what holds of a device
@@ -14,6 +14,7 @@ use Rattle.family.specs.Layout.{configurationPlace}
 use Rattle.family.specs.declared.Properties.{Properties}
 use Rattle.temperature.specs.Range.{inRange}
 use Rattle.temperature.specs.Alarm.{verdict}
+use Rattle.scratchpad.specs.Judgement.{countsBelieved}
 use Rattle.scratchpad.specs.Stored.{rawIn}
 use Rattle.device.specs.declared.Activity.{Activity}
 use Rattle.device.specs.declared.Activity.the-variants.{Idle, Converting, Copying}
@@ -34,6 +35,7 @@ pub record PadSound (row : Properties) (pad : List ℕ) : Type 0 where
   pub eight : length pad ≡ 8
   pub in-form : inForm row (getD pad configurationPlace 0) ≡ true
   pub in-range : inRange (rawIn row pad) ≡ true
+  pub counts-believed : countsBelieved row pad ≡ true
 
 pub record Sound (d : Device) : Type 0 where
   pub pad-sound : PadSound (rowOf (d .code)) (d .scratchpad)

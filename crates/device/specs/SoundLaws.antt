@@ -23,7 +23,8 @@ use Rattle.temperature.specs.Range.{inRange}
 use Rattle.temperature.specs.declared.Reading.the-variants.{InSixteenths}
 use Rattle.temperature.specs.declared.Sixteenths.{Sixteenths}
 use Rattle.scratchpad.specs.Stored.{rawIn, scratchpadAfter}
-use Rattle.scratchpad.specs.StoredLaws.{raw-kept, after-length, after-other, after-raw, stored-range}
+use Rattle.scratchpad.specs.Judgement.{countsBelieved}
+use Rattle.scratchpad.specs.StoredLaws.{raw-kept, believed-kept, after-length, after-other, after-raw, after-believed, stored-range}
 use Rattle.device.specs.declared.Activity.the-variants.{Copying}
 use Rattle.device.specs.declared.Device.{Device}
 use Rattle.device.specs.declared.Joining.{Joining}
@@ -32,6 +33,7 @@ use Rattle.device.specs.declared.Settings.{Settings}
 use Rattle.device.specs.declared.Stage.{Stage}
 use Rattle.device.specs.Record.{withStage, withScratchpad, rowOf}
 use Rattle.device.specs.Settings.{settingsIn, withLimits, withSettings, settingByte}
+use Rattle.device.specs.SettingsLaws.{settings-few}
 use Rattle.device.specs.Hear.{hearOf}
 use Rattle.device.specs.Power.{resetOf, poweredUp, powerUp, joined}
 use Rattle.device.specs.Finish.{conversionDone, copyDone}
@@ -41,12 +43,13 @@ use Rattle.device.specs.Sound.{copyInForm, PadSound, Sound}
 -- ## The scratchpad
 
 -- a byte of 4Eh
-pub setting-sound : (row : Properties) (pad : List ℕ) (k byte : ℕ) → PadSound row pad → PadSound row (set pad (highLimitPlace + k) (settingByte row k byte))
-setting-sound row pad k byte p =
+pub setting-sound : (row : Properties) (pad : List ℕ) (k byte : ℕ) → k < 3 → PadSound row pad → PadSound row (set pad (highLimitPlace + k) (settingByte row k byte))
+setting-sound row pad k byte few p =
     record {
       eight = length-set pad _ _ ∙ p .eight;
       in-form = by-test (eqb k 2) refl;
       in-range = rw (raw-kept row pad (2 + k) (settingByte row k byte) (omega arith)) (p .in-range);
+      counts-believed = rw (believed-kept row pad (2 + k) (settingByte row k byte) (omega arith)) (p .counts-believed);
     }
   where
     by-test : (t : Bool) → eqb k 2 ≡ t → inForm row (getD (set pad (2 + k) (if t then keptConfiguration row byte else byte)) 4 0) ≡ true
@@ -58,12 +61,15 @@ setting-sound row pad k byte p =
         rw (getD-set-other pad (2 + k) 4 byte 0 (λ g. f (omega arith))) (p .in-form)
 
 -- the settings of EEPROM over a scratchpad, whatever its configuration was
-pub settings-sound : (row : Properties) (pad : List ℕ) (s : Settings) → length pad ≡ 8 → inRange (rawIn row pad) ≡ true → PadSound row (withSettings row pad s)
+pub settings-sound : (row : Properties) (pad : List ℕ) (s : Settings) → length pad ≡ 8 → inRange (rawIn row pad) ≡ true → countsBelieved row pad ≡ true → PadSound row (withSettings row pad s)
 unfolding withSettings
-settings-sound row pad s l r = by-test (row .configurable) refl
+settings-sound row pad s l r c = by-test (row .configurable) refl
   where
     limits-kept : rawIn row (withLimits pad s) ≡ rawIn row pad
     limits-kept = raw-kept row (set pad 2 (s .high)) 3 (s .low) (lit≤ tt) ∙ raw-kept row pad 2 (s .high) (lit≤ tt)
+
+    limits-believed : countsBelieved row (withLimits pad s) ≡ countsBelieved row pad
+    limits-believed = believed-kept row (set pad 2 (s .high)) 3 (s .low) (lit< tt) ∙ believed-kept row pad 2 (s .high) (lit< tt)
 
     limits-length : length (withLimits pad s) ≡ 8
     limits-length = simp length-set l
@@ -77,30 +83,39 @@ settings-sound row pad s l r = by-test (row .configurable) refl
           eight = length-set (withLimits pad s) _ _ ∙ limits-length;
           in-form = rw (getD-set-same (withLimits pad s) 4 kept 0 b) (kept-in-form row (s .configuration));
           in-range = rw (raw-kept row (withLimits pad s) 4 kept (lit≤ tt), limits-kept) r;
+          counts-believed = rw (believed-kept row (withLimits pad s) 4 kept (lit< tt), limits-believed) c;
         }
-    by-test false e = record { eight = limits-length; in-form = asked-none row (getD (withLimits pad s) 4 0) (getD (withLimits pad s) 4 0) e; in-range = rw limits-kept r }
+    by-test false e = record {
+      eight = limits-length;
+      in-form = asked-none row (getD (withLimits pad s) 4 0) (getD (withLimits pad s) 4 0) e;
+      in-range = rw limits-kept r;
+      counts-believed = rw limits-believed c;
+    }
 
 -- the end of a conversion
 pub after-sound : (row : Properties) (count : Sixteenths) (pad : List ℕ) → inRange (InSixteenths count) ≡ true → PadSound row pad
     → PadSound row (scratchpadAfter row count pad)
 after-sound row count pad h p = record {
   eight = after-length row count pad ∙ p .eight;
-  in-form = rw (after-other row count pad 4 (lit≤ tt)) (p .in-form);
+  in-form = rw (after-other row count pad 4 (lit≤ tt) (lit< tt)) (p .in-form);
   in-range = rw (after-raw row count pad h (p .eight)) (stored-range row count pad h);
+  counts-believed = after-believed row count pad (p .eight);
 }
 
--- the scratchpad that power finds: of every row of the table, eight bytes and a reading in range
+-- the scratchpad that power finds: of every row of the table, eight bytes, a reading in range and counts to believe
 startsSound : Properties → Bool
-startsSound row = eqb (length (row .initial)) 8 && inRange (rawIn row (row .initial))
+startsSound row = eqb (length (row .initial)) 8 && (inRange (rawIn row (row .initial)) && countsBelieved row (row .initial))
 
 initial-sound : (code : ℕ) (s : Settings) → PadSound (rowOf code) (withSettings (rowOf code) (rowOf code .initial) s)
 unfolding rowOf all startsSound
 initial-sound code s =
     let row = rowOf code in
+    let range = inRange (rawIn row (row .initial)) in
+    let counts = countsBelieved row (row .initial) in
     let test : startsSound row ≡ true = every-row startsSound refl (familyOf code) in
-    let eight = and-left (eqb (length (row .initial)) 8) (inRange (rawIn row (row .initial))) test in
-    let in-range = and-right (eqb (length (row .initial)) 8) (inRange (rawIn row (row .initial))) test in
-    settings-sound row (row .initial) s (eqb-true _ 8 eight) in-range
+    let eight = and-left (eqb (length (row .initial)) 8) (range && counts) test in
+    let rest = and-right (eqb (length (row .initial)) 8) (range && counts) test in
+    settings-sound row (row .initial) s (eqb-true _ 8 eight) (and-left range counts rest) (and-right range counts rest)
 
 -- ## The device
 
@@ -133,8 +148,8 @@ hear-sound d l s =
       moved = λ t. record { pad-sound = p; eeprom-in-form = s .eeprom-in-form; copy-in-form = s .copy-in-form; flag-is = s .flag-is };
       converts = λ t e i. record { pad-sound = p; eeprom-in-form = s .eeprom-in-form; copy-in-form = refl; flag-is = s .flag-is };
       copies = λ t e i. record { pad-sound = p; eeprom-in-form = s .eeprom-in-form; copy-in-form = settings-in-form row (d .scratchpad) p; flag-is = s .flag-is };
-      recalls = λ t e i. with-pad (settings-sound row (d .scratchpad) (d .eeprom) (p .eight) (p .in-range));
-      setting-stored = λ k t e i n. with-pad (setting-sound row (d .scratchpad) k (shiftIn t l) p);
+      recalls = λ t e i. with-pad (settings-sound row (d .scratchpad) (d .eeprom) (p .eight) (p .in-range) (p .counts-believed));
+      setting-stored = λ k t e i n. with-pad (setting-sound row (d .scratchpad) k (shiftIn t l) (omega (arith, settings-few row)) p);
     })
   where
     row : Properties

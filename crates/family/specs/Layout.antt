@@ -18,5 +18,12 @@ lowLimitPlace = 3
 abbrev pub configurationPlace : ℕ
 configurationPlace = 4
 
+-- the counts behind a reading in half degrees: what is left to the next degree, and how many a degree has
+abbrev pub countRemainPlace : ℕ
+countRemainPlace = 6
+
+abbrev pub countPerDegreePlace : ℕ
+countPerDegreePlace = 7
+
 abbrev pub crcPlace : ℕ
 crcPlace = 8

@@ -19,6 +19,10 @@ pub const LOW_LIMIT: usize = 3;
 
 pub const CONFIGURATION: usize = 4;
 
+pub const COUNT_REMAIN: usize = 6;
+
+pub const COUNT_PER_DEGREE: usize = 7;
+
 pub const CRC: usize = 8;
 
 // The unit in which a family counts its readings.

@@ -1,5 +1,6 @@
 -- What every slot and every reset keeps, the master's calls keep: they make resets and slots, and nothing else, whether they are refused or not.
 --     read-keeps, write-keeps, outcome-keeps
+--     written-keeps      and so does the sending of settings
 -- Assumes nothing.
 use Prim.Native.Nat.{ℕ}
 use mathlib.Core.Bool.{Bool, true, false, not, _&&_, _||_}
@@ -60,7 +61,7 @@ module _ (Q : Bench → Type 0) (by-slot : (m : Bool) (b : Bench) → Q b → Q 
   chosen true a b p q = p
   chosen false a b p q = q
 
-  written-keeps : (row : Properties) (code : ℕ) (s : Settings) (b : Bench) → Q b → Q (settingsSent row code s b)
+  pub written-keeps : (row : Properties) (code : ℕ) (s : Settings) (b : Bench) → Q b → Q (settingsSent row code s b)
   unfolding settingsSent
   written-keeps row code s b q =
       let l = sent-keeps 8 (s .low) _ (sent-keeps 8 (s .high) _ (addressed-keeps code writeScratchpad b q)) in

@@ -110,10 +110,10 @@ pub fn lay_decimal(out: &mut [u8], at: usize, number: u64) -> Written
 }
 
 // How far a number is from zero.
-fn size_of(number: i16) -> u64
+fn size_of(number: i32) -> u64
     ensures { λ r. ⌜ r ≡ natAbs number ⌝ }
 {
-    let wide = number as i32;
+    let wide = number as i64;
     if 0 <= wide {
         return wide as u64;
     }
@@ -135,7 +135,7 @@ fn lay_negative(out: &mut [u8], at: usize, size: u64) -> Written
 }
 
 // A number with a minus in front where it is negative, laid at a place.
-pub fn lay_signed(out: &mut [u8], at: usize, number: i16) -> Written
+pub fn lay_signed(out: &mut [u8], at: usize, number: i32) -> Written
     ensures answer { λ r. ⌜ r ≡ layAnswer (now (out .entry)) at (signedDecimal number) ⌝ }
     ensures written { λ r. ⌜ now (out .exit) ≡ layLeaves (now (out .entry)) at (signedDecimal number) ⌝ }
 {

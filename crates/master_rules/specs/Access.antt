@@ -1,5 +1,5 @@
 -- Reading and writing at a code (the scope, "The master"). Both refuse in the order: the given code (5, 7; nothing sent), 10 (nothing sent), 4 (only the
--- reset sent), then of the reply 5, 6, 7, 11, and for a write 13. From 4 on the bench is as the reset and the slots sent left it.
+-- reset sent), then of the reply 5, 6, 7, 11, 20, and for a write 13. From 4 on the bench is as the reset and the slots sent left it.
 --     addressed code command b     the bench after 55h, the code and a function command
 --     bytesShown n b               the bytes that the line shows in 8 n read slots; afterSlots, the bench after them
 --     admission b code             the tests before anything is sent
@@ -22,6 +22,7 @@ use Rattle.family.specs.Layout.{highLimitPlace, lowLimitPlace, configurationPla
 use Rattle.family.specs.declared.Properties.{Properties}
 use Rattle.rom.specs.Code.{familyOf, codeRefusal}
 use Rattle.temperature.specs.declared.Reading.the-variants.{InSixteenths}
+use Rattle.fine.specs.Fine.{noFine}
 use Rattle.scratchpad.specs.Judgement.{judged}
 use Rattle.scratchpad.specs.declared.Judged.{Judged}
 use Rattle.search_law.specs.Wire.{slots}
@@ -34,12 +35,13 @@ use Rattle.master_rules.specs.declared.Access.{Access}
 use Rattle.searching.specs.Buses.{calls}
 use Rattle.master_rules.specs.Wire.{sent, shown}
 
--- an answer that refuses: nine zero bytes, a zero reading, and the bench as it then is
+-- an answer that refuses: nine zero bytes, a zero reading, no fine one, and the bench as it then is
 abbrev pub refusedAt : ℕ → Bench → Access
 refusedAt n b = record {
   refusal = n;
   pad = replicate 9 0;
   reading = InSixteenths (record { 0 = pos 0 });
+  fine = noFine;
   bench = b;
 }
 
@@ -65,7 +67,7 @@ bytesShown (suc n) b = byteShown b ∷ bytesShown n (afterSlots 8 b)
 -- a reply, judged for the family of the given code
 abbrev pub judgedReply : List ℕ → Bench → Judged → Access
 judgedReply pad b j =
-    if eqb (j .refusal) accepted then record { refusal = accepted; pad = pad; reading = j .reading; bench = b }
+    if eqb (j .refusal) accepted then record { refusal = accepted; pad = pad; reading = j .reading; fine = j .fine; bench = b }
     else refusedAt (j .refusal) b
 
 -- BEh to the device with the code, and its reply: nine bytes in 72 read slots

@@ -1,13 +1,15 @@
 // What the master's calls answer. The rules that the answers follow are in specs/.
 use bench::Bench;
+use fine::FineDegrees;
 use temperature::Reading;
 
-// The answer of a read or a write at a code: the nine bytes of the scratchpad and the reading, or a
-// refusal with zeros; and the bench as the reset and the slots sent left it.
+// The answer of a read or a write at a code: the nine bytes of the scratchpad, the reading and the fine
+// reading, or a refusal with zeros; and the bench as the reset and the slots sent left it.
 pub struct Access {
     pub refusal: u8,
     pub pad: [u8; 9],
     pub reading: Reading,
+    pub fine: FineDegrees,
     pub bench: Bench,
 }
 

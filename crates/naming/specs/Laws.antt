@@ -15,14 +15,14 @@ use Rattle.lists.specs.Choice.{if_then_else_}
 use Rattle.bits.specs.Bits.{bitNumber, bitsOf, numberOf, bytesBits}
 use Rattle.bits.specs.BitsLaws.{number-lt, bytes-length}
 use Rattle.commands.specs.Commands.{searchRom, alarmSearch}
-use Rattle.refusals.specs.Refusals.{accepted, wrongCrc, allZero, wrongKind, outOfRange, badTriple}
+use Rattle.refusals.specs.Refusals.{accepted, wrongCrc, allZero, wrongKind, outOfRange, badTriple, wrongCounts}
 use Rattle.family.specs.Families.{propertiesOf}
 use Rattle.family.specs.declared.Properties.{Properties}
 use Rattle.crc.specs.Crc.{crcBits}
 use Rattle.rom.specs.Code.{crcByteOf, familyOf, codeRefusal}
 use Rattle.temperature.specs.Range.{inRange}
-use Rattle.scratchpad.specs.Judgement.{crcRight, allZeros, kindRight, refusedPad, judged}
-use Rattle.scratchpad.specs.Stored.{readingIn}
+use Rattle.scratchpad.specs.Judgement.{crcRight, allZeros, kindRight, countsBelieved, refusedPad, judged}
+use Rattle.scratchpad.specs.Stored.{readingIn, fineIn}
 use Rattle.frame.specs.declared.Frame.{Frame}
 use Rattle.naming.specs.declared.Name.{Name}
 use Rattle.naming.specs.declared.Name.the-variants.{Empty, Search, Alarm, Nobody, Pad, Other}
@@ -171,18 +171,20 @@ code-small c = by-test (not (eqb (crcByteOf c) (crcBits 0 (bitsOf 56 c)))) (not 
 
 judged-small : (family : ℕ) (pad : List ℕ) → judged family pad .refusal < 100
 unfolding judged
-judged-small family pad = by-test (not (crcRight pad)) (allZeros pad) (not (kindRight row pad)) (not (inRange (readingIn row pad)))
+judged-small family pad = by-test (not (crcRight pad)) (allZeros pad) (not (kindRight row pad)) (not (inRange (readingIn row pad))) (not (countsBelieved row pad))
   where
     row : Properties
     row = propertiesOf family
 
-    by-test : (t u v w : Bool)
-        → (if t then refusedPad wrongCrc else if u then refusedPad allZero else if v then refusedPad wrongKind else if w then refusedPad outOfRange else record { refusal = accepted; reading = readingIn row pad }) .refusal < 100
-    by-test true u v w = lit< tt
-    by-test false true v w = lit< tt
-    by-test false false true w = lit< tt
-    by-test false false false true = lit< tt
-    by-test false false false false = lit< tt
+    by-test : (t u v w x : Bool)
+        → (if t then refusedPad wrongCrc else if u then refusedPad allZero else if v then refusedPad wrongKind else if w then refusedPad outOfRange else if x then refusedPad wrongCounts
+        else record { refusal = accepted; reading = readingIn row pad; fine = fineIn row pad }) .refusal < 100
+    by-test true u v w x = lit< tt
+    by-test false true v w x = lit< tt
+    by-test false false true w x = lit< tt
+    by-test false false false true x = lit< tt
+    by-test false false false false true = lit< tt
+    by-test false false false false false = lit< tt
 
 coded-small : (n : Name) (c : ℕ) → coded n c .refusal < 100
 coded-small n c = by-test (eqb (codeRefusal c) accepted)

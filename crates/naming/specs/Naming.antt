@@ -1,5 +1,5 @@
 -- What a frame is named (the scope, "Frames"): EMPTY, SEARCH, ALARM, NOBODY, PAD or OTHER, with the code and the raw reading it shows, or the
--- refusal 14, 5, 6, 7 or 11, the first of these that anything in the frame gives. EMPTY, NOBODY and OTHER give no refusal.
+-- refusal 14, 5, 6, 7, 11 or 20, the first of these that anything in the frame gives. EMPTY, NOBODY and OTHER give no refusal.
 --     nameNumber n           the number of a name, 1 to 6 in the scope's order
 --     named f                what a frame is named
 --     frameNumber f          the number of a frame's name
@@ -124,7 +124,7 @@ rawOf pad = getD pad readingLowPlace 0 + 256 * getD pad readingHighPlace 0
 abbrev pub believed : ℕ → List ℕ → Judged → Named
 believed c pad j = if eqb (j .refusal) accepted then record { refusal = accepted; name = Pad; code = c; raw = rawOf pad } else refusedName (j .refusal)
 
--- 5 for the code's CRC or the scratchpad's, then 6, 7 and 11, an unknown family of the code among the 7
+-- 5 for the code's CRC or the scratchpad's, then 6, 7, 11 and 20, an unknown family of the code among the 7
 abbrev pub namedPad : ℕ → List ℕ → Named
 namedPad c pad = if eqb (codeRefusal c) wrongCrc then refusedName wrongCrc else believed c pad (judged (familyOf c) pad)
 

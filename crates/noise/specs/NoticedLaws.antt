@@ -15,14 +15,14 @@ use Rattle.lists.specs.Choice.{if_then_else_}
 use Rattle.bits.specs.Bits.{bitsOf, numberOf, bytesBits}
 use Rattle.bits.specs.BitsLaws.{bits-append, bits-block, bits-length, number-bits, bytes-length}
 use Rattle.bits.specs.BytesLaws.{bytes-same}
-use Rattle.refusals.specs.Refusals.{accepted, wrongCrc, allZero, wrongKind, outOfRange}
+use Rattle.refusals.specs.Refusals.{accepted, wrongCrc, allZero, wrongKind, outOfRange, wrongCounts}
 use Rattle.family.specs.Families.{propertiesOf}
 use Rattle.crc.specs.Crc.{crcBits, crcOf}
 use Rattle.rom.specs.Code.{familyOf, crcByteOf, codeBits, codeRefusal}
 use Rattle.temperature.specs.Range.{inRange}
-use Rattle.temperature.specs.declared.Reading.{Reading}
-use Rattle.scratchpad.specs.Judgement.{crcRight, allZeros, kindRight, refusedPad, judged}
-use Rattle.scratchpad.specs.Stored.{readingIn}
+use Rattle.scratchpad.specs.Judgement.{crcRight, allZeros, kindRight, countsBelieved, refusedPad, judged}
+use Rattle.scratchpad.specs.Stored.{readingIn, fineIn}
+use Rattle.scratchpad.specs.declared.Judged.{Judged}
 use Rattle.noise.specs.Claims.{Noticed, NineBytes, ScratchpadsNoticed, CodesNoticed}
 use Rattle.noise.specs.DifferencesLaws.{differ-somewhere}
 use Rattle.noise.specs.DistanceLaws.{distance}
@@ -80,19 +80,22 @@ crc-right-zero pad p =
     )
 
 -- past the test of the CRC no refusal is 5
-later-not-five : (z k r : Bool) (t : Reading)
-    → (if z then refusedPad allZero else if not k then refusedPad wrongKind else if not r then refusedPad outOfRange
-    else record { refusal = accepted; reading = t }) .refusal ≡ wrongCrc → ⊥
-later-not-five true k r t e = omega arith
-later-not-five false false r t e = omega arith
-later-not-five false true false t e = omega arith
-later-not-five false true true t e = omega arith
+later-not-five : (z k r c : Bool) (j : Judged) → j .refusal ≡ accepted
+    → (if z then refusedPad allZero else if not k then refusedPad wrongKind else if not r then refusedPad outOfRange else if not c then refusedPad wrongCounts else j) .refusal ≡ wrongCrc
+    → ⊥
+later-not-five true k r c j a e = omega arith
+later-not-five false false r c j a e = omega arith
+later-not-five false true false c j a e = omega arith
+later-not-five false true true false j a e = omega arith
+later-not-five false true true true j a e = omega arith
 
 right-not-five : (family : ℕ) (pad : List ℕ) → crcRight pad ≡ true → judged family pad .refusal ≡ wrongCrc → ⊥
 unfolding judged
 right-not-five family pad r e =
     let row = propertiesOf family in
-    later-not-five (allZeros pad) (kindRight row pad) (inRange (readingIn row pad)) (readingIn row pad) (rw r at e)
+    later-not-five (allZeros pad) (kindRight row pad) (inRange (readingIn row pad)) (countsBelieved row pad)
+    (record { refusal = accepted; reading = readingIn row pad; fine = fineIn row pad })
+    refl (rw r at e)
 
 wrong-five : (family : ℕ) (pad : List ℕ) → crcRight pad ≡ false → judged family pad .refusal ≡ wrongCrc
 unfolding judged

@@ -7,7 +7,8 @@ use native.Mathlib.Omega.{arith}
 use borrow.Author.Tests.{le-ltb}
 use lib.IntN.{ℤ, pos, negsuc}
 use lib.ListN.{length}
-use Rattle.signed.specs.Complement.{Fits16}
+use mir.Syntax.{w32}
+use mir.Val.{SFits}
 use Rattle.text.specs.Decimal.{decimal, signedDecimal}
 use Rattle.text.specs.DecimalLaws.{decimal-length, decimal-most}
 use Rattle.putting.specs.Putting.{flag}
@@ -18,11 +19,14 @@ byte-digits x h = let l = decimal-length x in let m = decimal-most x 2 (omega ar
 pub word-digits : (x : ℕ) → x < 65536 → length (decimal x) ≤ 5
 word-digits x h = let l = decimal-length x in let m = decimal-most x 4 (omega arith) in omega arith
 
--- a number of sixteen bits with its sign
-pub signed-digits : (z : ℤ) → Fits16 z → length (signedDecimal z) ≤ 6
+long-digits : (x : ℕ) → x < 4294967296 → length (decimal x) ≤ 10
+long-digits x h = let l = decimal-length x in let m = decimal-most x 9 (omega arith) in omega arith
+
+-- a number of thirty-two bits with its sign
+pub signed-digits : (z : ℤ) → SFits w32 z → length (signedDecimal z) ≤ 11
 unfolding signedDecimal
-signed-digits (pos n) f = let l = word-digits n (omega (arith, f .sfits)) in rw (le-ltb n 0 (omega arith)) (omega arith)
-signed-digits (negsuc n) f = let l = word-digits (suc n) (omega (arith, f .sfits)) in omega arith
+signed-digits (pos n) f = let l = long-digits n (omega (arith, f .sfits)) in rw (le-ltb n 0 (omega arith)) (omega arith)
+signed-digits (negsuc n) f = let l = long-digits (suc n) (omega (arith, f .sfits)) in omega arith
 
 pub flag-length : (b : Bool) → length (flag b) ≡ 1
 flag-length true = omega arith

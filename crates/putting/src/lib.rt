@@ -51,7 +51,7 @@ pub fn put_number(out: &mut [u8], at: usize, number: u64, mark: u8) -> usize
 }
 
 // The same with a minus in front of a negative number.
-pub fn put_signed(out: &mut [u8], at: usize, number: i16, mark: u8) -> usize
+pub fn put_signed(out: &mut [u8], at: usize, number: i32, mark: u8) -> usize
     ensures answer { λ r. ⌜ r ≡ fieldNext (now (out .entry)) at (signedDecimal number) mark ⌝ }
     ensures written { λ r. ⌜ now (out .exit) ≡ fieldLeaves (now (out .entry)) at (signedDecimal number) mark ⌝ }
 {

@@ -60,3 +60,7 @@ mismatch = 13
 -- a search pass holds a triple that no device can give
 abbrev pub badTriple : ℕ
 badTriple = 14
+
+-- the count bytes of a scratchpad in half degrees cannot be: byte 7 is zero, or byte 6 above it
+abbrev pub wrongCounts : ℕ
+wrongCounts = 20

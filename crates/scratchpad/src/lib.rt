@@ -2,11 +2,13 @@
 // frame naming and the master's calls share.
 ghost use mathlib.Core.Path.{_≡_};
 ghost use Rattle.temperature.specs.Register.{registerOf};
-ghost use Rattle.scratchpad.specs.Stored.{readingIn, storedReading, withRegister, scratchpadAfter};
+ghost use Rattle.scratchpad.specs.Stored.{readingIn, fineIn, storedReading, withRegister, withCounts, scratchpadAfter};
 ghost use Rattle.temperature.specs.Degrees.{IsSixteenths};
 ghost use Rattle.scratchpad.specs.InDegrees.{sixteenthsOf, degreesIn};
-ghost use Rattle.scratchpad.specs.Judgement.{crcRight, allZeros, kindRight, refusedPad, judged};
+ghost use Rattle.scratchpad.specs.Judgement.{crcRight, allZeros, kindRight, countsBelieved, refusedPad, judged};
 use family::Properties;
+use family::Unit;
+use fine::FineDegrees;
 use temperature::Degrees;
 use temperature::Reading;
 use temperature::Sixteenths;
@@ -16,10 +18,12 @@ pub type EightBytes = [u8; 8];
 
 pub type NineBytes = [u8; 9];
 
-// A refusal, or 0 and the reading in the family's unit. A refusal's reading is zero.
+// A refusal, or 0, the reading in the family's unit and the fine reading, which is zero over zero where the
+// family has none. A refusal's readings are zero.
 pub struct Judged {
     pub refusal: u8,
     pub reading: Reading,
+    pub fine: FineDegrees,
 }
 
 // A refusal, or 0 and the temperature in degrees. A refusal's degrees are zero.
@@ -34,6 +38,10 @@ fn refuse(number: u8) -> Judged
     Judged {
         refusal: number,
         reading: Reading::InSixteenths(Sixteenths(0)),
+        fine: FineDegrees {
+            numerator: 0,
+            denominator: 0,
+        },
     }
 }
 
@@ -80,6 +88,27 @@ fn reading_in(row: Properties, pad: NineBytes) -> Reading
     )
 }
 
+fn counts_believed(row: Properties, pad: NineBytes) -> bool
+    ensures answer { λ r. ⌜ r ≡ countsBelieved row pad ⌝ }
+{
+    let unit = row.unit;
+    fine::counts_right(
+        unit,
+        pad[family::COUNT_REMAIN],
+        pad[family::COUNT_PER_DEGREE],
+    )
+}
+
+fn fine_in(row: Properties, pad: NineBytes) -> FineDegrees
+    ensures answer { λ r. ⌜ r ≡ fineIn row pad ⌝ }
+{
+    fine::fine_of(
+        reading_in(row, pad),
+        pad[family::COUNT_REMAIN],
+        pad[family::COUNT_PER_DEGREE],
+    )
+}
+
 // Judges a scratchpad of a device of this family.
 pub fn judge(family: u8, pad: NineBytes) -> Judged
     ensures answer { λ r. ⌜ r ≡ judged family pad ⌝ }
@@ -98,9 +127,13 @@ pub fn judge(family: u8, pad: NineBytes) -> Judged
     if !temperature::in_range(reading) {
         return refuse(refusals::OUT_OF_RANGE);
     }
+    if !counts_believed(row, pad) {
+        return refuse(refusals::WRONG_COUNTS);
+    }
     Judged {
         refusal: refusals::ACCEPTED,
         reading,
+        fine: fine_in(row, pad),
     }
 }
 
@@ -148,9 +181,28 @@ fn with_register(pad: EightBytes, reading: Reading) -> EightBytes
     next
 }
 
+fn with_counts(unit: Unit, count: Sixteenths, pad: EightBytes) -> EightBytes
+    ensures answer { λ r. ⌜ r ≡ withCounts unit count pad ⌝ }
+{
+    let mut next = pad;
+    match unit {
+        Unit::Sixteenths => next,
+        Unit::HalfDegrees => {
+            next[family::COUNT_REMAIN] = fine::remaining(count);
+            next[family::COUNT_PER_DEGREE] = fine::COUNTS_PER_DEGREE;
+            next
+        }
+    }
+}
+
 // The scratchpad after a conversion of this count.
 pub fn after_conversion(row: Properties, count: Sixteenths, pad: EightBytes) -> EightBytes
     ensures answer { λ r. ⌜ r ≡ scratchpadAfter row count pad ⌝ }
 {
-    with_register(pad, stored_reading(row, count, pad))
+    let unit = row.unit;
+    with_counts(
+        unit,
+        count,
+        with_register(pad, stored_reading(row, count, pad)),
+    )
 }

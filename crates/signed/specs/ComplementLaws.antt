@@ -97,6 +97,13 @@ signed-fits8 n h = rw (signed-read8 n h) (toZ-fits w8 n (record { fits = h }))
 pub wider : (w v : Width) (z : ℤ) → 2 ^ hbits w ≤ 2 ^ hbits v → SFits w z → SFits v z
 wider w v z l f = record { sfits = lt-of-lt-of-le (f .sfits) l }
 
+-- a number of sixteen bits, held by thirty-two
+pub widened : (z : ℤ) → Fits16 z → SFits w32 (read16 (held16 z))
+widened z f = rw (held-back z f) (wider w16 w32 z (lit≤ tt) f)
+
+pub widened-back : (z : ℤ) → Fits16 z → toZ w32 (ofZ w32 (read16 (held16 z))) ≡ z
+widened-back z f = toZ-ofZ w32 (read16 (held16 z)) (widened z f) ∙ held-back z f
+
 -- ## What fits stays within sixteen bits when it is rounded: no function needs a range
 
 -- the code's shift is the division

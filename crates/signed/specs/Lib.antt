@@ -1,4 +1,5 @@
 pub mod Rounding
 pub mod RoundingLaws
+pub mod DifferencesLaws
 pub mod Complement
 pub mod ComplementLaws

@@ -1,27 +1,32 @@
--- What a conversion stores is rounded down to the step of its configuration (by the law of rounding, at any step), stays in range, keeps its whole degree, and is read back.
+-- What a conversion stores is rounded down to the step of its configuration (by the law of rounding, at any step) or the nearest half degree, stays in range, and is read back. Sixteenths keep the whole
+-- degree of the count; of half degrees it is that of four sixteenths more.
 -- Assumes nothing.
-use Prim.Native.Nat.{ℕ, _*_, _<_}
+use Prim.Native.Nat.{ℕ, suc, _*_, _/_, _<_, _≤_}
 use mathlib.Core.Path.{_≡_, refl, sym, ap, _∙_}
 use mathlib.Core.Bool.{Bool, true, false}
-use lib.Dec.{eqb, lit<}
+use native.Mathlib.Omega.{arith}
+use borrow.Author.Tests.{ltb-true, ltb-false}
+use lib.Dec.{eqb, ltb, lit<}
+use lib.IntN.{ℤ, pos, negsuc, subℕ, _+ℤ_}
+use lib.Signed.{mag}
 use Rattle.family.specs.Configuration.{resolution}
 use Rattle.family.specs.declared.Unit.{Unit}
 use Rattle.family.specs.declared.Unit.the-variants.{Sixteenths as inSixteenths, HalfDegrees as inHalfDegrees}
 use Rattle.lists.specs.Choice.{if_then_else_}
 use Rattle.signed.specs.Complement.{Fits16}
-use Rattle.signed.specs.ComplementLaws.{floor-fits, div-fits}
-use Rattle.signed.specs.Rounding.{floorTo}
-use Rattle.signed.specs.RoundingLaws.{floor-below, floor-near, floor-again, floor-div}
+use Rattle.signed.specs.ComplementLaws.{floor-fits}
+use Rattle.signed.specs.DifferencesLaws.{plus-size}
+use Rattle.signed.specs.Rounding.{floorDiv, floorTo}
+use Rattle.signed.specs.RoundingLaws.{sub-below, sub-above, floor-below, floor-near, floor-again, floor-div, div-div, div-size}
 use Rattle.temperature.specs.declared.Reading.{Reading}
 use Rattle.temperature.specs.declared.Reading.the-variants.{InSixteenths, InHalves}
 use Rattle.temperature.specs.declared.Sixteenths.{Sixteenths}
-use Rattle.temperature.specs.RangeLaws.{between-div, between-floor}
+use Rattle.temperature.specs.RangeLaws.{between-div, between-floor, between-plus}
 use Rattle.temperature.specs.Range.{highestSixteenths, inRange, lowestSixteenths}
 use Rattle.temperature.specs.Register.{countOf, rawReading, clearedOf, readingOf, registerOf, unitOf}
 use Rattle.temperature.specs.RegisterLaws.{reading-register}
-use Rattle.temperature.specs.Units.{_atMost_, _below_, _plus_, _sixteenths, wholeOf}
-use Rattle.temperature.specs.UnitsLaws.{whole-halves}
-use Rattle.temperature.specs.Measured.{stepOf, roundedOf, measuredOf}
+use Rattle.temperature.specs.Units.{_atMost_, _below_, _plus_, _sixteenths, eightfold, wholeOf}
+use Rattle.temperature.specs.Measured.{stepOf, roundedOf, nearestHalves, measuredOf}
 
 -- ## The four steps
 
@@ -50,11 +55,11 @@ pub rounded-near : (count : Sixteenths) (configuration : ℕ)
     → count below roundedOf count configuration plus stepOf configuration sixteenths ≡ true
 rounded-near count configuration = floor-near (stepOf configuration) (count .0) (step-positive configuration)
 
--- ## The whole degree of what is stored is that of the count, since each step divides a degree
+-- ## The whole degree of what is stored
 
-pub whole-measured : (unit : Unit) (count : Sixteenths) (configuration : ℕ)
-    → wholeOf (measuredOf unit count configuration) ≡ wholeOf (InSixteenths count)
-whole-measured inSixteenths count configuration =
+-- each step divides a degree
+pub whole-rounded : (count : Sixteenths) (configuration : ℕ) → wholeOf (InSixteenths (roundedOf count configuration)) ≡ wholeOf (InSixteenths count)
+whole-rounded count configuration =
     each-step (λ s. wholeOf (InSixteenths (record { 0 = floorTo s (count .0) })) ≡ wholeOf (InSixteenths count))
     (whole 8 2 (lit< tt) refl)
     (whole 4 4 (lit< tt) refl)
@@ -64,7 +69,36 @@ whole-measured inSixteenths count configuration =
   where
     whole : (s t : ℕ) → 0 < s → s * t ≡ 16 → wholeOf (InSixteenths (record { 0 = floorTo s (count .0) })) ≡ wholeOf (InSixteenths count)
     whole s t h e = rw (sym e, floor-div (count .0) s t h)
-whole-measured inHalfDegrees count configuration = whole-halves count
+
+pub whole-nearest : (count : Sixteenths) → wholeOf (InHalves (nearestHalves count)) ≡ wholeOf (InSixteenths (count plus 4 sixteenths))
+whole-nearest count = ap (λ z. record { 0 = z }) (div-div (count .0 +ℤ pos 4) 8 2)
+
+-- ## The nearest half degree is at most four sixteenths from the count
+
+pub nearest-below : (count : Sixteenths) → eightfold (nearestHalves count) atMost count plus 4 sixteenths ≡ true
+unfolding floorTo
+nearest-below count = floor-below 8 (count .0 +ℤ pos 4) (lit< tt)
+
+pub nearest-near : (count : Sixteenths) → count plus 4 sixteenths below eightfold (nearestHalves count) plus 8 sixteenths ≡ true
+unfolding floorTo
+nearest-near count = floor-near 8 (count .0 +ℤ pos 4) (lit< tt)
+
+-- as the code makes it, within sixteen bits
+pub nearest-halved : (z : ℤ) → floorDiv (floorDiv z 4 +ℤ pos 1) 2 ≡ floorDiv (z +ℤ pos 4) 8
+nearest-halved (pos n) = ap pos (omega arith)
+nearest-halved (negsuc n) = by-test (ltb n 4) refl
+  where
+    by-test : (t : Bool) → ltb n 4 ≡ t → floorDiv (subℕ 1 (suc (n / 4))) 2 ≡ floorDiv (subℕ 4 (suc n)) 8
+    by-test true e =
+        let h = ltb-true n 4 e in
+        let q : suc (n / 4) ≤ 1 = omega arith in
+        let l : suc n ≤ 4 = omega arith in
+        rw (sub-above 1 (suc (n / 4)) q, sub-above 4 (suc n) l) (ap pos (omega arith))
+    by-test false e =
+        let h = ltb-false n 4 e in
+        let q : 1 < suc (n / 4) = omega arith in
+        let l : 4 < suc n = omega arith in
+        rw (sub-below 1 (suc (n / 4)) q, sub-below 4 (suc n) l) (ap negsuc (omega arith))
 
 -- ## A count in range is stored as a reading in range
 
@@ -78,7 +112,9 @@ measured-range inSixteenths count configuration h =
     (between-floor 2 lowestSixteenths highestSixteenths (count .0) (lit< tt) refl h)
     (between-floor 1 lowestSixteenths highestSixteenths (count .0) (lit< tt) refl h)
     configuration
-measured-range inHalfDegrees count configuration h = between-div 8 lowestSixteenths highestSixteenths (count .0) (lit< tt) h
+measured-range inHalfDegrees count configuration h =
+    between-div 8 (lowestSixteenths +ℤ pos 4) (highestSixteenths +ℤ pos 4) (count .0 +ℤ pos 4) (lit< tt)
+    (between-plus lowestSixteenths highestSixteenths (count .0) 4 h)
 
 -- ## What is stored fits the register, which gives it back
 
@@ -91,7 +127,10 @@ measured-fits inSixteenths count configuration f =
     (floor-fits (count .0) 2 16384 (lit< tt) refl f)
     (floor-fits (count .0) 1 32768 (lit< tt) refl f)
     configuration
-measured-fits inHalfDegrees count configuration f = div-fits (count .0) 8 f
+measured-fits inHalfDegrees count configuration f =
+    let s = plus-size (count .0) 4 in
+    let l : mag (count .0 +ℤ pos 4) < 8 * 32768 = omega (arith, f .sfits) in
+    record { sfits = div-size (count .0 +ℤ pos 4) 8 32768 (lit< tt) l }
 
 pub unit-measured : (unit : Unit) (count : Sixteenths) (configuration : ℕ) → unitOf (measuredOf unit count configuration) ≡ unit
 unit-measured inSixteenths count configuration = refl

@@ -1,13 +1,14 @@
--- A range by its two ends, and that rounding down keeps a range whose low end is a multiple of the step.
+-- A range by its two ends; that rounding down keeps a range whose low end is a multiple of the step; and that a range moves with its ends.
 -- Assumes nothing.
 use Prim.Native.Nat.{ℕ, _<_, _≤_}
 use mathlib.Core.Path.{_≡_}
 use mathlib.Core.Bool.{true}
 use native.Mathlib.Omega.{arith}
 use borrow.Author.Tests.{leb-true}
-use lib.IntN.{ℤ, pos, negsuc}
+use lib.IntN.{ℤ, pos, negsuc, _+ℤ_}
 use lib.Signed.{leZ, mag}
 use Rattle.lists.specs.ChoiceLaws.{and-left, and-right}
+use Rattle.signed.specs.DifferencesLaws.{le-plus}
 use Rattle.signed.specs.Rounding.{floorDiv, floorTo}
 use Rattle.signed.specs.RoundingLaws.{floor-below, floor-mono, div-mono, le-trans}
 use Rattle.temperature.specs.Range.{between}
@@ -37,3 +38,8 @@ pub between-div : (s : ℕ) (low high z : ℤ) → 0 < s → between low high z 
 between-div s low high z p e =
     let b = between-bounds low high z e in
     rw (div-mono low z s p (b .0), div-mono z high s p (b .1))
+
+pub between-plus : (low high z : ℤ) (n : ℕ) → between low high z ≡ true → between (low +ℤ pos n) (high +ℤ pos n) (z +ℤ pos n) ≡ true
+between-plus low high z n e =
+    let b = between-bounds low high z e in
+    rw (le-plus low z n (b .0), le-plus z high n (b .1))

@@ -7,7 +7,7 @@ use lib.Dec.{lit<, lit≤}
 use Rattle.signed.specs.Complement.{Fits16}
 use Rattle.signed.specs.ComplementLaws.{mul-fits}
 use Rattle.signed.specs.Rounding.{floorTo}
-use Rattle.signed.specs.RoundingLaws.{floor-below, floor-near, mul-div, div-div}
+use Rattle.signed.specs.RoundingLaws.{floor-below, floor-near, mul-div}
 use Rattle.temperature.specs.declared.HalfDegrees.{HalfDegrees}
 use Rattle.temperature.specs.declared.Reading.the-variants.{InSixteenths, InHalves}
 use Rattle.temperature.specs.declared.Sixteenths.{Sixteenths}
@@ -33,10 +33,6 @@ whole-below c = floor-below 16 (c .0) (lit< tt)
 pub whole-near : (c : Sixteenths) → c below sixteenfold (wholeOf (InSixteenths c)) plus 16 sixteenths ≡ true
 unfolding floorTo
 whole-near c = floor-near 16 (c .0) (lit< tt)
-
--- a count has the whole degree of its half degrees
-pub whole-halves : (c : Sixteenths) → wholeOf (InHalves (toHalfDegrees c)) ≡ wholeOf (InSixteenths c)
-whole-halves c = ap (λ z. record { 0 = z }) (div-div (c .0) 8 2)
 
 -- ## There and back
 

@@ -1,10 +1,11 @@
 // Temperatures that carry their unit in their type, the register that holds a reading, and the alarm
 // rule. The sensor counts sixteenths of a degree; the families store sixteenths or half degrees; limits
-// are whole degrees. Every conversion to a coarser unit rounds down, by a shift that copies the sign.
+// are whole degrees. Every conversion to a coarser unit rounds down, by a shift that copies the sign;
+// what a half-degree device stores is the nearest half.
 ghost use mathlib.Core.Path.{_≡_};
 ghost use Rattle.temperature.specs.Alarm.{alarmsAt, limitOf, limitByteOf, verdict};
 ghost use Rattle.temperature.specs.Degrees.{degreesOf, IsSixteenths};
-ghost use Rattle.temperature.specs.Measured.{measuredOf, roundedOf};
+ghost use Rattle.temperature.specs.Measured.{measuredOf, nearestHalves, roundedOf};
 ghost use Rattle.temperature.specs.Range.{between, inRange, wholeInRange, isLimit};
 ghost use Rattle.temperature.specs.Register.{countOf, countBytes, readingOf, registerOf};
 ghost use Rattle.temperature.specs.Units.{converted, notConverted, toHalfDegrees, toSixteenths, wholeToSixteenths, wholeOf};
@@ -218,13 +219,22 @@ fn rounded(count: Sixteenths, configuration: u8) -> Sixteenths
     }
 }
 
+// The nearest half degree: four sixteenths more, divided by eight and rounded down. Halved twice, since
+// four more than a 16-bit count may be none.
+fn nearest_halves(count: Sixteenths) -> HalfDegrees
+    ensures answer { λ r. ⌜ r ≡ nearestHalves count ⌝ }
+{
+    let z = count.0;
+    HalfDegrees(((z >> 2) + 1) >> 1)
+}
+
 // What a finished conversion stores for the sensor's count.
 pub fn measured(unit: Unit, count: Sixteenths, configuration: u8) -> Reading
     ensures answer { λ r. ⌜ r ≡ measuredOf unit count configuration ⌝ }
 {
     match unit {
         Unit::Sixteenths => Reading::InSixteenths(rounded(count, configuration)),
-        Unit::HalfDegrees => Reading::InHalves(to_half_degrees(count)),
+        Unit::HalfDegrees => Reading::InHalves(nearest_halves(count)),
     }
 }
 

@@ -18,6 +18,8 @@ pub const SPACE: u8 = 0x20;
 
 pub const MINUS: u8 = 0x2D;
 
+pub const SLASH: u8 = 0x2F;
+
 // A number that was read, or that there is none.
 pub struct NumberRead {
     pub valid: bool,

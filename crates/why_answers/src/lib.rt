@@ -25,9 +25,9 @@ fn put_fields(
 {
     let behind_refusal = putting::put_number(out, at, refusal as u64, SPACE);
     let behind_reason = putting::put_number(out, behind_refusal, reason as u64, SPACE);
-    let behind_reading = putting::put_signed(out, behind_reason, count, SPACE);
-    let behind_high = putting::put_signed(out, behind_reading, high, SPACE);
-    let behind_low = putting::put_signed(out, behind_high, low, SPACE);
+    let behind_reading = putting::put_signed(out, behind_reason, count as i32, SPACE);
+    let behind_high = putting::put_signed(out, behind_reading, high as i32, SPACE);
+    let behind_low = putting::put_signed(out, behind_high, low as i32, SPACE);
     putting::put_flag(out, behind_low, differs, LINE_FEED)
 }
 

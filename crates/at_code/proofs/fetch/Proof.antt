@@ -19,11 +19,11 @@ judge-requires c κs = search needs
 
 returns : tie.Need-returns
 returns c =
-    let judging = c .before .before .before in
+    let judging = c .before .before .before .before in
     let family = judging .before in
     let reply = family .before .before in
     let address = reply .before in
-    simp (fetched-by, ← address .address .ensures, ← reply .read-reply .ensures, ← family .family-of .ensures, ← judging .judge .ensures, eq-eqb _ _ (c .before .if1 .taken))
+    simp (fetched-by, ← address .address .ensures, ← reply .read-reply .ensures, ← family .family-of .ensures, ← judging .judge .ensures, eq-eqb _ _ (c .before .before .if1 .taken))
 
 refuse-requires : tie.Need-refuse-requires
 refuse-requires c κs = search needs

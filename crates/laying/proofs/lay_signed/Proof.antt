@@ -1,10 +1,11 @@
 -- By the sign, as the definition tests it. Assumes nothing.
-use Rattle.signed.specs.ComplementLaws.{held-back}
 use denote.Ref.{now}
 use lib.IntN.{natAbs}
 use mathlib.Core.Path.{ap, _∙_}
 use Rattle.text.specs.DecimalLaws.{signed-negative, signed-positive}
 use Rattle.laying.specs.Laying.{layAnswer, layLeaves}
+use mir.Syntax.{w32}
+use mir.ValLaws.{toZ-ofZ}
 use borrow.Author.Needs.{needs}
 use Rattle.laying.proofs.lay_signed.Statement.{statement}
 use Rattle.laying.proofs.lay_signed.Tie as tie
@@ -23,8 +24,8 @@ returns c =
     let laid = c .before .before .lay-negative .ensures in
     let test = c .before .before .before .before in
     let a = c .before .before .before .before .before .before .before in
-    let size = test .before .size-of .ensures ∙ ap natAbs (held-back (a .args .number) (a .fits .number)) in
-    let negative = rw (held-back (a .args .number) (a .fits .number)) at (test .if1 .taken) in
+    let size = test .before .size-of .ensures ∙ ap natAbs (toZ-ofZ w32 (a .args .number) (a .fits .number)) in
+    let negative = rw (toZ-ofZ w32 (a .args .number) (a .fits .number)) at (test .if1 .taken) in
     let text = signed-negative (a .args .number) (test .before .size-of .result) size negative in
     (laid .0 ∙ ap (layAnswer (now (a .args .out)) (a .args .at)) text, laid .1 ∙ ap (layLeaves (now (a .args .out)) (a .args .at)) text)
 
@@ -39,8 +40,8 @@ returns-2 c =
     let laid = c .before .before .lay-decimal .ensures in
     let test = c .before .before .before .before in
     let a = c .before .before .before .before .before .before .before in
-    let size = test .before .size-of .ensures ∙ ap natAbs (held-back (a .args .number) (a .fits .number)) in
-    let positive = rw (held-back (a .args .number) (a .fits .number)) at (test .if1 .left) in
+    let size = test .before .size-of .ensures ∙ ap natAbs (toZ-ofZ w32 (a .args .number) (a .fits .number)) in
+    let positive = rw (toZ-ofZ w32 (a .args .number) (a .fits .number)) at (test .if1 .left) in
     let text = signed-positive (a .args .number) (test .before .size-of .result) size positive in
     (laid .0 ∙ ap (layAnswer (now (a .args .out)) (a .args .at)) text, laid .1 ∙ ap (layLeaves (now (a .args .out)) (a .args .at)) text)
 

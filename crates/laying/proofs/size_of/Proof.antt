@@ -7,25 +7,25 @@ use borrow.Author.Tests.{leb-false}
 use lib.Dec.{T, lit≤}
 use lib.IntN.{ℤ, pos, negsuc, natAbs, _-ℤ_}
 use lib.Signed.{leZ, nonNeg}
-use mir.Syntax.{w16, w32, w64}
+use mir.Syntax.{w32, w64}
 use mir.Val.{Fits, SFits, toZ, ofZ}
 use mir.ValLaws.{toZ-ofZ}
-use Rattle.signed.specs.ComplementLaws.{held-back, wider}
+use Rattle.signed.specs.ComplementLaws.{wider}
 use Rattle.laying.proofs.size_of.Statement.{statement}
 use Rattle.laying.proofs.size_of.Tie as tie
 
-module _ (z : ℤ) (f : SFits w16 z) where
-  held : toZ w16 (ofZ w16 z) ≡ z
-  held = held-back z f
+module _ (z : ℤ) (f : SFits w32 z) where
+  held : toZ w32 (ofZ w32 z) ≡ z
+  held = toZ-ofZ w32 z f
 
-  fits-wide : SFits w32 z
-  fits-wide = wider w16 w32 z (lit≤ tt) f
+  fits-wide : SFits w64 z
+  fits-wide = wider w32 w64 z (lit≤ tt) f
 
-  wide : toZ w32 (ofZ w32 (toZ w16 (ofZ w16 z))) ≡ z
-  wide = rw held (toZ-ofZ w32 z fits-wide)
+  wide : toZ w64 (ofZ w64 (toZ w32 (ofZ w32 z))) ≡ z
+  wide = rw held (toZ-ofZ w64 z fits-wide)
 
 -- a number from zero on
-from-zero : (z : ℤ) → SFits w16 z → leZ (pos 0) z ≡ true → T (nonNeg z) × Fits w64 (natAbs z)
+from-zero : (z : ℤ) → SFits w32 z → leZ (pos 0) z ≡ true → T (nonNeg z) × Fits w64 (natAbs z)
 from-zero (pos n) f t = (tt, record { fits = omega (arith, f .sfits) })
 from-zero (negsuc n) f t = absurd (let z : _≡_ {A = ℕ} 0 1 = cc in omega arith)
 
@@ -33,7 +33,7 @@ opposite : (z : ℤ) → leZ (pos 0) z ≡ false → pos 0 -ℤ z ≡ pos (natAb
 opposite (pos n) t = absurd (let h = leb-false 0 n t in omega arith)
 opposite (negsuc n) t = ap pos (omega arith)
 
-size-fits : (z : ℤ) → SFits w16 z → SFits w32 (pos (natAbs z)) × Fits w64 (natAbs z)
+size-fits : (z : ℤ) → SFits w32 z → SFits w64 (pos (natAbs z)) × Fits w64 (natAbs z)
 size-fits (pos n) f = (record { sfits = omega (arith, f .sfits) }, record { fits = omega (arith, f .sfits) })
 size-fits (negsuc n) f = (record { sfits = omega (arith, f .sfits) }, record { fits = omega (arith, f .sfits) })
 
@@ -59,13 +59,13 @@ cast-result-2 : tie.Need-cast-result-2
 cast-result-2 c =
     let z = c .before .args .number in
     let f = c .before .fits .number in
-    rw (wide z f, opposite z (rw (wide z f) at (c .if1 .left)), toZ-ofZ w32 (pos (natAbs z)) (size-fits z f .0)) (tt, size-fits z f .1)
+    rw (wide z f, opposite z (rw (wide z f) at (c .if1 .left)), toZ-ofZ w64 (pos (natAbs z)) (size-fits z f .0)) (tt, size-fits z f .1)
 
 returns-2 : tie.Need-returns-2
 returns-2 c =
     let z = c .before .args .number in
     let f = c .before .fits .number in
-    rw (wide z f, opposite z (rw (wide z f) at (c .if1 .left)), toZ-ofZ w32 (pos (natAbs z)) (size-fits z f .0)) refl
+    rw (wide z f, opposite z (rw (wide z f) at (c .if1 .left)), toZ-ofZ w64 (pos (natAbs z)) (size-fits z f .0)) refl
 
 pub size-of-spec : {M : Type 1} → statement M
 size-of-spec =

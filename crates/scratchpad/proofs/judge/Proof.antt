@@ -68,15 +68,36 @@ returns-4 c =
     simp
     (c .refuse4 .ensures, ← crc .crc-right .ensures, if1 .if1 .left, ← zeros .all-zeros .ensures, if2 .if2 .left, ← row .properties-of .ensures, ← kind .kind-right .ensures, if3 .if3 .left, ← reading .reading-in .ensures, ← range .in-range .ensures, if4 .if4 .taken)
 
+counts-believed-requires : tie.Need-counts-believed-requires
+counts-believed-requires c κs = search needs
+
+refuse-requires-5 : tie.Need-refuse-requires-5
+refuse-requires-5 c κs = search needs
+
 returns-5 : tie.Need-returns-5
 unfolding judged
 returns-5 c =
-    let range = c .before in let reading = range .before in
+    let if5 = c .before in let counts = if5 .before in
+    let if4 = counts .before in let range = if4 .before in let reading = range .before in
     let if3 = reading .before in let kind = if3 .before in let row = kind .before in
     let if2 = row .before in let zeros = if2 .before in
     let if1 = zeros .before in let crc = if1 .before in
     simp
-    (← crc .crc-right .ensures, if1 .if1 .left, ← zeros .all-zeros .ensures, if2 .if2 .left, ← row .properties-of .ensures, ← kind .kind-right .ensures, if3 .if3 .left, ← reading .reading-in .ensures, ← range .in-range .ensures, c .if4 .left)
+    (c .refuse5 .ensures, ← crc .crc-right .ensures, if1 .if1 .left, ← zeros .all-zeros .ensures, if2 .if2 .left, ← row .properties-of .ensures, ← kind .kind-right .ensures, if3 .if3 .left, ← reading .reading-in .ensures, ← range .in-range .ensures, if4 .if4 .left, ← counts .counts-believed .ensures, if5 .if5 .taken)
+
+fine-in-requires : tie.Need-fine-in-requires
+fine-in-requires c κs = search needs
+
+returns-6 : tie.Need-returns-6
+unfolding judged
+returns-6 c =
+    let if5 = c .before in let counts = if5 .before in
+    let if4 = counts .before in let range = if4 .before in let reading = range .before in
+    let if3 = reading .before in let kind = if3 .before in let row = kind .before in
+    let if2 = row .before in let zeros = if2 .before in
+    let if1 = zeros .before in let crc = if1 .before in
+    simp
+    (c .fine-in .ensures, ← crc .crc-right .ensures, if1 .if1 .left, ← zeros .all-zeros .ensures, if2 .if2 .left, ← row .properties-of .ensures, ← kind .kind-right .ensures, if3 .if3 .left, ← reading .reading-in .ensures, ← range .in-range .ensures, if4 .if4 .left, ← counts .counts-believed .ensures, if5 .if5 .left)
 
 pub judge-spec : {M : Type 1} → statement M
 judge-spec =
@@ -96,4 +117,8 @@ judge-spec =
     in-range-requires
     refuse-requires-4
     returns-4
-    returns-5)
+    counts-believed-requires
+    refuse-requires-5
+    returns-5
+    fine-in-requires
+    returns-6)

@@ -1,0 +1,2 @@
+pub mod AccessLine
+pub mod AccessLineLaws
