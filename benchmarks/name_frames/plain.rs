@@ -63,7 +63,7 @@ fn read(line: &[u8], fed: bool) -> Result<Frame, u8> {
 }
 
 fn known(family: u8) -> bool {
-    family == 0x10 || family == 0x28
+    family == 0x10 || family == 0x28 || family == 0x3B
 }
 
 fn pass_code(f: &Frame) -> Result<u64, u8> {
@@ -98,12 +98,14 @@ fn pad_reading(f: &Frame) -> Result<(u64, u16), u8> {
         return Err(6);
     }
     let family = code_bytes[0];
-    if !known(family) || (family == 0x28 && pad[4] != (pad[4] & 0x60) + 0x1F) {
+    // A DS1825 has its pins in the low four bits.
+    let form = if family == 0x3B { 0x90 } else { 0x9F };
+    if !known(family) || (family != 0x10 && pad[4] & form != 0x1F & form) {
         return Err(7);
     }
     let raw = u16::from_le_bytes([pad[0], pad[1]]);
-    let (low, high) = if family == 0x28 { (-880, 2000) } else { (-110, 250) };
-    let undefined = if family == 0x28 { 7 >> (pad[4] >> 5 & 3) } else { 0 };
+    let (low, high) = if family != 0x10 { (-880, 2000) } else { (-110, 250) };
+    let undefined = if family != 0x10 { 7 >> (pad[4] >> 5 & 3) } else { 0 };
     let reading = raw as i16 & !undefined;
     if reading < low || reading > high {
         return Err(11);

@@ -2,7 +2,7 @@
 
 use std::collections::HashMap;
 
-use crate::code::family_of;
+use crate::code::{family_of, Family};
 use crate::device::{Device, Power, Work};
 
 #[derive(Default)]
@@ -42,7 +42,7 @@ impl Bench {
         self.devices.iter_mut().find(|d| d.code == code).ok_or(12)
     }
 
-    pub fn add(&mut self, code: u64, power: Power, eeprom: [u8; 3]) -> Answer<()> {
+    pub fn add(&mut self, code: u64, power: Power, eeprom: [u8; 3], pins: u8) -> Answer<()> {
         let family = family_of(code)?;
         if self.look(code).is_ok() {
             return Err(8);
@@ -50,7 +50,10 @@ impl Bench {
         if self.devices.len() == 32 {
             return Err(9);
         }
-        self.devices.push(Device::new(code, family, power, eeprom));
+        if family == Family::Pinned && pins > 15 {
+            return Err(17);
+        }
+        self.devices.push(Device::new(code, family, power, eeprom, pins));
         Ok(())
     }
 

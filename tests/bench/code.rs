@@ -6,6 +6,8 @@ pub enum Family {
     S,
     /// 28h: DS18B20.
     B,
+    /// 3Bh: DS1825, with four address pins.
+    Pinned,
 }
 
 /// X^8 + X^5 + X^4 + 1 over the bits as they are sent, from a register of zero.
@@ -35,6 +37,7 @@ pub fn family_of(code: u64) -> Result<Family, u8> {
     match bytes[0] {
         0x10 => Ok(Family::S),
         0x28 => Ok(Family::B),
+        0x3B => Ok(Family::Pinned),
         _ => Err(7),
     }
 }

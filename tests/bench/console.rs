@@ -19,9 +19,9 @@ fn call(bench: &mut Bench, text: &str) -> Option<Vec<String>> {
         ["reset"] => bit(bench.reset()),
         ["slot", "0"] => bit(bench.slot(false)),
         ["slot", "1"] => bit(bench.slot(true)),
-        ["add", code, power, high, low, configuration] => {
+        ["add", code, power, high, low, configuration, ref pins @ ..] => {
             let eeprom = settings(high, low, configuration)?;
-            refusal(bench.add(hex(code, 16)?, power_kind(power)?, eeprom))
+            refusal(bench.add(hex(code, 16)?, power_kind(power)?, eeprom, address_pins(pins)?))
         }
         ["converted", code, count] => refusal(bench.converted(hex(code, 16)?, signed(count)?)),
         ["copied", code] => refusal(bench.copied(hex(code, 16)?)),
@@ -73,6 +73,15 @@ fn decimal(word: &str) -> Option<i32> {
     right.then(|| word.parse().unwrap())
 }
 
+/// At most one word, a number of eight bits in one to three digits; 0 where there is none.
+fn address_pins(words: &[&str]) -> Option<u8> {
+    match words {
+        [] => Some(0),
+        [word] if word.len() <= 3 => u8::try_from(decimal(word)?).ok(),
+        _ => None,
+    }
+}
+
 /// A decimal number with or without a minus, of 16 bits.
 fn signed(word: &str) -> Option<i16> {
     let value = match word.strip_prefix('-') {
@@ -103,13 +112,13 @@ fn digits(bytes: &[u8]) -> String {
     bytes.iter().map(|b| format!("{b:02X}")).collect()
 }
 
-/// The sixteen bits of the reading, without those that B's resolution leaves undefined.
+/// The sixteen bits of the reading, without those that a resolution leaves undefined.
 fn reading(code: u64, pad: &[u8; 9]) -> u16 {
     let raw = u16::from_le_bytes([pad[0], pad[1]]);
     match (code as u8, pad[4] >> 5 & 3) {
-        (0x28, 0) => raw & 0xFFF8,
-        (0x28, 1) => raw & 0xFFFC,
-        (0x28, 2) => raw & 0xFFFE,
+        (0x28 | 0x3B, 0) => raw & 0xFFF8,
+        (0x28 | 0x3B, 1) => raw & 0xFFFC,
+        (0x28 | 0x3B, 2) => raw & 0xFFFE,
         _ => raw,
     }
 }

@@ -60,6 +60,8 @@ pub struct Device {
     pub code: u64,
     pub family: Family,
     pub power: Power,
+    /// The address pins of a DS1825.
+    pins: u8,
     /// High limit, low limit and configuration; the last is 0 for S, which has none.
     pub eeprom: [u8; 3],
     pub pad: [u8; 8],
@@ -68,25 +70,31 @@ pub struct Device {
     stage: Stage,
 }
 
-/// The form in which B stores a configuration byte.
-pub fn stored(configuration: u8) -> u8 {
-    (configuration & 0x60) + 0x1F
+/// The form in which a configuration byte is stored: two bits of it, a 1, and four bits of the device's own.
+pub fn stored(configuration: u8, own: u8) -> u8 {
+    configuration & 0x60 | 0x10 | own
 }
 
 impl Device {
-    pub fn new(code: u64, family: Family, power: Power, given: [u8; 3]) -> Device {
-        let configuration = if family == Family::B { stored(given[2]) } else { 0 };
-        let eeprom = [given[0], given[1], configuration];
-        let mut device =
-            Device { code, family, power, eeprom, pad: [0; 8], flag: false, work: Work::Idle, stage: Stage::Quiet };
+    pub fn new(code: u64, family: Family, power: Power, given: [u8; 3], pins: u8) -> Device {
+        let (pad, flag, work, stage) = ([0; 8], false, Work::Idle, Stage::Quiet);
+        let mut device = Device { code, family, power, pins, eeprom: [given[0], given[1], 0], pad, flag, work, stage };
+        if family != Family::S {
+            device.eeprom[2] = device.stored(given[2]);
+        }
         device.power_up();
         device
+    }
+
+    /// B has ones where a DS1825 has its pins.
+    fn stored(&self, configuration: u8) -> u8 {
+        stored(configuration, if self.family == Family::Pinned { self.pins } else { 15 })
     }
 
     pub fn power_up(&mut self) {
         self.pad = match self.family {
             Family::S => [0xAA, 0x00, 0, 0, 0xFF, 0xFF, 0x0C, 0x10],
-            Family::B => [0x50, 0x05, 0, 0, 0, 0xFF, 0x0C, 0x10],
+            Family::B | Family::Pinned => [0x50, 0x05, 0, 0, 0, 0xFF, 0x0C, 0x10],
         };
         self.recall();
         self.flag = false;
@@ -100,7 +108,7 @@ impl Device {
 
     /// How many settings 4Eh, 48h and B8h move: limits, and a configuration where there is one.
     fn settings(&self) -> usize {
-        if self.family == Family::B { 3 } else { 2 }
+        if self.family == Family::S { 2 } else { 3 }
     }
 
     fn recall(&mut self) {
@@ -193,7 +201,7 @@ impl Device {
     }
 
     fn take_setting(&mut self, place: usize, byte: u8) -> Stage {
-        self.pad[2 + place] = if place == 2 { stored(byte) } else { byte };
+        self.pad[2 + place] = if place == 2 { self.stored(byte) } else { byte };
         if place + 1 < self.settings() {
             Stage::TakeSetting(place + 1, Partial::default())
         } else {
@@ -211,7 +219,7 @@ impl Device {
                 self.pad[6..].copy_from_slice(&[(16 * degrees + 12 - count) as u8, 16]);
                 ((count + 4).div_euclid(8), degrees)
             }
-            Family::B => {
+            Family::B | Family::Pinned => {
                 let step = 8 >> (self.pad[4] >> 5 & 3);
                 let kept = count.div_euclid(step) * step;
                 (kept, kept.div_euclid(16))

@@ -95,7 +95,13 @@ impl Generator {
 
     fn adding(&mut self, code: u64) -> Line {
         let power = if self.random.once_in(self.line_powered_in) { "line" } else { "external" };
-        format!("add {code:016X} {power} {}", self.settings()).into_bytes()
+        let few = self.random.below(16);
+        let pins = match self.random.below(8) {
+            0..=1 => String::new(),
+            2 => self.random.of(&[" 15", " 16", " 255", " 256", " 007", " 0015", " F", " "]).to_string(),
+            _ => format!(" {few}"),
+        };
+        format!("add {code:016X} {power} {}{pins}", self.settings()).into_bytes()
     }
 
     fn cycle(&mut self) -> Line {
@@ -274,12 +280,12 @@ impl Generator {
     }
 }
 
-/// Sound codes of both families: serial numbers that share most of their bits, small ones, any.
+/// Sound codes of all families: serial numbers that share most of their bits, small ones, any.
 fn some_codes(random: &mut Random, size: usize) -> Vec<u64> {
     let base = random.next();
     let mut codes = Vec::new();
     while codes.len() < size {
-        let family = random.of(&[0x10, 0x28]);
+        let family = random.of(&[0x10, 0x28, 0x3B]);
         let serial = match random.below(5) {
             0 => base ^ 1 << 47,
             1 => base ^ 1 << random.below(48) ^ 1 << random.below(48),

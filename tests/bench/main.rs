@@ -20,8 +20,8 @@ use std::process::{Command, Stdio};
 
 const CALLS: usize = 1000;
 
-/// The refusals that a console can give; 2, 3, 6 and 14 are of recordings and of damaged replies.
-const REACHABLE: [u32; 11] = [0, 1, 4, 5, 7, 8, 9, 10, 11, 12, 13];
+/// The refusals that a console can give; 2, 3, 6, 14 and 20 are of recordings and of damaged replies.
+const REACHABLE: [u32; 12] = [0, 1, 4, 5, 7, 8, 9, 10, 11, 12, 13, 17];
 
 /// From so many scripts on each of these must have been seen; fewer are run by hand, for a look.
 const MANY: u64 = 100;

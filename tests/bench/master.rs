@@ -125,19 +125,20 @@ pub fn read(bench: &mut Bench, code: u64) -> Answer<[u8; 9]> {
 /// The refusals of nine bytes: 5, 6, 7, 11, 20.
 fn judge(family: Family, pad: &[u8; 9]) -> Answer<()> {
     let count = i16::from_le_bytes([pad[0], pad[1]]);
-    let (range, has_configuration) = match family {
-        Family::S => (-110..=250, false),
-        Family::B => (-880..=2000, true),
+    let (range, kind_right) = match family {
+        Family::S => (-110..=250, true),
+        Family::B => (-880..=2000, pad[4] == stored(pad[4], 15)),
+        Family::Pinned => (-880..=2000, pad[4] & 0x90 == 0x10),
     };
     if crc(&pad[..8]) != pad[8] {
         Err(5)
     } else if pad == &[0; 9] {
         Err(6)
-    } else if has_configuration && pad[4] != stored(pad[4]) {
+    } else if !kind_right {
         Err(7)
     } else if !range.contains(&count) {
         Err(11)
-    } else if !has_configuration && (pad[7] == 0 || pad[6] > pad[7]) {
+    } else if family == Family::S && (pad[7] == 0 || pad[6] > pad[7]) {
         Err(20)
     } else {
         Ok(())
@@ -145,15 +146,19 @@ fn judge(family: Family, pad: &[u8; 9]) -> Answer<()> {
 }
 
 pub fn write(bench: &mut Bench, code: u64, asked: [u8; 3]) -> Answer<[u8; 9]> {
-    let asked = match family_of(code)? {
-        Family::S => asked[..2].to_vec(),
-        Family::B => vec![asked[0], asked[1], stored(asked[2])],
-    };
+    let family = family_of(code)?;
+    let settings = if family == Family::S { 2 } else { 3 };
     select(bench, code)?;
     send(bench, 0x4E)?;
-    for &byte in &asked {
+    for &byte in &asked[..settings] {
         send(bench, byte)?;
     }
     let pad = read(bench, code)?;
-    if pad[2..2 + asked.len()] == asked[..] { Ok(pad) } else { Err(13) }
+    let configuration_right = match family {
+        Family::S => true,
+        Family::B => pad[4] == stored(asked[2], 15),
+        // The pins are the device's own affair.
+        Family::Pinned => pad[4] >> 4 == stored(asked[2], 0) >> 4,
+    };
+    if pad[2..4] == asked[..2] && configuration_right { Ok(pad) } else { Err(13) }
 }

@@ -103,7 +103,7 @@ fn number(bits: &[bool]) -> u64 {
 }
 
 fn known(family: u8) -> bool {
-    family == 0x10 || family == 0x28
+    family == 0x10 || family == 0x28 || family == 0x3B
 }
 
 fn code_crc_right(code: u64) -> bool {
@@ -139,11 +139,17 @@ fn name_pad(bits: &[bool]) -> Verdict {
         return Verdict::Refused(6);
     }
     let family = code as u8;
-    if !known(family) || (family == 0x28 && pad[4] != (pad[4] & 0x60) + 0x1F) {
+    let kind_right = match family {
+        0x28 => pad[4] == (pad[4] & 0x60) + 0x1F,
+        // A DS1825 has its pins in the low four bits.
+        0x3B => pad[4] & 0x90 == 0x10,
+        _ => known(family),
+    };
+    if !kind_right {
         return Verdict::Refused(7);
     }
     let raw = i16::from_le_bytes([pad[0], pad[1]]);
-    // Of B the bits below the resolution are undefined, and are cleared for the test; printed they are as they stand.
+    // But of S the bits below the resolution are undefined, and are cleared for the test; printed they are as they stand.
     let in_range = match (family, pad[4] >> 5 & 3) {
         (0x10, _) => (-110..=250).contains(&raw),
         (_, 0) => (-880..=2000).contains(&(raw & !7)),
@@ -224,7 +230,7 @@ fn bits_of(value: u64, n: usize) -> Vec<bool> {
 }
 
 fn some_code(r: &mut Random) -> u64 {
-    let family = [0x28u64, 0x10, 0x22, r.below(256)][r.below(4) as usize];
+    let family = [0x28u64, 0x10, 0x3B, 0x22, r.below(256)][r.below(5) as usize];
     let low = family | (r.next() & 0x0000_FFFF_FFFF_FFFF) << 8;
     let crc = crc8(&low.to_le_bytes()[..7]) as u64;
     let code = (low & 0x00FF_FFFF_FFFF_FFFF) | crc << 56;
@@ -258,8 +264,10 @@ fn pad_line(r: &mut Random) -> Vec<u8> {
         _ => r.below(500) as i16 - 200,
     };
     pad[..2].copy_from_slice(&raw.to_le_bytes());
-    if r.below(4) > 0 {
-        pad[4] = (pad[4] & 0x60) + 0x1F;
+    match r.below(8) {
+        0..=3 => pad[4] = (pad[4] & 0x60) + 0x1F,
+        4..=5 => pad[4] = pad[4] & 0x6F | 0x10,
+        _ => {}
     }
     match r.below(4) {
         0 => pad[7] = 0,

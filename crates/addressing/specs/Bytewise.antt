@@ -26,6 +26,7 @@ use Rattle.commands.specs.Bytes.{shiftIn}
 use Rattle.commands.specs.BytesLaws.{shifted-cases}
 use Rattle.commands.specs.Commands.{readRom, matchRom, skipRom, searchRom, alarmSearch, convert, writeScratchpad, readScratchpad, copyScratchpad, recallEeprom, readPower}
 use Rattle.family.specs.Configuration.{storedForm, keptConfiguration}
+use Rattle.family.specs.Families.{keptPins}
 use Rattle.family.specs.FamiliesLaws.{every-row}
 use Rattle.family.specs.declared.Properties.{Properties}
 use Rattle.family.specs.declared.Unit.{Unit as Measure}
@@ -47,7 +48,7 @@ use Rattle.device.specs.Finish.{conversionDone, copyDone}
 use Rattle.device.specs.Hear.{afterBit, romCommand, hearRom, idleCommand, functionCommand, hearFunction, storeSetting, hearSettings, hearAt, hearOf}
 use Rattle.device.specs.Outcomes.{hear-outcome}
 use Rattle.device.specs.Power.{resetOf, poweredUp, powerUp, joined}
-use Rattle.device.specs.Record.{withStage, withScratchpad, rowOf, busy}
+use Rattle.device.specs.Record.{withStage, withScratchpad, familyRow, rowOf, busy}
 use Rattle.device.specs.Settings.{settingsIn, withLimits, withSettings, settingsCount, settingByte}
 use Rattle.device.specs.SettingsLaws.{settings-few}
 use Rattle.device.specs.declared.Activity.{Activity}
@@ -94,7 +95,7 @@ TakenByte Quiet = Unit
 -- what is stored, whatever the stage
 pub record Stored (d : Device) : Type 0 where
   pub pad-bytes : Bytes (d .scratchpad)
-  pub seventh : getD (d .scratchpad) 7 0 ≡ getD (rowOf (d .code) .initial) 7 0
+  pub seventh : getD (d .scratchpad) 7 0 ≡ getD (rowOf (d .code) (d .pins) .initial) 7 0
   pub eeprom-bytes : LimitBytes (d .eeprom)
   pub copy-bytes : CopyBytes (d .activity)
 
@@ -178,10 +179,10 @@ inHalves : Measure → Bool
 inHalves inSixteenths = false
 inHalves inHalfDegrees = true
 
-seventh-left : (code : ℕ) → rowOf code .unit ≡ inHalfDegrees → countsPerDegree ≡ getD (rowOf code .initial) 7 0
+seventh-left : (code pins : ℕ) → rowOf code pins .unit ≡ inHalfDegrees → countsPerDegree ≡ getD (rowOf code pins .initial) 7 0
 unfolding rowOf all inHalves
-seventh-left code unit =
-    let row = rowOf code in
+seventh-left code pins unit =
+    let row = rowOf code pins in
     let test : (not (inHalves (row .unit)) || eqb countsPerDegree (getD (row .initial) 7 0)) ≡ true
     = every-row (λ r. not (inHalves (r .unit)) || eqb countsPerDegree (getD (r .initial) 7 0)) refl (familyOf code) in
     eqb-true countsPerDegree (getD (row .initial) 7 0) (rw unit at test)
@@ -193,9 +194,9 @@ all-bytes [] h k = lit< tt
 all-bytes (x ∷ l) h zero = ltb-true x 256 (and-left (ltb x 256) (all (λ y. ltb y 256) l) h)
 all-bytes (x ∷ l) h (suc k) = all-bytes l (and-right (ltb x 256) (all (λ y. ltb y 256) l) h) k
 
-initial-bytes : (code : ℕ) → Bytes (rowOf code .initial)
+initial-bytes : (code pins : ℕ) → Bytes (rowOf code pins .initial)
 unfolding rowOf all
-initial-bytes code = all-bytes (rowOf code .initial) (every-row (λ row. all (λ x. ltb x 256) (row .initial)) refl (familyOf code))
+initial-bytes code pins = all-bytes (rowOf code pins .initial) (every-row (λ row. all (λ x. ltb x 256) (row .initial)) refl (familyOf code))
 
 -- ## Power, and the ends of a conversion and of a copy
 
@@ -203,11 +204,11 @@ initial-bytes code = all-bytes (rowOf code .initial) (every-row (λ row. all (λ
 restaged : (d : Device) (t : Stage) → Stored d → Stored (withStage d t)
 restaged d t s = record { pad-bytes = s .pad-bytes; seventh = s .seventh; eeprom-bytes = s .eeprom-bytes; copy-bytes = s .copy-bytes }
 
-powered-bytewise : (code : ℕ) (power : Power) (s : Settings) → LimitBytes s → Bytewise (poweredUp code power s)
-powered-bytewise code power s h = record {
+powered-bytewise : (code : ℕ) (power : Power) (pins : ℕ) (s : Settings) → LimitBytes s → Bytewise (poweredUp code power pins s)
+powered-bytewise code power pins s h = record {
   stored = record {
-    pad-bytes = settings-bytes (rowOf code) (rowOf code .initial) s (initial-bytes code) h;
-    seventh = settings-seventh (rowOf code) (rowOf code .initial) s;
+    pad-bytes = settings-bytes (rowOf code pins) (rowOf code pins .initial) s (initial-bytes code pins) h;
+    seventh = settings-seventh (rowOf code pins) (rowOf code pins .initial) s;
     eeprom-bytes = h;
     copy-bytes = tt;
   };
@@ -216,18 +217,18 @@ powered-bytewise code power s h = record {
 
 joined-bytewise : (new : Joining) → Typed (add new) → Bytewise (joined new)
 unfolding joined
-joined-bytewise new t = powered-bytewise (new .code) (new .power) _ (t .1, t .2)
+joined-bytewise new t = powered-bytewise (new .code) (new .power) (keptPins (familyRow (new .code)) (new .pins)) _ (t .1, t .2)
 
 power-up-bytewise : (d : Device) → Bytewise d → Bytewise (powerUp d)
 unfolding powerUp
-power-up-bytewise d b = powered-bytewise (d .code) (d .power) (d .eeprom) (b .stored .eeprom-bytes)
+power-up-bytewise d b = powered-bytewise (d .code) (d .power) (d .pins) (d .eeprom) (b .stored .eeprom-bytes)
 
 conversion-bytewise : (d : Device) (n : Sixteenths) → inRange (InSixteenths n) ≡ true → Bytewise d → Bytewise (conversionDone d n)
 unfolding conversionDone
 conversion-bytewise d n h b = record {
   stored = record {
-    pad-bytes = after-bytes (rowOf (d .code)) n (d .scratchpad) h (b .stored .pad-bytes);
-    seventh = after-seventh (rowOf (d .code)) n (d .scratchpad) (λ v. v ≡ getD (rowOf (d .code) .initial) 7 0) (seventh-left (d .code)) (b .stored .seventh);
+    pad-bytes = after-bytes (rowOf (d .code) (d .pins)) n (d .scratchpad) h (b .stored .pad-bytes);
+    seventh = after-seventh (rowOf (d .code) (d .pins)) n (d .scratchpad) (λ v. v ≡ getD (rowOf (d .code) (d .pins) .initial) 7 0) (seventh-left (d .code) (d .pins)) (b .stored .seventh);
     eeprom-bytes = b .stored .eeprom-bytes;
     copy-bytes = tt;
   };
@@ -270,18 +271,18 @@ hear-stored d l b =
     s = b .stored
 
     row : Properties
-    row = rowOf (d .code)
+    row = rowOf (d .code) (d .pins)
 
-    latched : LimitBytes (settingsIn (rowOf (d .code)) (d .scratchpad))
+    latched : LimitBytes (settingsIn (rowOf (d .code) (d .pins)) (d .scratchpad))
     latched = (b .stored .pad-bytes 2, b .stored .pad-bytes 3)
 
-    set-one : (k t : ℕ) (n : Stage) → t < 256 → k < settingsCount (rowOf (d .code))
-        → Stored (withStage (withScratchpad d (set (d .scratchpad) (2 + k) (settingByte (rowOf (d .code)) k (shiftIn t l)))) n)
+    set-one : (k t : ℕ) (n : Stage) → t < 256 → k < settingsCount (rowOf (d .code) (d .pins))
+        → Stored (withStage (withScratchpad d (set (d .scratchpad) (2 + k) (settingByte (rowOf (d .code) (d .pins)) k (shiftIn t l)))) n)
     set-one k t n h few =
-        let third : k < 3 = omega (arith, settings-few (rowOf (d .code))) in
-        let v = settingByte (rowOf (d .code)) k (shiftIn t l) in
+        let third : k < 3 = omega (arith, settings-few (rowOf (d .code) (d .pins))) in
+        let v = settingByte (rowOf (d .code) (d .pins)) k (shiftIn t l) in
         record {
-          pad-bytes = bytes-set (d .scratchpad) (2 + k) v (b .stored .pad-bytes) (setting-byte (rowOf (d .code)) k (shiftIn t l) (shift-byte t l h));
+          pad-bytes = bytes-set (d .scratchpad) (2 + k) v (b .stored .pad-bytes) (setting-byte (rowOf (d .code) (d .pins)) k (shiftIn t l) (shift-byte t l h));
           seventh = getD-set-other (d .scratchpad) (2 + k) 7 v 0 (λ e. omega arith) ∙ b .stored .seventh;
           eeprom-bytes = b .stored .eeprom-bytes;
           copy-bytes = b .stored .copy-bytes;
@@ -317,7 +318,7 @@ function-taken d c =
 store-taken : (d : Device) (k byte : ℕ) → TakenByte (storeSetting d k byte .stage)
 unfolding storeSetting
 store-taken d k byte =
-    taken-of (ltb k (settingsCount (rowOf (d .code)))) _ _ (taken-if (ltb (k + 1) (settingsCount (rowOf (d .code)))) (TakeSettings (k + 1) 0 0) Quiet (lit< tt) tt) tt
+    taken-of (ltb k (settingsCount (rowOf (d .code) (d .pins)))) _ _ (taken-if (ltb (k + 1) (settingsCount (rowOf (d .code) (d .pins)))) (TakeSettings (k + 1) 0 0) Quiet (lit< tt) tt) tt
 
 hear-taken : (d : Device) (l : Bool) → TakenByte (d .stage) → TakenByte (hearOf d l .stage)
 unfolding hearOf

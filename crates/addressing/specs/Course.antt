@@ -136,7 +136,7 @@ stage-if false s u h k = k
 store-settled : (d : Device) (k byte : ℕ) → Settled (storeSetting d k byte)
 unfolding storeSetting
 store-settled d k byte =
-    settled-if (ltb k (settingsCount (rowOf (d .code)))) _ _ (stage-if (ltb (k + 1) (settingsCount (rowOf (d .code)))) (TakeSettings (k + 1) 0 0) Quiet refl refl) refl
+    settled-if (ltb k (settingsCount (rowOf (d .code) (d .pins)))) _ _ (stage-if (ltb (k + 1) (settingsCount (rowOf (d .code) (d .pins)))) (TakeSettings (k + 1) 0 0) Quiet refl refl) refl
 
 pub settled-hears : (x : Bool) (d : Device) → Settled d → Settled (hearOf d x)
 unfolding hearOf

@@ -21,7 +21,7 @@ use Rattle.fine.specs.declared.FineDegrees.{FineDegrees}
 use Rattle.scratchpad.specs.Stored.{fineIn, scratchpadAfter}
 use Rattle.scratchpad.specs.StoredLaws.{after-fine}
 use Rattle.device.specs.Finish.{conversionDone}
-use Rattle.device.specs.Record.{rowOf}
+use Rattle.device.specs.Record.{familyRow, rowOf}
 use Rattle.device.specs.Sound.{Sound}
 use Rattle.device.specs.declared.Device.{Device}
 use Rattle.bench.specs.Bench.{live, vacant, placeOf, free}
@@ -47,11 +47,11 @@ done-code : (d : Device) (count : Sixteenths) → conversionDone d count .code �
 unfolding conversionDone
 done-code d count = refl
 
-done-pad : (d : Device) (count : Sixteenths) → conversionDone d count .scratchpad ≡ scratchpadAfter (rowOf (d .code)) count (d .scratchpad)
+done-pad : (d : Device) (count : Sixteenths) → conversionDone d count .scratchpad ≡ scratchpadAfter (rowOf (d .code) (d .pins)) count (d .scratchpad)
 unfolding conversionDone
 done-pad d count = refl
 
-module _ (b : Bench) (code : ℕ) (count : Sixteenths) (s : BenchSound b) (unit : rowOf code .unit ≡ inHalfDegrees) (range : inRange (InSixteenths count) ≡ true)
+module _ (b : Bench) (code : ℕ) (count : Sixteenths) (s : BenchSound b) (unit : familyRow code .unit ≡ inHalfDegrees) (range : inRange (InSixteenths count) ≡ true)
     (finished : Bench) (o : OneChanged b code (λ d. conversionDone d count) finished) (r : Readable finished) (f : free finished ≡ true) where
   device : Device
   device = getD (live b) (o .place) vacant
@@ -69,22 +69,22 @@ module _ (b : Bench) (code : ℕ) (count : Sixteenths) (s : BenchSound b) (unit 
       let c : getD (live finished) (o .place) vacant .code ≡ code = ap (λ d. d .code) stands ∙ done-code device count ∙ o .code-there in
       subst (λ (k : ℕ). placeOf finished k ≡ At (o .place)) c (place-is finished (o .place) (r .sound .codes-distinct) within)
 
-  pad : deviceAt finished (o .place) .scratchpad ≡ scratchpadAfter (rowOf code) count (device .scratchpad)
+  pad : deviceAt finished (o .place) .scratchpad ≡ scratchpadAfter (rowOf code (device .pins)) count (device .scratchpad)
   unfolding device
   pad =
       ap (λ d. d .scratchpad) (sym (device-live finished code (o .place) at) ∙ stands) ∙ done-pad device count
-      ∙ ap (λ (k : ℕ). scratchpadAfter (rowOf k) count (device .scratchpad)) (o .code-there)
+      ∙ ap (λ (k : ℕ). scratchpadAfter (rowOf k (device .pins)) count (device .scratchpad)) (o .code-there)
 
   eight : length (device .scratchpad) ≡ 8
   unfolding device
   eight = each-at Sound (live b) (o .place) vacant (o .within) (s .devices-sound) .pad-sound .eight
 
   fine-there : readAt finished code .fine ≡ theCount count
-  unfolding device
+  unfolding device rowOf
   fine-there =
-      ap (λ a. a .fine) (read-answered finished r code (o .place) f at) ∙ ap (fineIn (rowOf code)) pad ∙ after-fine (rowOf code) count (device .scratchpad) range eight unit
+      ap (λ a. a .fine) (read-answered finished r code (o .place) f at) ∙ ap (fineIn (familyRow code)) pad ∙ after-fine (rowOf code (device .pins)) count (device .scratchpad) range eight unit
 
-fine-read : (b : Bench) (code : ℕ) (count : Sixteenths) → BenchSound b → rowOf code .unit ≡ inHalfDegrees → conversionFinished b code count .refusal ≡ accepted
+fine-read : (b : Bench) (code : ℕ) (count : Sixteenths) → BenchSound b → familyRow code .unit ≡ inHalfDegrees → conversionFinished b code count .refusal ≡ accepted
     → Readable (conversionFinished b code count .bench) → free (conversionFinished b code count .bench) ≡ true
     → readAt (conversionFinished b code count .bench) code .fine ≡ theCount count
 fine-read b code count s unit =

@@ -18,7 +18,8 @@ use Rattle.lists.specs.FoldLaws.{all-at}
 use Rattle.bits.specs.Bits.{bitsOf, bytesBits}
 use Rattle.commands.specs.Commands.{readScratchpad}
 use Rattle.refusals.specs.Refusals.{accepted, wrongCrc, wrongKind}
-use Rattle.family.specs.Families.{propertiesOf}
+use Rattle.family.specs.ConfigurationLaws.{kept-in-form}
+use Rattle.family.specs.Families.{propertiesOf, withPins}
 use Rattle.family.specs.FamiliesLaws.{every-row}
 use Rattle.family.specs.declared.Properties.{Properties}
 use Rattle.crc.specs.Crc.{crcBits, crcOf}
@@ -28,7 +29,7 @@ use Rattle.scratchpad.specs.Stored.{readingIn, fineIn}
 use Rattle.scratchpad.specs.StoredLaws.{raw-range}
 use Rattle.device.specs.Offer.{nineBytes}
 use Rattle.device.specs.OfferLaws.{nine-length, nine-byte, nine-crc}
-use Rattle.device.specs.Record.{rowOf}
+use Rattle.device.specs.Record.{familyRow, rowOf}
 use Rattle.device.specs.Sound.{PadSound, Sound}
 use Rattle.bench.specs.Bench.{live, vacant, placeOf, free}
 use Rattle.bench.specs.Calls.{deviceAt}
@@ -83,13 +84,14 @@ module _ (row : Properties) (pad : List ℕ) (s : PadSound row pad) where
           absurd (n (sym (nine-at 7 (lit< tt)) ∙ eqb-true _ 0 (all-at (λ b. eqb b 0) (nineBytes pad) 0 7 l e)))
       by-test false e = refl
 
-nine-judged : (family : ℕ) (pad : List ℕ) → propertiesOf family .known ≡ true → PadSound (propertiesOf family) pad → getD pad 7 0 ≢ 0
+nine-judged : (family pins : ℕ) (pad : List ℕ) → propertiesOf family .known ≡ true → PadSound (withPins (propertiesOf family) pins) pad → getD pad 7 0 ≢ 0
     → judged family (nineBytes pad) ≡ record { refusal = accepted; reading = readingIn (propertiesOf family) pad; fine = fineIn (propertiesOf family) pad }
 unfolding judged
-nine-judged family pad known s n =
+nine-judged family pins pad known s n =
     let row = propertiesOf family in
-    let at : (k : ℕ) → k < 8 → getD (nineBytes pad) k 0 ≡ getD pad k 0 = nine-at row pad s in
-    rw (nine-crc-right row pad s, nine-not-zero row pad s n, known, at 0 (lit< tt), at 1 (lit< tt), at 4 (lit< tt), at 6 (lit< tt), at 7 (lit< tt), s .in-form, raw-range row pad (s .in-range), s .counts-believed)
+    let own = withPins row pins in
+    let at : (k : ℕ) → k < 8 → getD (nineBytes pad) k 0 ≡ getD pad k 0 = nine-at own pad s in
+    rw (nine-crc-right own pad s, nine-not-zero own pad s n, known, at 0 (lit< tt), at 1 (lit< tt), at 4 (lit< tt), at 6 (lit< tt), at 7 (lit< tt), kept-in-form row pins (getD pad 4 0) (s .as-kept), raw-range row pad (s .in-range), s .counts-believed)
 
 -- ## A device of a readable bench
 
@@ -129,7 +131,7 @@ module _ (b : Bench) (r : Readable b) (code i : ℕ) (f : free b ≡ true) (at :
   present : presenceOf b ≡ true
   present = let l = place-lt in let k = length-take (b .count) (b .devices) in lt-ltb 0 (b .count) (omega arith)
 
-  pad-sound : PadSound (propertiesOf (familyOf code)) (deviceAt b i .scratchpad)
+  pad-sound : PadSound (withPins (propertiesOf (familyOf code)) (deviceAt b i .pins)) (deviceAt b i .scratchpad)
   unfolding rowOf
   pad-sound =
       let s = rw (device-live b code i at) at (each-at Sound (live b) i vacant place-lt (r .sound .devices-sound)) in
@@ -153,8 +155,8 @@ module _ (b : Bench) (r : Readable b) (code i : ℕ) (f : free b ≡ true) (at :
   answered c = record {
     refusal = accepted;
     pad = nineBytes (deviceAt b i .scratchpad);
-    reading = readingIn (rowOf code) (deviceAt b i .scratchpad);
-    fine = fineIn (rowOf code) (deviceAt b i .scratchpad);
+    reading = readingIn (familyRow code) (deviceAt b i .scratchpad);
+    fine = fineIn (familyRow code) (deviceAt b i .scratchpad);
     bench = c;
   }
 
@@ -162,7 +164,7 @@ module _ (b : Bench) (r : Readable b) (code i : ℕ) (f : free b ≡ true) (at :
   unfolding rowOf
   read-is =
       read-judged b code admitted present
-      ∙ rw (shown-is, nine-judged (familyOf code) (deviceAt b i .scratchpad) (sound-known code code-sound) pad-sound seventh-is)
+      ∙ rw (shown-is, nine-judged (familyOf code) (deviceAt b i .pins) (deviceAt b i .scratchpad) (sound-known code code-sound) pad-sound seventh-is)
 
   bench-is : readAt b code .bench ≡ issued (readBits code ∷ []) b .bench
   bench-is = rw present at (read-unrefused b code admitted .bench-is)

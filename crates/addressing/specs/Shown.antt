@@ -25,7 +25,7 @@ use Rattle.temperature.specs.declared.Sixteenths.{Sixteenths}
 use Rattle.scratchpad.specs.Stored.{readingIn, fineIn}
 use Rattle.search_law.specs.Numbers.{Below}
 use Rattle.device.specs.Offer.{nineBytes}
-use Rattle.device.specs.Record.{rowOf}
+use Rattle.device.specs.Record.{familyRow}
 use Rattle.device.specs.declared.Settings.{Settings}
 use Rattle.bench.specs.Bench.{live, placeOf, free}
 use Rattle.bench.specs.Calls.{deviceAt, conversionFinished}
@@ -70,14 +70,14 @@ ReadAnswer = (h : List Call) → Each Typed h → (code i : ℕ) → free (after
     ≡ record {
       refusal = accepted;
       pad = nineBytes (deviceAt (after h) i .scratchpad);
-      reading = readingIn (rowOf code) (deviceAt (after h) i .scratchpad);
-      fine = fineIn (rowOf code) (deviceAt (after h) i .scratchpad);
+      reading = readingIn (familyRow code) (deviceAt (after h) i .scratchpad);
+      fine = fineIn (familyRow code) (deviceAt (after h) i .scratchpad);
       bench = issued (readBits code ∷ []) (after h) .bench;
     }
 
 -- s sixteenths are 4 s over 64 degrees
 abbrev pub FineIsCount : Type 0
-FineIsCount = (h : List Call) (code : ℕ) (count : Sixteenths) → Each Typed h → Typed (finishConversion code count) → rowOf code .unit ≡ inHalfDegrees
+FineIsCount = (h : List Call) (code : ℕ) (count : Sixteenths) → Each Typed h → Typed (finishConversion code count) → familyRow code .unit ≡ inHalfDegrees
     → conversionFinished (after h) code count .refusal ≡ accepted
     → let b = after (h ++ (finishConversion code count ∷ [])) in
     free b ≡ true → readAt b code .fine ≡ record { numerator = count .0 *ℤ pos 4; denominator = 64 }

@@ -22,7 +22,7 @@ live b = take (b .count) (b .devices)
 
 -- what stands in a place of the table that no device has taken
 unfoldable pub vacant : Device
-vacant = joined (record { code = 0; power = External; high = 0; low = 0; configuration = 0 })
+vacant = joined (record { code = 0; power = External; high = 0; low = 0; configuration = 0; pins = 0 })
 
 abbrev pub emptyBench : Bench
 emptyBench = record { devices = replicate 32 vacant; count = 0 }

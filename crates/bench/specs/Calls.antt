@@ -1,6 +1,6 @@
 -- The other calls on a bench: adding, the end of a conversion or a copy, and a power cycle. None of them looks at the wire, so that a device that
 -- holds it stops none of them. A refusal leaves the bench as it was.
---     addedTo b new                  5 or 7 for the code, 8 for a code that is there, 9 for a 33rd device; else the new device after the others
+--     addedTo b new                  5 or 7 for the code, 8 for a code that is there, 9 for a 33rd device, 17 for pins over 15 where its family has pins; else the new device after the others
 --     conversionFinished b code n    12 for a code that is not there, 13 unless it is converting, 11 for a count out of range; else its conversion is done
 --     copyFinished b code            12 for a code that is not there, 13 unless it is copying; else its copy is done
 --     powerCycled b code             12 for a code that is not there; else the device is powered up again
@@ -10,11 +10,13 @@ use mathlib.Core.Bool.{Bool, true, false, not}
 use lib.Dec.{eqb, ltb}
 use lib.ListN.{getD, set}
 use Rattle.lists.specs.Choice.{if_then_else_}
-use Rattle.refusals.specs.Refusals.{accepted, duplicate, benchFull, notFound}
+use Rattle.refusals.specs.Refusals.{accepted, duplicate, benchFull, notFound, wrongPins}
+use Rattle.family.specs.Families.{pinsWrong}
 use Rattle.rom.specs.Code.{codeRefusal}
 use Rattle.temperature.specs.declared.Sixteenths.{Sixteenths}
 use Rattle.device.specs.Finish.{ended, conversionEnded, copyEnded}
 use Rattle.device.specs.Power.{powerUp, joined}
+use Rattle.device.specs.Record.{familyRow}
 use Rattle.device.specs.declared.Device.{Device}
 use Rattle.device.specs.declared.Ended.{Ended}
 use Rattle.device.specs.declared.Joining.{Joining}
@@ -40,15 +42,18 @@ isThere Nowhere = false
 abbrev pub withNew : Bench → Device → Bench
 withNew b d = record { devices = set (b .devices) (b .count) d; count = b .count + 1 }
 
--- after the others, where there is a place left
-abbrev pub putLast : Bench → Device → Changed
-putLast b d = if ltb (b .count) 32 then changed (withNew b d) else refused benchFull b
+-- after the others, where there is a place left and the pins can be
+abbrev pub putLast : Bench → Joining → Changed
+putLast b new =
+    if not (ltb (b .count) 32) then refused benchFull b
+    else if pinsWrong (familyRow (new .code)) (new .pins) then refused wrongPins b
+    else changed (withNew b (joined new))
 
 unfoldable pub addedTo : Bench → Joining → Changed
 addedTo b new =
     if not (eqb (codeRefusal (new .code)) accepted) then refused (codeRefusal (new .code)) b
     else if isThere (placeOf b (new .code)) then refused duplicate b
-    else putLast b (joined new)
+    else putLast b new
 
 -- ## One device
 

@@ -55,6 +55,7 @@ fn vacant_place() -> Device
         high: 0,
         low: 0,
         configuration: 0,
+        pins: 0,
     })
 }
 
@@ -158,30 +159,36 @@ pub fn add(bench: Bench, new: Joining) -> Changed
             refusal: refusals::DUPLICATE,
             bench,
         },
-        Place::Nowhere => put_last(bench, device_power::join(new)),
+        Place::Nowhere => put_last(bench, new),
     }
 }
 
-// The device after the others, where there is a place left.
-fn put_last(bench: Bench, d: Device) -> Changed
-    ensures answer { λ r. ⌜ r ≡ putLast bench d ⌝ }
+// The device after the others, where there is a place left and its pins can be.
+fn put_last(bench: Bench, new: Joining) -> Changed
+    ensures answer { λ r. ⌜ r ≡ putLast bench new ⌝ }
 {
     let count = bench.count;
     let place = count as usize;
-    if place < 32 {
-        let mut devices = bench.devices;
-        devices[place] = d;
+    if 32 <= place {
         return Changed {
-            refusal: refusals::ACCEPTED,
-            bench: Bench {
-                devices,
-                count: count + 1,
-            },
+            refusal: refusals::BENCH_FULL,
+            bench,
         };
     }
+    if family::pins_wrong(device::family_row(new.code), new.pins) {
+        return Changed {
+            refusal: refusals::WRONG_PINS,
+            bench,
+        };
+    }
+    let mut devices = bench.devices;
+    devices[place] = device_power::join(new);
     Changed {
-        refusal: refusals::BENCH_FULL,
-        bench,
+        refusal: refusals::ACCEPTED,
+        bench: Bench {
+            devices,
+            count: count + 1,
+        },
     }
 }
 

@@ -24,7 +24,8 @@ use Rattle.lists.specs.Fold.{all}
 use Rattle.lists.specs.FrontLaws.{front-taken, front-length}
 use Rattle.lists.specs.Each.{Each}
 use Rattle.lists.specs.EachLaws.{each-implies}
-use Rattle.refusals.specs.Refusals.{accepted, wireBusy, duplicate, benchFull, notFound}
+use Rattle.refusals.specs.Refusals.{accepted, wireBusy, duplicate, benchFull, notFound, wrongPins}
+use Rattle.family.specs.Families.{pinsWrong}
 use Rattle.rom.specs.Code.{codeRefusal, sound}
 use Rattle.temperature.specs.Range.{inRange}
 use Rattle.temperature.specs.declared.Reading.the-variants.{InSixteenths}
@@ -44,7 +45,7 @@ use Rattle.bench.specs.declared.Place.{Place}
 use Rattle.bench.specs.declared.Place.the-variants.{At, Nowhere}
 use Rattle.bench.specs.declared.ResetDone.{ResetDone}
 use Rattle.bench.specs.declared.Slotted.{Slotted}
-use Rattle.device.specs.Record.{holdsWire}
+use Rattle.device.specs.Record.{familyRow, holdsWire}
 use Rattle.bench.specs.Bench.{live, vacant, placeOf, free}
 use Rattle.bench.specs.Slot.{lineBit, heard, slotted, presenceOf, restarted, resetDone}
 use Rattle.bench.specs.Calls.{changed, refused, withNew, putLast, isThere, addedTo, deviceAt, withDevice, putBack, conversionFinishedAt, conversionFinished, copyFinishedAt, copyFinished, powerCycledAt, powerCycled}
@@ -177,6 +178,7 @@ pub record Added (b : Bench) (new : Joining) (after : Bench) : Type 0 where
   pub code-sound : sound (new .code) ≡ true
   pub code-new : Each (λ d. d .code ≢ new .code) (live b)
   pub room : b .count < 32
+  pub pins-right : pinsWrong (familyRow (new .code)) (new .pins) ≡ false
   pub live-is : live after ≡ live b ++ (joined new ∷ [])
   pub count-is : after .count ≡ b .count + 1
   pub places-are : length (after .devices) ≡ length (b .devices)
@@ -188,28 +190,33 @@ pub added-cases : (b : Bench) (new : Joining) (P : Changed → Type 0) → lengt
 unfolding addedTo
 added-cases b new P long refusal adding = by-code (eqb (codeRefusal (new .code)) accepted) refl
   where
-    by-room : (t : Bool) → ltb (b .count) 32 ≡ t → sound (new .code) ≡ true → placeOf b (new .code) ≡ Nowhere
-        → P (if t then changed (withNew b (joined new)) else refused benchFull b)
-    by-room true r s n =
-        let h = ltb-true (b .count) 32 r in
+    by-pins : (t : Bool) → pinsWrong (familyRow (new .code)) (new .pins) ≡ t → b .count < 32 → sound (new .code) ≡ true → placeOf b (new .code) ≡ Nowhere
+        → P (if t then refused wrongPins b else changed (withNew b (joined new)))
+    by-pins true r h s n = refusal wrongPins (λ e. omega arith)
+    by-pins false r h s n =
         let k : b .count < length (b .devices) = omega arith in
         adding (withNew b (joined new)) (record {
           code-sound = s;
           code-new = place-nowhere b (new .code) n;
           room = h;
+          pins-right = r;
           live-is = rw add-one (take-suc-set (b .devices) (b .count) (joined new) k);
           count-is = refl;
           places-are = length-set (b .devices) (b .count) (joined new);
         })
+
+    by-room : (t : Bool) → ltb (b .count) 32 ≡ t → sound (new .code) ≡ true → placeOf b (new .code) ≡ Nowhere
+        → P (if not t then refused benchFull b else if pinsWrong (familyRow (new .code)) (new .pins) then refused wrongPins b else changed (withNew b (joined new)))
+    by-room true r s n = by-pins (pinsWrong (familyRow (new .code)) (new .pins)) refl (ltb-true (b .count) 32 r) s n
     by-room false r s n = refusal benchFull (λ e. omega arith)
 
     by-place : (p : Place) → placeOf b (new .code) ≡ p → sound (new .code) ≡ true
-        → P (if isThere p then refused duplicate b else putLast b (joined new))
+        → P (if isThere p then refused duplicate b else putLast b new)
     by-place (At i) e s = refusal duplicate (λ e. omega arith)
     by-place Nowhere e s = by-room (ltb (b .count) 32) refl s e
 
     by-code : (t : Bool) → sound (new .code) ≡ t
-        → P (if not t then refused (codeRefusal (new .code)) b else if isThere (placeOf b (new .code)) then refused duplicate b else putLast b (joined new))
+        → P (if not t then refused (codeRefusal (new .code)) b else if isThere (placeOf b (new .code)) then refused duplicate b else putLast b new)
     by-code true s = by-place (placeOf b (new .code)) refl s
     by-code false s = refusal (codeRefusal (new .code)) (eqb-false (codeRefusal (new .code)) accepted s)
 

@@ -37,6 +37,7 @@ fn one_device() -> Bench {
         high: 25,
         low: 0,
         configuration: 0x7F,
+        pins: 0,
     };
     bench::add(bench::new(), new).bench
 }

@@ -24,11 +24,11 @@ use Rattle.device.specs.Record.{withActivity, withScratchpad, withEeprom
 
 unfoldable pub conversionDone : Device → Sixteenths → Device
 conversionDone d count =
-    let reading = storedReading (rowOf (d .code)) count (d .scratchpad) in
+    let reading = storedReading (rowOf (d .code) (d .pins)) count (d .scratchpad) in
     let high = getD (d .scratchpad) highLimitPlace 0 in
     let low = getD (d .scratchpad) lowLimitPlace 0 in
     let idle = withActivity d Idle in
-    let stored = withScratchpad idle (scratchpadAfter (rowOf (d .code)) count (d .scratchpad)) in
+    let stored = withScratchpad idle (scratchpadAfter (rowOf (d .code) (d .pins)) count (d .scratchpad)) in
     let judged = withAlarm stored (verdict reading high low) in
     withPage judged (record { taken = true; reading = reading; high = high; low = low })
 

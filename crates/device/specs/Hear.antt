@@ -83,11 +83,11 @@ hearRom d Beyond = withStage d Quiet
 
 -- 48h: the settings as they stand are on their way to EEPROM
 abbrev pub copying : Device → Device
-copying d = withActivity d (Copying (settingsIn (rowOf (d .code)) (d .scratchpad)))
+copying d = withActivity d (Copying (settingsIn (rowOf (d .code) (d .pins)) (d .scratchpad)))
 
 -- B8h: the settings of EEPROM are back in the scratchpad
 abbrev pub recalled : Device → Device
-recalled d = withScratchpad d (withSettings (rowOf (d .code)) (d .scratchpad) (d .eeprom))
+recalled d = withScratchpad d (withSettings (rowOf (d .code) (d .pins)) (d .scratchpad) (d .eeprom))
 
 -- a device that is not busy obeys them all
 unfoldable pub idleCommand : Device → ℕ → Device
@@ -116,9 +116,9 @@ hearFunction d Beyond = withStage d Quiet
 -- a whole byte is stored as its last bit arrives; after the last byte the device is quiet
 unfoldable pub storeSetting : Device → ℕ → ℕ → Device
 storeSetting d k b =
-    if ltb k (settingsCount (rowOf (d .code)))
-    then withStage (withScratchpad d (set (d .scratchpad) (highLimitPlace + k) (settingByte (rowOf (d .code)) k b)))
-    (if ltb (k + 1) (settingsCount (rowOf (d .code))) then TakeSettings (k + 1) 0 0 else Quiet)
+    if ltb k (settingsCount (rowOf (d .code) (d .pins)))
+    then withStage (withScratchpad d (set (d .scratchpad) (highLimitPlace + k) (settingByte (rowOf (d .code) (d .pins)) k b)))
+    (if ltb (k + 1) (settingsCount (rowOf (d .code) (d .pins))) then TakeSettings (k + 1) 0 0 else Quiet)
     else withStage d Quiet
 
 abbrev pub hearSettings : Device → ℕ → Shifted → Device

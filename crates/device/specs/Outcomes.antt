@@ -30,8 +30,8 @@ pub record Outcomes (d : Device) (l : Bool) (P : Device → Type 0) : Type 0 whe
   pub copies : (s : ℕ) → d .stage ≡ AwaitFunction s 7 → busy d ≡ false → P (withStage (copying d) SendStatus)
   pub recalls : (s : ℕ) → d .stage ≡ AwaitFunction s 7 → busy d ≡ false → P (withStage (recalled d) Quiet)
   -- the last bit of a byte of 4Eh
-  pub setting-stored : (k s : ℕ) → d .stage ≡ TakeSettings k s 7 → k < settingsCount (rowOf (d .code)) → (next : Stage)
-      → P (withStage (withScratchpad d (set (d .scratchpad) (highLimitPlace + k) (settingByte (rowOf (d .code)) k (shiftIn s l)))) next)
+  pub setting-stored : (k s : ℕ) → d .stage ≡ TakeSettings k s 7 → k < settingsCount (rowOf (d .code) (d .pins)) → (next : Stage)
+      → P (withStage (withScratchpad d (set (d .scratchpad) (highLimitPlace + k) (settingByte (rowOf (d .code) (d .pins)) k (shiftIn s l)))) next)
 
 module _ (d : Device) (l : Bool) (P : Device → Type 0) (o : Outcomes d l P) where
   idle-outcome : (c s : ℕ) → d .stage ≡ AwaitFunction s 7 → busy d ≡ false → P (idleCommand d c)
@@ -63,12 +63,12 @@ module _ (d : Device) (l : Bool) (P : Device → Type 0) (o : Outcomes d l P) wh
 
   store-outcome : (k s : ℕ) → d .stage ≡ TakeSettings k s 7 → P (storeSetting d k (shiftIn s l))
   unfolding storeSetting
-  store-outcome k s e = by-test (ltb k (settingsCount (rowOf (d .code)))) refl
+  store-outcome k s e = by-test (ltb k (settingsCount (rowOf (d .code) (d .pins)))) refl
     where
-      by-test : (t : Bool) → ltb k (settingsCount (rowOf (d .code))) ≡ t → P
+      by-test : (t : Bool) → ltb k (settingsCount (rowOf (d .code) (d .pins))) ≡ t → P
           (if t
-          then withStage (withScratchpad d (set (d .scratchpad) (highLimitPlace + k) (settingByte (rowOf (d .code)) k (shiftIn s l))))
-          (if ltb (k + 1) (settingsCount (rowOf (d .code))) then TakeSettings (k + 1) 0 0 else Quiet)
+          then withStage (withScratchpad d (set (d .scratchpad) (highLimitPlace + k) (settingByte (rowOf (d .code) (d .pins)) k (shiftIn s l))))
+          (if ltb (k + 1) (settingsCount (rowOf (d .code) (d .pins))) then TakeSettings (k + 1) 0 0 else Quiet)
           else withStage d Quiet)
       by-test true f = o .setting-stored k s e (ltb-true k _ f) _
       by-test false f = o .moved _

@@ -9,7 +9,7 @@ use mathlib.Core.Path.{_≡_}
 use mathlib.Core.Bool.{Bool, true, _&&_}
 use mathlib.Core.List.{List}
 use lib.ListN.{length, getD}
-use Rattle.family.specs.Configuration.{inForm}
+use Rattle.family.specs.Configuration.{asKept}
 use Rattle.family.specs.Layout.{configurationPlace}
 use Rattle.family.specs.declared.Properties.{Properties}
 use Rattle.temperature.specs.Range.{inRange}
@@ -26,19 +26,19 @@ abbrev pub verdictOn : Page → Bool
 verdictOn page = page .taken && verdict (page .reading) (page .high) (page .low)
 
 -- the settings that a copy holds
-abbrev pub copyInForm : Properties → Activity → Bool
-copyInForm row Idle = true
-copyInForm row Converting = true
-copyInForm row (Copying s) = inForm row (s .configuration)
+abbrev pub copyAsKept : Properties → Activity → Bool
+copyAsKept row Idle = true
+copyAsKept row Converting = true
+copyAsKept row (Copying s) = asKept row (s .configuration)
 
 pub record PadSound (row : Properties) (pad : List ℕ) : Type 0 where
   pub eight : length pad ≡ 8
-  pub in-form : inForm row (getD pad configurationPlace 0) ≡ true
+  pub as-kept : asKept row (getD pad configurationPlace 0) ≡ true
   pub in-range : inRange (rawIn row pad) ≡ true
   pub counts-believed : countsBelieved row pad ≡ true
 
 pub record Sound (d : Device) : Type 0 where
-  pub pad-sound : PadSound (rowOf (d .code)) (d .scratchpad)
-  pub eeprom-in-form : inForm (rowOf (d .code)) (d .eeprom .configuration) ≡ true
-  pub copy-in-form : copyInForm (rowOf (d .code)) (d .activity) ≡ true
+  pub pad-sound : PadSound (rowOf (d .code) (d .pins)) (d .scratchpad)
+  pub eeprom-as-kept : asKept (rowOf (d .code) (d .pins)) (d .eeprom .configuration) ≡ true
+  pub copy-as-kept : copyAsKept (rowOf (d .code) (d .pins)) (d .activity) ≡ true
   pub flag-is : d .alarm ≡ verdictOn (d .page)

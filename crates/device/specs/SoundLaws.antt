@@ -13,8 +13,9 @@ use Rattle.lists.specs.Choice.{if_then_else_}
 use Rattle.lists.specs.ChoiceLaws.{and-left, and-right}
 use Rattle.lists.specs.Fold.{all}
 use Rattle.commands.specs.Bytes.{shiftIn}
-use Rattle.family.specs.Configuration.{keptConfiguration, inForm}
-use Rattle.family.specs.ConfigurationLaws.{asked-none, kept-in-form}
+use Rattle.family.specs.Configuration.{keptConfiguration, asKept}
+use Rattle.family.specs.ConfigurationLaws.{kept-none, kept-as-kept}
+use Rattle.family.specs.Families.{keptPins}
 use Rattle.family.specs.FamiliesLaws.{every-row}
 use Rattle.family.specs.Layout.{highLimitPlace, configurationPlace}
 use Rattle.family.specs.declared.Properties.{Properties}
@@ -31,14 +32,14 @@ use Rattle.device.specs.declared.Joining.{Joining}
 use Rattle.device.specs.declared.Power.{Power}
 use Rattle.device.specs.declared.Settings.{Settings}
 use Rattle.device.specs.declared.Stage.{Stage}
-use Rattle.device.specs.Record.{withStage, withScratchpad, rowOf}
+use Rattle.device.specs.Record.{withStage, withScratchpad, familyRow, rowOf}
 use Rattle.device.specs.Settings.{settingsIn, withLimits, withSettings, settingByte}
 use Rattle.device.specs.SettingsLaws.{settings-few}
 use Rattle.device.specs.Hear.{hearOf}
 use Rattle.device.specs.Power.{resetOf, poweredUp, powerUp, joined}
 use Rattle.device.specs.Finish.{conversionDone, copyDone}
 use Rattle.device.specs.Outcomes.{hear-outcome}
-use Rattle.device.specs.Sound.{copyInForm, PadSound, Sound}
+use Rattle.device.specs.Sound.{copyAsKept, PadSound, Sound}
 
 -- ## The scratchpad
 
@@ -47,18 +48,18 @@ pub setting-sound : (row : Properties) (pad : List ℕ) (k byte : ℕ) → k < 3
 setting-sound row pad k byte few p =
     record {
       eight = length-set pad _ _ ∙ p .eight;
-      in-form = by-test (eqb k 2) refl;
+      as-kept = by-test (eqb k 2) refl;
       in-range = rw (raw-kept row pad (2 + k) (settingByte row k byte) (omega arith)) (p .in-range);
       counts-believed = rw (believed-kept row pad (2 + k) (settingByte row k byte) (omega arith)) (p .counts-believed);
     }
   where
-    by-test : (t : Bool) → eqb k 2 ≡ t → inForm row (getD (set pad (2 + k) (if t then keptConfiguration row byte else byte)) 4 0) ≡ true
+    by-test : (t : Bool) → eqb k 2 ≡ t → asKept row (getD (set pad (2 + k) (if t then keptConfiguration row byte else byte)) 4 0) ≡ true
     by-test true e =
         let f : k ≡ 2 = eqb-true k 2 e in let l : 4 < length pad = rw (p .eight) (lit< tt) in
-        rw (f, getD-set-same pad 4 (keptConfiguration row byte) 0 l) (kept-in-form row byte)
+        rw (f, getD-set-same pad 4 (keptConfiguration row byte) 0 l) (kept-as-kept row byte)
     by-test false e =
         let f = eqb-false k 2 e in
-        rw (getD-set-other pad (2 + k) 4 byte 0 (λ g. f (omega arith))) (p .in-form)
+        rw (getD-set-other pad (2 + k) 4 byte 0 (λ g. f (omega arith))) (p .as-kept)
 
 -- the settings of EEPROM over a scratchpad, whatever its configuration was
 pub settings-sound : (row : Properties) (pad : List ℕ) (s : Settings) → length pad ≡ 8 → inRange (rawIn row pad) ≡ true → countsBelieved row pad ≡ true → PadSound row (withSettings row pad s)
@@ -81,13 +82,13 @@ settings-sound row pad s l r c = by-test (row .configurable) refl
         let kept = keptConfiguration row (s .configuration) in
         record {
           eight = length-set (withLimits pad s) _ _ ∙ limits-length;
-          in-form = rw (getD-set-same (withLimits pad s) 4 kept 0 b) (kept-in-form row (s .configuration));
+          as-kept = rw (getD-set-same (withLimits pad s) 4 kept 0 b) (kept-as-kept row (s .configuration));
           in-range = rw (raw-kept row (withLimits pad s) 4 kept (lit≤ tt), limits-kept) r;
           counts-believed = rw (believed-kept row (withLimits pad s) 4 kept (lit< tt), limits-believed) c;
         }
     by-test false e = record {
       eight = limits-length;
-      in-form = asked-none row (getD (withLimits pad s) 4 0) (getD (withLimits pad s) 4 0) e;
+      as-kept = kept-none row (getD (withLimits pad s) 4 0) e;
       in-range = rw limits-kept r;
       counts-believed = rw limits-believed c;
     }
@@ -97,7 +98,7 @@ pub after-sound : (row : Properties) (count : Sixteenths) (pad : List ℕ) → i
     → PadSound row (scratchpadAfter row count pad)
 after-sound row count pad h p = record {
   eight = after-length row count pad ∙ p .eight;
-  in-form = rw (after-other row count pad 4 (lit≤ tt) (lit< tt)) (p .in-form);
+  as-kept = rw (after-other row count pad 4 (lit≤ tt) (lit< tt)) (p .as-kept);
   in-range = rw (after-raw row count pad h (p .eight)) (stored-range row count pad h);
   counts-believed = after-believed row count pad (p .eight);
 }
@@ -106,10 +107,10 @@ after-sound row count pad h p = record {
 startsSound : Properties → Bool
 startsSound row = eqb (length (row .initial)) 8 && (inRange (rawIn row (row .initial)) && countsBelieved row (row .initial))
 
-initial-sound : (code : ℕ) (s : Settings) → PadSound (rowOf code) (withSettings (rowOf code) (rowOf code .initial) s)
+initial-sound : (code pins : ℕ) (s : Settings) → PadSound (rowOf code pins) (withSettings (rowOf code pins) (rowOf code pins .initial) s)
 unfolding rowOf all startsSound
-initial-sound code s =
-    let row = rowOf code in
+initial-sound code pins s =
+    let row = rowOf code pins in
     let range = inRange (rawIn row (row .initial)) in
     let counts = countsBelieved row (row .initial) in
     let test : startsSound row ≡ true = every-row startsSound refl (familyOf code) in
@@ -119,60 +120,62 @@ initial-sound code s =
 
 -- ## The device
 
-settings-in-form : (row : Properties) (pad : List ℕ) → PadSound row pad → inForm row (settingsIn row pad .configuration) ≡ true
+settings-as-kept : (row : Properties) (pad : List ℕ) → PadSound row pad → asKept row (settingsIn row pad .configuration) ≡ true
 unfolding settingsIn
-settings-in-form row pad p = by-test (row .configurable) refl (p .in-form)
+settings-as-kept row pad p = by-test (row .configurable) refl (p .as-kept)
   where
-    by-test : (t : Bool) → row .configurable ≡ t → inForm row (getD pad configurationPlace 0) ≡ true → inForm row (if t then getD pad configurationPlace 0 else 0) ≡ true
+    by-test : (t : Bool) → row .configurable ≡ t → asKept row (getD pad configurationPlace 0) ≡ true → asKept row (if t then getD pad configurationPlace 0 else 0) ≡ true
     by-test true e h = h
-    by-test false e h = asked-none row 0 0 e
+    by-test false e h = kept-none row 0 e
 
-powered-sound : (code : ℕ) (power : Power) (s : Settings) → inForm (rowOf code) (s .configuration) ≡ true → Sound (poweredUp code power s)
-powered-sound code power s h = record { pad-sound = initial-sound code s; eeprom-in-form = h; copy-in-form = refl; flag-is = refl }
+powered-sound : (code : ℕ) (power : Power) (pins : ℕ) (s : Settings) → asKept (rowOf code pins) (s .configuration) ≡ true → Sound (poweredUp code power pins s)
+powered-sound code power pins s h = record { pad-sound = initial-sound code pins s; eeprom-as-kept = h; copy-as-kept = refl; flag-is = refl }
 
 pub joined-sound : (new : Joining) → Sound (joined new)
 unfolding joined
-joined-sound new = powered-sound (new .code) (new .power) _ (kept-in-form (rowOf (new .code)) (new .configuration))
+joined-sound new =
+    let pins = keptPins (familyRow (new .code)) (new .pins) in
+    powered-sound (new .code) (new .power) pins _ (kept-as-kept (rowOf (new .code) pins) (new .configuration))
 
 pub power-up-sound : (d : Device) → Sound d → Sound (powerUp d)
 unfolding powerUp
-power-up-sound d s = powered-sound (d .code) (d .power) (d .eeprom) (s .eeprom-in-form)
+power-up-sound d s = powered-sound (d .code) (d .power) (d .pins) (d .eeprom) (s .eeprom-as-kept)
 
 pub reset-sound : (d : Device) → Sound d → Sound (resetOf d)
-reset-sound d s = record { pad-sound = s .pad-sound; eeprom-in-form = s .eeprom-in-form; copy-in-form = s .copy-in-form; flag-is = s .flag-is }
+reset-sound d s = record { pad-sound = s .pad-sound; eeprom-as-kept = s .eeprom-as-kept; copy-as-kept = s .copy-as-kept; flag-is = s .flag-is }
 
 pub hear-sound : (d : Device) (l : Bool) → Sound d → Sound (hearOf d l)
 hear-sound d l s =
     hear-outcome d l Sound
     (record {
-      moved = λ t. record { pad-sound = p; eeprom-in-form = s .eeprom-in-form; copy-in-form = s .copy-in-form; flag-is = s .flag-is };
-      converts = λ t e i. record { pad-sound = p; eeprom-in-form = s .eeprom-in-form; copy-in-form = refl; flag-is = s .flag-is };
-      copies = λ t e i. record { pad-sound = p; eeprom-in-form = s .eeprom-in-form; copy-in-form = settings-in-form row (d .scratchpad) p; flag-is = s .flag-is };
+      moved = λ t. record { pad-sound = p; eeprom-as-kept = s .eeprom-as-kept; copy-as-kept = s .copy-as-kept; flag-is = s .flag-is };
+      converts = λ t e i. record { pad-sound = p; eeprom-as-kept = s .eeprom-as-kept; copy-as-kept = refl; flag-is = s .flag-is };
+      copies = λ t e i. record { pad-sound = p; eeprom-as-kept = s .eeprom-as-kept; copy-as-kept = settings-as-kept row (d .scratchpad) p; flag-is = s .flag-is };
       recalls = λ t e i. with-pad (settings-sound row (d .scratchpad) (d .eeprom) (p .eight) (p .in-range) (p .counts-believed));
       setting-stored = λ k t e i n. with-pad (setting-sound row (d .scratchpad) k (shiftIn t l) (omega (arith, settings-few row)) p);
     })
   where
     row : Properties
-    row = rowOf (d .code)
+    row = rowOf (d .code) (d .pins)
 
-    p : PadSound (rowOf (d .code)) (d .scratchpad)
+    p : PadSound (rowOf (d .code) (d .pins)) (d .scratchpad)
     p = s .pad-sound
 
-    with-pad : {pad : List ℕ} {t : Stage} → PadSound (rowOf (d .code)) pad → Sound (withStage (withScratchpad d pad) t)
-    with-pad q = record { pad-sound = q; eeprom-in-form = s .eeprom-in-form; copy-in-form = s .copy-in-form; flag-is = s .flag-is }
+    with-pad : {pad : List ℕ} {t : Stage} → PadSound (rowOf (d .code) (d .pins)) pad → Sound (withStage (withScratchpad d pad) t)
+    with-pad q = record { pad-sound = q; eeprom-as-kept = s .eeprom-as-kept; copy-as-kept = s .copy-as-kept; flag-is = s .flag-is }
 
 pub conversion-sound : (d : Device) (count : Sixteenths) → inRange (InSixteenths count) ≡ true → Sound d → Sound (conversionDone d count)
 unfolding conversionDone
 conversion-sound d count h s =
     record {
-      pad-sound = after-sound (rowOf (d .code)) count (d .scratchpad) h (s .pad-sound);
-      eeprom-in-form = s .eeprom-in-form;
-      copy-in-form = refl;
+      pad-sound = after-sound (rowOf (d .code) (d .pins)) count (d .scratchpad) h (s .pad-sound);
+      eeprom-as-kept = s .eeprom-as-kept;
+      copy-as-kept = refl;
       flag-is = refl;
     }
 
 pub copy-sound : (d : Device) (latched : Settings) → d .activity ≡ Copying latched → Sound d → Sound (copyDone d latched)
 unfolding copyDone
 copy-sound d latched e s =
-    let f : copyInForm (rowOf (d .code)) (Copying latched) ≡ true = rw e at (s .copy-in-form) in
-    record { pad-sound = s .pad-sound; eeprom-in-form = f; copy-in-form = refl; flag-is = s .flag-is }
+    let f : copyAsKept (rowOf (d .code) (d .pins)) (Copying latched) ≡ true = rw e at (s .copy-as-kept) in
+    record { pad-sound = s .pad-sound; eeprom-as-kept = f; copy-as-kept = refl; flag-is = s .flag-is }

@@ -1,6 +1,6 @@
 // One thermometer: its record, the record with one part replaced, and the settings that it keeps.
 ghost use mathlib.Core.Path.{_≡_};
-ghost use Rattle.device.specs.Record.{withStage, withActivity, withScratchpad, withEeprom, withAlarm, withPage, rowOf, busy, holdsWire};
+ghost use Rattle.device.specs.Record.{withStage, withActivity, withScratchpad, withEeprom, withAlarm, withPage, familyRow, rowOf, busy, holdsWire};
 ghost use Rattle.device.specs.Settings.{settingsIn, withSettings};
 use family::Properties;
 use scratchpad::EightBytes;
@@ -66,6 +66,8 @@ pub struct Device {
     pub eeprom: Settings,
     pub alarm: bool,
     pub page: Page,
+    // the address pins of a family that has them, else 0
+    pub pins: u8,
 }
 
 // An attempt to end a conversion or a copy: 0 and the device after it, or the refusal and the device as
@@ -82,6 +84,8 @@ pub struct Joining {
     pub high: u8,
     pub low: u8,
     pub configuration: u8,
+    // looked at where the family has address pins
+    pub pins: u8,
 }
 
 // ---- The record with one part replaced
@@ -146,10 +150,17 @@ pub fn holds_wire(d: Device) -> bool
 }
 
 // The properties of the code's family.
-pub fn row_of(code: u64) -> Properties
-    ensures answer { λ r. ⌜ r ≡ rowOf code ⌝ }
+pub fn family_row(code: u64) -> Properties
+    ensures answer { λ r. ⌜ r ≡ familyRow code ⌝ }
 {
     family::properties_of(rom::family_of(code))
+}
+
+// Those of one device of the family, with its pins.
+pub fn row_of(code: u64, pins: u8) -> Properties
+    ensures answer { λ r. ⌜ r ≡ rowOf code pins ⌝ }
+{
+    family::with_pins(family_row(code), pins)
 }
 
 // ---- The settings

@@ -14,7 +14,7 @@ fn copying(d: Device) -> Device
     ensures answer { λ r. ⌜ r ≡ copying d ⌝ }
 {
     let pad = d.scratchpad;
-    let latched = device::settings_in(device::row_of(d.code), pad);
+    let latched = device::settings_in(device::row_of(d.code, d.pins), pad);
     device::with_activity(d, Activity::Copying(latched))
 }
 
@@ -26,7 +26,7 @@ fn recalled(d: Device) -> Device
     let eeprom = d.eeprom;
     device::with_scratchpad(
         d,
-        device::with_settings(device::row_of(d.code), pad, eeprom),
+        device::with_settings(device::row_of(d.code, d.pins), pad, eeprom),
     )
 }
 
@@ -105,7 +105,7 @@ fn setting_byte(row: Properties, k: u8, byte: u8) -> u8
 fn store_setting(d: Device, k: u8, byte: u8) -> Device
     ensures answer { λ r. ⌜ r ≡ storeSetting d k byte ⌝ }
 {
-    let row = device::row_of(d.code);
+    let row = device::row_of(d.code, d.pins);
     let last = settings_count(row);
     if last <= k {
         return device::with_stage(d, Stage::Quiet);

@@ -20,10 +20,10 @@ pub fn reset(d: Device) -> Device
     device::with_stage(d, Stage::AwaitRom { shift: 0, count: 0 })
 }
 
-fn powered_up(code: u64, power: Power, eeprom: Settings) -> Device
-    ensures answer { λ r. ⌜ r ≡ poweredUp code power eeprom ⌝ }
+fn powered_up(code: u64, power: Power, pins: u8, eeprom: Settings) -> Device
+    ensures answer { λ r. ⌜ r ≡ poweredUp code power pins eeprom ⌝ }
 {
-    let row = device::row_of(code);
+    let row = device::row_of(code, pins);
     let initial = row.initial;
     let scratchpad = device::with_settings(row, initial, eeprom);
     Device {
@@ -40,6 +40,7 @@ fn powered_up(code: u64, power: Power, eeprom: Settings) -> Device
             high: 0,
             low: 0,
         },
+        pins,
     }
 }
 
@@ -49,7 +50,7 @@ pub fn power_cycle(d: Device) -> Device
 {
     let power = d.power;
     let eeprom = d.eeprom;
-    powered_up(d.code, power, eeprom)
+    powered_up(d.code, power, d.pins, eeprom)
 }
 
 // A new device, powered up.
@@ -57,11 +58,13 @@ pub fn join(new: Joining) -> Device
     ensures answer { λ r. ⌜ r ≡ joined new ⌝ }
 {
     let power = new.power;
-    let row = device::row_of(new.code);
+    let pins = family::kept_pins(device::family_row(new.code), new.pins);
+    let row = device::row_of(new.code, pins);
     let configuration = family::kept_configuration(row, new.configuration);
     powered_up(
         new.code,
         power,
+        pins,
         Settings {
             high: new.high,
             low: new.low,
@@ -75,7 +78,7 @@ fn finish_conversion(d: Device, count: Sixteenths) -> Device
     ensures answer { λ r. ⌜ r ≡ conversionDone d count ⌝ }
 {
     let pad = d.scratchpad;
-    let row = device::row_of(d.code);
+    let row = device::row_of(d.code, d.pins);
     let reading = scratchpad::stored_reading(row, count, pad);
     let high = pad[family::HIGH_LIMIT];
     let low = pad[family::LOW_LIMIT];

@@ -8,16 +8,20 @@ use Rattle.lists.specs.Choice.{if_then_else_}
 use Rattle.lists.specs.ChoiceLaws.{and-left, and-right}
 use Rattle.lists.specs.Fold.{all}
 use Rattle.family.specs.declared.Properties.{Properties}
-use Rattle.family.specs.Families.{ds18s20, ds18b20, rowS, rowB, rowUnknown, rows, propertiesOf}
+use Rattle.family.specs.Families.{ds18s20, ds18b20, ds1825, rowS, rowB, rowPinned, rowUnknown, rows, propertiesOf}
 
 pub every-row : (p : Properties → Bool) → all p rows ≡ true → (f : ℕ) → p (propertiesOf f) ≡ true
 unfolding all
-every-row p h f = by-tests (eqb f ds18s20) (eqb f ds18b20)
+every-row p h f = by-tests (eqb f ds18s20) (eqb f ds18b20) (eqb f ds1825)
   where
-    rest : (p rowB && (p rowUnknown && true)) ≡ true
-    rest = and-right (p rowS) (p rowB && (p rowUnknown && true)) h
+    after-s : (p rowB && (p rowPinned && (p rowUnknown && true))) ≡ true
+    after-s = and-right (p rowS) (p rowB && (p rowPinned && (p rowUnknown && true))) h
 
-    by-tests : (t u : Bool) → p (if t then rowS else if u then rowB else rowUnknown) ≡ true
-    by-tests true u = and-left (p rowS) (p rowB && (p rowUnknown && true)) h
-    by-tests false true = and-left (p rowB) (p rowUnknown && true) rest
-    by-tests false false = and-left (p rowUnknown) true (and-right (p rowB) (p rowUnknown && true) rest)
+    after-b : (p rowPinned && (p rowUnknown && true)) ≡ true
+    after-b = and-right (p rowB) (p rowPinned && (p rowUnknown && true)) after-s
+
+    by-tests : (t u v : Bool) → p (if t then rowS else if u then rowB else if v then rowPinned else rowUnknown) ≡ true
+    by-tests true u v = and-left (p rowS) (p rowB && (p rowPinned && (p rowUnknown && true))) h
+    by-tests false true v = and-left (p rowB) (p rowPinned && (p rowUnknown && true)) after-s
+    by-tests false false true = and-left (p rowPinned) (p rowUnknown && true) after-b
+    by-tests false false false = and-left (p rowUnknown) true (and-right (p rowPinned) (p rowUnknown && true) after-b)

@@ -1,12 +1,14 @@
 // What differs between the thermometer families, in one table, and the layout that they share.
 ghost use mathlib.Core.Path.{_≡_};
-ghost use Rattle.family.specs.Families.{propertiesOf};
-ghost use Rattle.family.specs.Configuration.{storedForm, keptConfiguration, configurationAsAsked, inForm};
+ghost use Rattle.family.specs.Families.{propertiesOf, withPins, keptPins, pinsWrong};
+ghost use Rattle.family.specs.Configuration.{storedForm, keptConfiguration, sameSeen, configurationAsAsked, inForm};
 
 // The family codes, the low byte of a ROM code.
 pub const DS18S20: u8 = 0x10;
 
 pub const DS18B20: u8 = 0x28;
+
+pub const DS1825: u8 = 0x3B;
 
 // The places of a scratchpad. The ninth byte is the CRC of the eight before it.
 pub const READING_LOW: usize = 0;
@@ -37,6 +39,8 @@ pub struct Properties {
     pub known: bool,
     // whether a configuration byte follows the two limits
     pub configurable: bool,
+    // whether the low four bits of a configuration read address pins
+    pub pinned: bool,
     pub unit: Unit,
     // the low four bits of a stored configuration
     pub nibble: u8,
@@ -52,6 +56,7 @@ pub fn properties_of(family: u8) -> Properties
         return Properties {
             known: true,
             configurable: false,
+            pinned: false,
             unit: Unit::HalfDegrees,
             nibble: 0,
             initial: [0xAA, 0x00, 0, 0, 0xFF, 0xFF, 0x0C, 0x10],
@@ -61,18 +66,64 @@ pub fn properties_of(family: u8) -> Properties
         return Properties {
             known: true,
             configurable: true,
+            pinned: false,
             unit: Unit::Sixteenths,
             nibble: 0x0F,
+            initial: [0x50, 0x05, 0, 0, 0, 0xFF, 0x0C, 0x10],
+        };
+    }
+    if family == DS1825 {
+        return Properties {
+            known: true,
+            configurable: true,
+            pinned: true,
+            unit: Unit::Sixteenths,
+            nibble: 0,
             initial: [0x50, 0x05, 0, 0, 0, 0xFF, 0x0C, 0x10],
         };
     }
     Properties {
         known: false,
         configurable: false,
+        pinned: false,
         unit: Unit::Sixteenths,
         nibble: 0,
         initial: [0; 8],
     }
+}
+
+fn nibble_of(row: Properties, pins: u8) -> u8
+    ensures answer { λ r. ⌜ r ≡ withPins row pins .nibble ⌝ }
+{
+    if row.pinned {
+        return pins;
+    }
+    row.nibble
+}
+
+// The row of one device: where its family has pins, they are the low four bits of its configuration.
+pub fn with_pins(row: Properties, pins: u8) -> Properties
+    ensures answer { λ r. ⌜ r ≡ withPins row pins ⌝ }
+{
+    let nibble = nibble_of(row, pins);
+    Properties { nibble, ..row }
+}
+
+// The pins that a device keeps.
+pub fn kept_pins(row: Properties, pins: u8) -> u8
+    ensures answer { λ r. ⌜ r ≡ keptPins row pins ⌝ }
+{
+    if row.pinned {
+        return pins;
+    }
+    0
+}
+
+// Whether a device of this family cannot have these pins: there are four.
+pub fn pins_wrong(row: Properties, pins: u8) -> bool
+    ensures answer { λ r. ⌜ r ≡ pinsWrong row pins ⌝ }
+{
+    row.pinned && 15 < pins
 }
 
 // The stored form of a configuration byte: the two resolution bits, a 1, and the family's low four bits.
@@ -92,17 +143,28 @@ pub fn kept_configuration(row: Properties, byte: u8) -> u8
     0
 }
 
-// Whether a byte stands where this configuration was written. A family without one may have any byte.
+// Whether a master takes two configurations for the same: no master knows the pins.
+fn same_seen(row: Properties, a: u8, b: u8) -> bool
+    ensures answer { λ r. ⌜ r ≡ sameSeen row a b ⌝ }
+{
+    if row.pinned {
+        return a / 16 == b / 16;
+    }
+    a == b
+}
+
+// Whether a master takes a byte for what became of this configuration. A family without one may have any
+// byte.
 pub fn configuration_as_asked(row: Properties, asked: u8, byte: u8) -> bool
     ensures answer { λ r. ⌜ r ≡ configurationAsAsked row asked byte ⌝ }
 {
     if row.configurable {
-        return byte == stored_form(asked, row.nibble);
+        return same_seen(row, byte, stored_form(asked, row.nibble));
     }
     true
 }
 
-// Whether a device of this row can have the byte in the place of its configuration.
+// Whether a master takes the byte for a configuration.
 pub fn configuration_in_form(row: Properties, byte: u8) -> bool
     ensures answer { λ r. ⌜ r ≡ inForm row byte ⌝ }
 {

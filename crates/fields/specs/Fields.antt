@@ -4,6 +4,7 @@
 --     bitIn w                0 or 1
 --     placesIn w             the places of a list that a search is lent, at most 32
 --     bytesIn w              the bytes of a recording that a search is lent, at most 1,824
+--     pinsIn w               the address pins of a device, up to 255 in one to three digits
 --     countIn w              a count of sixteenths from -32768 to 32767, with a minus in front where it is negative; -0 is taken
 --     threeBytesIn h l c     three bytes: high limit, low limit, configuration
 --     powerIn w              line or external
@@ -50,6 +51,9 @@ placesIn w = decimalRead mostDigits mostPlaces w
 
 abbrev pub bytesIn : List ℕ → NumberRead
 bytesIn w = decimalRead mostDigits mostBytes w
+
+abbrev pub pinsIn : List ℕ → NumberRead
+pinsIn w = decimalRead 3 255 w
 
 -- whether a word starts with a minus
 abbrev pub isNegative : List ℕ → Bool

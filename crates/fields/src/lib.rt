@@ -1,7 +1,7 @@
 // The fields of a call.
 ghost use mathlib.Core.Path.{_≡_};
 ghost use mathlib.Core.Bool.{_&&_};
-ghost use Rattle.fields.specs.Fields.{codeIn, byteIn, bitIn, placesIn, bytesIn, isNegative, countIn, threeBytesIn, powerIn};
+ghost use Rattle.fields.specs.Fields.{codeIn, byteIn, bitIn, placesIn, bytesIn, pinsIn, isNegative, countIn, threeBytesIn, powerIn};
 use device::Power;
 use device::Settings;
 use temperature::Sixteenths;
@@ -60,6 +60,12 @@ pub fn bytes_in(w: &[u8]) -> NumberRead
     ensures answer { λ r. ⌜ r ≡ bytesIn (now (w .entry)) ⌝ }
 {
     text::read_decimal(w, MOST_DIGITS, MOST_BYTES as u64)
+}
+
+pub fn pins_in(w: &[u8]) -> NumberRead
+    ensures answer { λ r. ⌜ r ≡ pinsIn (now (w .entry)) ⌝ }
+{
+    text::read_decimal(w, 3, 255)
 }
 
 fn is_negative(w: &[u8]) -> bool

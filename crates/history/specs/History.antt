@@ -60,7 +60,7 @@ abbrev pub Byte : ℕ → Type 0
 Byte b = b < 256
 
 abbrev pub Typed : Call → Type 0
-Typed (add new) = Code64 (new .code) × Byte (new .high) × Byte (new .low) × Byte (new .configuration)
+Typed (add new) = Code64 (new .code) × Byte (new .high) × Byte (new .low) × Byte (new .configuration) × Byte (new .pins)
 Typed reset = Unit
 Typed (slot m) = Unit
 Typed (finishConversion code n) = Code64 code × SFits w16 (n .0)
@@ -91,7 +91,7 @@ apply b (write code s) = writeAt b code s .bench
 abbrev pub pageOf : Device → Sixteenths → Page
 pageOf d n = record {
   taken = true;
-  reading = storedReading (rowOf (d .code)) n (d .scratchpad);
+  reading = storedReading (rowOf (d .code) (d .pins)) n (d .scratchpad);
   high = getD (d .scratchpad) highLimitPlace 0;
   low = getD (d .scratchpad) lowLimitPlace 0;
 }

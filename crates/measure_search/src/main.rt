@@ -53,6 +53,7 @@ fn full_bench() -> Bench {
             high: 25,
             low: 0,
             configuration: 0x7F,
+            pins: 0,
         };
         b = bench::add(b, new).bench;
         serial += 1;

@@ -61,6 +61,10 @@ mismatch = 13
 abbrev pub badTriple : ℕ
 badTriple = 14
 
+-- the address pins of a device that has them are over 15
+abbrev pub wrongPins : ℕ
+wrongPins = 17
+
 -- the count bytes of a scratchpad in half degrees cannot be: byte 7 is zero, or byte 6 above it
 abbrev pub wrongCounts : ℕ
 wrongCounts = 20

@@ -45,5 +45,8 @@ pub const MISMATCH: u8 = 13;
 // A search pass holds a triple that no device can give.
 pub const BAD_TRIPLE: u8 = 14;
 
-// the count bytes of a scratchpad in half degrees cannot be: byte 7 is zero, or byte 6 above it
+// The address pins of a device that has them are over 15.
+pub const WRONG_PINS: u8 = 17;
+
+// The count bytes of a scratchpad in half degrees cannot be: byte 7 is zero, or byte 6 above it.
 pub const WRONG_COUNTS: u8 = 20;

@@ -18,7 +18,7 @@ use Rattle.requests.specs.declared.Request.{Request}
 use Rattle.requests.specs.declared.Request.the-variants.{Bad, Add, Reset, Slot, Converted, Copied, Cycle, Search, Alarm, Read, Write, Show, Why}
 use Rattle.fields.specs.declared.SettingsRead.{SettingsRead}
 use Rattle.words.specs.Words.{same, wordOf, wordsOf}
-use Rattle.fields.specs.Fields.{codeIn, bitIn, placesIn, bytesIn, countIn, threeBytesIn, powerIn, mostPlaces, mostBytes}
+use Rattle.fields.specs.Fields.{codeIn, bitIn, placesIn, bytesIn, pinsIn, countIn, threeBytesIn, powerIn, mostPlaces, mostBytes}
 
 -- ## The requests, by what was read of their fields
 
@@ -39,8 +39,8 @@ lent request places bytes = if places .valid && bytes .valid then request (place
 abbrev pub writeAsked : NumberRead → SettingsRead → Request
 writeAsked code s = if code .valid && s .valid then Write (code .number) (s .settings) else Bad
 
-abbrev pub addAsked : NumberRead → PowerRead → SettingsRead → Request
-addAsked code power s =
+abbrev pub addAsked : NumberRead → PowerRead → SettingsRead → ℕ → Request
+addAsked code power s pins =
     if code .valid && power .valid && s .valid then
     Add record {
       code = code .number;
@@ -48,8 +48,12 @@ addAsked code power s =
       high = s .settings .high;
       low = s .settings .low;
       configuration = s .settings .configuration;
+      pins = pins;
     }
     else Bad
+
+abbrev pub pinnedAsked : NumberRead → PowerRead → SettingsRead → NumberRead → Request
+pinnedAsked code power s pins = if pins .valid then addAsked code power s (pins .number) else Bad
 
 -- ## The table
 
@@ -69,11 +73,12 @@ ofMaster ws =
     else if asks (ascii "write") 4 ws then writeAsked (codeIn (field 1)) (threeBytesIn (field 2) (field 3) (field 4))
     else Bad
 
--- ADD CODE POWER HIGH LOW CONFIGURATION; RESET; SLOT BIT; CONVERTED CODE COUNT; COPIED, CYCLE, SHOW, WHY CODE
+-- ADD CODE POWER HIGH LOW CONFIGURATION, or with PINS, else 0; RESET; SLOT BIT; CONVERTED CODE COUNT; COPIED, CYCLE, SHOW, WHY CODE
 unfoldable pub ofBench : List (List ℕ) → Request
 ofBench ws =
     let field = wordOf ws in
-    if asks (ascii "add") 5 ws then addAsked (codeIn (field 1)) (powerIn (field 2)) (threeBytesIn (field 3) (field 4) (field 5))
+    if asks (ascii "add") 5 ws then addAsked (codeIn (field 1)) (powerIn (field 2)) (threeBytesIn (field 3) (field 4) (field 5)) 0
+    else if asks (ascii "add") 6 ws then pinnedAsked (codeIn (field 1)) (powerIn (field 2)) (threeBytesIn (field 3) (field 4) (field 5)) (pinsIn (field 6))
     else if asks (ascii "reset") 0 ws then Reset
     else if asks (ascii "slot") 1 ws then slotAsked (bitIn (field 1))
     else if asks (ascii "converted") 2 ws then convertedAsked (codeIn (field 1)) (countIn (field 2))

@@ -12,8 +12,8 @@ use Rattle.text.specs.Ascii.{ascii}
 use Rattle.requests.specs.declared.Request.the-variants.{Bad, Reset, Copied, Cycle, Search, Alarm, Read, Show, Why}
 use Rattle.words.specs.Words.{same, wordOf}
 use Rattle.words.specs.WordsLaws.{same-equal}
-use Rattle.fields.specs.Fields.{codeIn, bitIn, placesIn, bytesIn, countIn, threeBytesIn, powerIn, mostPlaces, mostBytes}
-use Rattle.requests.specs.Requests.{asks, slotAsked, convertedAsked, atCode, lent, writeAsked, addAsked, ofMaster, ofBench}
+use Rattle.fields.specs.Fields.{codeIn, bitIn, placesIn, bytesIn, pinsIn, countIn, threeBytesIn, powerIn, mostPlaces, mostBytes}
+use Rattle.requests.specs.Requests.{asks, slotAsked, convertedAsked, atCode, lent, writeAsked, addAsked, pinnedAsked, ofMaster, ofBench}
 
 module _ (name : List ℕ) (n : ℕ) (ws : List (List ℕ)) (e : asks name n ws ≡ true) where
   pub asks-name : wordOf ws 0 ≡ name
@@ -25,9 +25,14 @@ module _ (name : List ℕ) (n : ℕ) (ws : List (List ℕ)) (e : asks name n ws 
 -- ## The calls on the bench
 
 module _ (ws : List (List ℕ)) where
-  pub row-add : asks (ascii "add") 5 ws ≡ true → addAsked (codeIn (wordOf ws 1)) (powerIn (wordOf ws 2)) (threeBytesIn (wordOf ws 3) (wordOf ws 4) (wordOf ws 5)) ≡ ofBench ws
+  pub row-add : asks (ascii "add") 5 ws ≡ true → addAsked (codeIn (wordOf ws 1)) (powerIn (wordOf ws 2)) (threeBytesIn (wordOf ws 3) (wordOf ws 4) (wordOf ws 5)) 0 ≡ ofBench ws
   unfolding ofBench same
   row-add e = rw (asks-name (ascii "add") 5 ws e, asks-fields (ascii "add") 5 ws e)
+
+  pub row-pinned : asks (ascii "add") 6 ws ≡ true
+      → pinnedAsked (codeIn (wordOf ws 1)) (powerIn (wordOf ws 2)) (threeBytesIn (wordOf ws 3) (wordOf ws 4) (wordOf ws 5)) (pinsIn (wordOf ws 6)) ≡ ofBench ws
+  unfolding ofBench same
+  row-pinned e = rw (asks-name (ascii "add") 6 ws e, asks-fields (ascii "add") 6 ws e)
 
   pub row-reset : asks (ascii "reset") 0 ws ≡ true → Reset ≡ ofBench ws
   unfolding ofBench same
@@ -57,10 +62,10 @@ module _ (ws : List (List ℕ)) where
   unfolding ofBench same
   row-why e = rw (asks-name (ascii "why") 1 ws e, asks-fields (ascii "why") 1 ws e)
 
-  pub no-bench-row : asks (ascii "add") 5 ws ≡ false → asks (ascii "reset") 0 ws ≡ false → asks (ascii "slot") 1 ws ≡ false → asks (ascii "converted") 2 ws ≡ false → asks (ascii "copied") 1 ws ≡ false → asks (ascii "cycle") 1 ws ≡ false → asks (ascii "show") 1 ws ≡ false → asks (ascii "why") 1 ws ≡ false
+  pub no-bench-row : asks (ascii "add") 5 ws ≡ false → asks (ascii "add") 6 ws ≡ false → asks (ascii "reset") 0 ws ≡ false → asks (ascii "slot") 1 ws ≡ false → asks (ascii "converted") 2 ws ≡ false → asks (ascii "copied") 1 ws ≡ false → asks (ascii "cycle") 1 ws ≡ false → asks (ascii "show") 1 ws ≡ false → asks (ascii "why") 1 ws ≡ false
       → ofMaster ws ≡ ofBench ws
   unfolding ofBench
-  no-bench-row a b c d e f g h = rw (a, b, c, d, e, f, g, h)
+  no-bench-row a p b c d e f g h = rw (a, p, b, c, d, e, f, g, h)
 
 -- ## The calls of the master
 

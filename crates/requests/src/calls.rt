@@ -1,9 +1,9 @@
 // The calls, by name, number of fields and request.
 ghost use mathlib.Core.Path.{_≡_};
 ghost use Rattle.words.specs.Words.{wordsOf, wordOf};
-ghost use Rattle.fields.specs.Fields.{codeIn, bitIn, placesIn, bytesIn, countIn, threeBytesIn, powerIn};
+ghost use Rattle.fields.specs.Fields.{codeIn, bitIn, placesIn, bytesIn, pinsIn, countIn, threeBytesIn, powerIn};
 ghost use Rattle.requests.specs.declared.Request.the-variants.{Copied, Cycle, Search, Alarm, Read, Show, Why};
-ghost use Rattle.requests.specs.Requests.{asks, slotAsked, convertedAsked, atCode, lent, writeAsked, addAsked, ofMaster, ofBench};
+ghost use Rattle.requests.specs.Requests.{asks, slotAsked, convertedAsked, atCode, lent, writeAsked, addAsked, pinnedAsked, ofMaster, ofBench};
 use crate::Request;
 use device::Joining;
 use fields::MOST_BYTES;
@@ -12,6 +12,7 @@ use fields::bit_in;
 use fields::bytes_in;
 use fields::code_in;
 use fields::count_in;
+use fields::pins_in;
 use fields::places_in;
 use fields::power_in;
 use fields::settings_in;
@@ -21,9 +22,9 @@ use words::word;
 
 // ---- Requests, by their fields
 
-// `add CODE POWER HIGH LOW CONFIGURATION`
-fn add(line: &[u8]) -> Request
-    ensures { λ r. ⌜ r ≡ addAsked (codeIn (wordOf (wordsOf (now (line .entry))) 1)) (powerIn (wordOf (wordsOf (now (line .entry))) 2)) (threeBytesIn (wordOf (wordsOf (now (line .entry))) 3) (wordOf (wordsOf (now (line .entry))) 4) (wordOf (wordsOf (now (line .entry))) 5)) ⌝ }
+// `add CODE POWER HIGH LOW CONFIGURATION`, with the pins of the device
+fn add(line: &[u8], pins: u8) -> Request
+    ensures { λ r. ⌜ r ≡ addAsked (codeIn (wordOf (wordsOf (now (line .entry))) 1)) (powerIn (wordOf (wordsOf (now (line .entry))) 2)) (threeBytesIn (wordOf (wordsOf (now (line .entry))) 3) (wordOf (wordsOf (now (line .entry))) 4) (wordOf (wordsOf (now (line .entry))) 5)) pins ⌝ }
 {
     let code = code_in(word(line, 1));
     let p = power_in(word(line, 2));
@@ -39,9 +40,21 @@ fn add(line: &[u8]) -> Request
                     high: settings.high,
                     low: settings.low,
                     configuration: settings.configuration,
+                    pins,
                 });
             }
         }
+    }
+    Request::Bad
+}
+
+// `add CODE POWER HIGH LOW CONFIGURATION PINS`
+fn add_pinned(line: &[u8]) -> Request
+    ensures { λ r. ⌜ r ≡ pinnedAsked (codeIn (wordOf (wordsOf (now (line .entry))) 1)) (powerIn (wordOf (wordsOf (now (line .entry))) 2)) (threeBytesIn (wordOf (wordsOf (now (line .entry))) 3) (wordOf (wordsOf (now (line .entry))) 4) (wordOf (wordsOf (now (line .entry))) 5)) (pinsIn (wordOf (wordsOf (now (line .entry))) 6)) ⌝ }
+{
+    let pins = pins_in(word(line, 6));
+    if pins.valid {
+        return add(line, pins.number as u8);
     }
     Request::Bad
 }
@@ -230,7 +243,10 @@ pub(crate) fn of_bench(line: &[u8]) -> Request
     ensures { λ r. ⌜ r ≡ ofBench (wordsOf (now (line .entry))) ⌝ }
 {
     if asks(line, b"add", 5) {
-        return add(line);
+        return add(line, 0);
+    }
+    if asks(line, b"add", 6) {
+        return add_pinned(line);
     }
     if asks(line, b"reset", 0) {
         return Request::Reset;

@@ -21,9 +21,6 @@ enum-told c = search needs
 enum-told-2 : tie.Need-enum-told-2
 enum-told-2 c = search needs
 
-join-requires : tie.Need-join-requires
-join-requires c κs = search needs
-
 put-last-requires : tie.Need-put-last-requires
 put-last-requires c κs = search needs
 
@@ -33,7 +30,7 @@ returns-2 c = simp (← c .before .before .before .before .refusal-of .ensures, 
 
 returns-3 : tie.Need-returns-3
 unfolding addedTo
-returns-3 c = simp (← c .before .before .before .before .before .before .refusal-of .ensures, eq-eqb _ _ (c .before .before .before .before .before .if1 .left), ← c .before .before .before .before .find .ensures, c .before .before .enum-told2 .given .1, ← c .before .join .ensures, c .put-last .ensures)
+returns-3 c = simp (← c .before .before .before .before .before .refusal-of .ensures, eq-eqb _ _ (c .before .before .before .before .if1 .left), ← c .before .before .before .find .ensures, c .before .enum-told2 .given .1, c .put-last .ensures)
 
 pub add-spec : {M : Type 1} → statement M
 add-spec =
@@ -44,7 +41,6 @@ add-spec =
     find-requires
     enum-told
     enum-told-2
-    join-requires
     put-last-requires
     returns-2
     returns-3)

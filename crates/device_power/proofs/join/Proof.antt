@@ -1,8 +1,14 @@
--- The configuration is kept in its stored form, and the rest is power-up. Assumes nothing.
+-- The pins are kept where the family has them, the configuration in its stored form, and the rest is power-up. Assumes nothing.
 use Rattle.device.specs.Power.{joined}
 use borrow.Author.Needs.{needs}
 use Rattle.device_power.proofs.join.Statement.{statement}
 use Rattle.device_power.proofs.join.Tie as tie
+
+family-row-requires : tie.Need-family-row-requires
+family-row-requires c κs = search needs
+
+kept-pins-requires : tie.Need-kept-pins-requires
+kept-pins-requires c κs = search needs
 
 row-of-requires : tie.Need-row-of-requires
 row-of-requires c κs = search needs
@@ -15,8 +21,12 @@ powered-up-requires c κs = search needs
 
 returns : tie.Need-returns
 unfolding joined
-returns c = simp (← c .before .before .row-of .ensures, ← c .before .kept-configuration .ensures, c .powered-up .ensures)
+returns c =
+    let kept = c .before in
+    let row = kept .before in
+    let pins = row .before in
+    simp (c .powered-up .ensures, kept .kept-configuration .ensures, row .row-of .ensures, pins .kept-pins .ensures, pins .before .family-row .ensures)
 
 pub join-spec : {M : Type 1} → statement M
 join-spec =
-    tie.close (tie.spec row-of-requires kept-configuration-requires powered-up-requires returns)
+    tie.close (tie.spec family-row-requires kept-pins-requires row-of-requires kept-configuration-requires powered-up-requires returns)
