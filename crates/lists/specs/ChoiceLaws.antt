@@ -1,7 +1,16 @@
--- Laws of truth values: a comparison with a known bit, and the two halves of an AND.
+-- Laws of truth values: a choice whose test is known, a comparison with a known bit, and the two halves of an AND.
 -- Assumes nothing.
 use mathlib.Core.Bool.{Bool, true, false, not, Bool·beq, _&&_, false≢true}
-use mathlib.Core.Path.{_≡_, refl}
+use mathlib.Core.Path.{_≡_, refl, sym, ap}
+use Rattle.lists.specs.Choice.{if_then_else_}
+
+-- a choice whose test is known
+module _ {A : Type 0} (t : Bool) (a b : A) where
+  pub choice-then : t ≡ true → a ≡ (if t then a else b)
+  choice-then e = ap (λ (u : Bool). if u then a else b) (sym e)
+
+  pub choice-else : t ≡ false → b ≡ (if t then a else b)
+  choice-else e = ap (λ (u : Bool). if u then a else b) (sym e)
 
 -- a comparison with a known bit
 pub beq-true : (b : Bool) → Bool·beq true b ≡ b

@@ -1,16 +1,16 @@
 -- The first element that passes a test, and whether all pass, as a loop with an early return finds it: what is left to look at from place i on.
 --     onward i n l             what is left to look at from place i, of the first n
 --     first-hit, first-miss, first-skip, first-end           one turn of a loop that looks for the first
---     at-within, at-here, at-on, at-end                      how many stand before the first that is v, and one turn of a loop that looks for it
+--     at-within, at-none, at-there, at-here, at-on, at-end   how many stand before the first that is v, what they are, and one turn of a loop that looks for it
 --     all-onward, all-stopped, all-skip, all-passed          one turn of a loop that returns at the first that fails
 -- Assumes nothing.
 use Prim.Native.Nat.{ℕ, suc, _+_, _<_, _≤_}
-use mathlib.Core.Path.{_≡_, sym, ap, _∙_}
-use mathlib.Core.Bool.{Bool, true, false}
+use mathlib.Core.Path.{_≡_, refl, sym, ap, _∙_}
+use mathlib.Core.Bool.{Bool, true, false, not}
 use mathlib.Core.List.{List, [], _∷_}
 use native.Mathlib.Omega.{arith}
 use native.Mathlib.Numerals.{add-one}
-use borrow.Author.Tests.{eq-eqb, ne-eqb}
+use borrow.Author.Tests.{eq-eqb, ne-eqb, eqb-true}
 use lib.Dec.{eqb}
 use lib.ListN.{length, take, drop, getD, length-take, drop-of-length-le}
 use lib.Seq.{drop-cons, getD-take}
@@ -80,6 +80,27 @@ at-within v (c ∷ l) = by-test (eqb c v) (at-within v l)
     by-test : (t : Bool) → firstAt v l ≤ length l → (if t then 0 else suc (firstAt v l)) ≤ suc (length l)
     by-test true h = omega arith
     by-test false h = omega arith
+
+-- none of those before it is v, and it is
+pub at-none : (v : ℕ) (l : List ℕ) → all (λ c. not (eqb c v)) (take (firstAt v l) l) ≡ true
+unfolding firstAt all
+at-none v [] = refl
+at-none v (c ∷ l) = by-test (eqb c v) refl (at-none v l)
+  where
+    by-test : (t : Bool) → eqb c v ≡ t → all (λ c. not (eqb c v)) (take (firstAt v l) l) ≡ true
+        → all (λ c. not (eqb c v)) (take (if t then 0 else suc (firstAt v l)) (c ∷ l)) ≡ true
+    by-test true e rest = refl
+    by-test false e rest = rw e rest
+
+pub at-there : (v : ℕ) (l : List ℕ) → firstAt v l < length l → getD l (firstAt v l) 0 ≡ v
+unfolding firstAt
+at-there v [] h = absurd (omega arith)
+at-there v (c ∷ l) h = by-test (eqb c v) refl (at-there v l) h
+  where
+    by-test : (t : Bool) → eqb c v ≡ t → (firstAt v l < length l → getD l (firstAt v l) 0 ≡ v)
+        → (if t then 0 else suc (firstAt v l)) < suc (length l) → getD (c ∷ l) (if t then 0 else suc (firstAt v l)) 0 ≡ v
+    by-test true e rest k = eqb-true c v e
+    by-test false e rest k = rest (omega arith)
 
 -- as a loop finds it from place i on
 module _ (v : ℕ) (l : List ℕ) (i : ℕ) where
