@@ -1,0 +1,6 @@
+pub mod Capture
+pub mod SoundLaws
+pub mod FillLaws
+pub mod CutLaws
+pub mod Taken
+pub mod Theorem
