@@ -23,17 +23,16 @@ use Rattle.lists.specs.LaidLaws.{laid-read}
 use Rattle.refusals.specs.Refusals.{accepted, noRoom}
 use Rattle.text.specs.Lines.{notFeed, linesOf}
 use Rattle.pieces.specs.Pieces.{together}
-use Rattle.frame.specs.declared.Frame.{Frame}
 use Rattle.frame_lines.specs.ReadLine.{carries}
-use Rattle.frame_lines.specs.Writing.{fedLine}
 use Rattle.frame_lines.specs.Recording.{readAll, writeAll}
-use Rattle.frame_lines.specs.RecordingLaws.{read-back}
+use Rattle.frame_lines.specs.RecordingLaws.{read-back, write-append}
 use Rattle.pulses.specs.declared.Wire.{Wire}
 use Rattle.pulses.specs.Rule.{untouched}
 use Rattle.edges.specs.declared.Reader.{Reader}
 use Rattle.edges.specs.Edges.{fresh, takenSoFar, Reading, onByte, fedBytes, answers, feedAnswer, feedLeaves, endAnswer, endLeaves}
 use Rattle.edges.specs.EdgesLaws.{stays, end-again}
-use Rattle.captures.specs.Capture.{Course, courseOf, capture, Sound}
+use Rattle.captures.specs.Capture.{Course, courseOf, capture, ended, Sound}
+use Rattle.captures.specs.EndLaws.{Closed, end-closed}
 use Rattle.captures.specs.SoundLaws.{blank-sound, course-kept}
 use Rattle.captures.specs.FillLaws.{holding, Filled, Came, fits, short, plain-course, piece-came}
 use Rattle.captures.specs.CutLaws.{course-on, course-stop, left-plain}
@@ -85,6 +84,12 @@ pub capture-read : (s out : List ℕ) → length (writeAll (capture s .frames)) 
 capture-read s out room =
     rw (front-of out (capture s) (fedBytes fresh out s) (capture-found s out room)) (read-back (course-kept untouched sound-start (linesOf s) .writable))
 
+-- with an end, in a buffer with room for the last frame too
+pub capture-ended : (s out : List ℕ) → length (writeAll (capture s .frames)) ≤ length out → length (writeAll (ended (capture s) .frames)) ≤ length out
+    → let x = fedBytes fresh out s in Closed 0 out (ended (capture s)) (endAnswer (x .reader) (x .out)) (endLeaves (x .reader) (x .out))
+capture-ended s out room last =
+    end-closed 0 out (capture s) (fedBytes fresh out s) (capture-found s out room) (course-kept untouched sound-start (linesOf s) .last) (omega arith)
+
 -- ## Refusals stay
 
 pub refusal-stays : (r : Reader) → r .refusal ≢ accepted → (out s : List ℕ)
@@ -96,11 +101,6 @@ refusal-stays r h out s =
     (ap (λ (y : Reading). answers (y .reader)) same, ap (λ (y : Reading). y .out) same, sym (again .0), sym (again .1))
 
 -- ## Bytes taken piece by piece
-
-write-append : (fs gs : List Frame) → writeAll (fs ++ gs) ≡ writeAll fs ++ writeAll gs
-unfolding writeAll
-write-append [] gs = refl
-write-append (f ∷ fs) gs = ap (λ (t : List ℕ). fedLine f ++ t) (write-append fs gs) ∙ sym (append-assoc (fedLine f) (writeAll fs) (writeAll gs))
 
 -- the reader that holds an accepted course
 holds : (n : ℕ) (out : List ℕ) (c : Course) (x : Reading) → Filled n out c x → c .refusal ≡ accepted → takenSoFar (x .reader) ≡ holding (c .wire) (c .left) 0

@@ -1,5 +1,6 @@
 -- The two round trips of a whole recording: written, then read; and read, then written. The same of calls that write and read it line by line.
 --     read-back              frames written one after another are read back as the same frames
+--     write-append           the recording of frames and of more frames
 --     write-back             a recording of which every line is accepted, written back, is the same bytes
 --     write-calls            lines written by successive calls are the recording of those frames, and nothing else of the slice changes
 --     read-calls             successive reads of such a recording give those frames and then done
@@ -7,7 +8,7 @@
 use Prim.Native.Nat.{ℕ, zero, suc, _+_, _-_, _<_, _≤_}
 use mathlib.Core.Path.{_≡_, refl, sym, ap, _∙_}
 use mathlib.Core.Bool.{Bool, true, false, not, false≢true}
-use mathlib.Core.List.{List, [], _∷_, _++_, map}
+use mathlib.Core.List.{List, [], _∷_, _++_, map, append-assoc}
 use native.Mathlib.Omega.{arith}
 use borrow.Author.Tests.{eqb-true, lt-ltb, le-ltb, ltb-true, ltb-false}
 use lib.Dec.{eqb, ltb}
@@ -28,6 +29,12 @@ use Rattle.frame_lines.specs.ReadLine.{carries, readLine, lineReadAt, fi
 use Rattle.frame_lines.specs.Writing.{charactersOf, fedLine}
 use Rattle.frame_lines.specs.WritingLaws.{line-digits, read-written, written-read}
 use Rattle.frame_lines.specs.Recording.{readAll, writeAll, Writable, none, one, writeCalls, readCalls, shownFrom}
+
+-- the lines of frames and of more frames
+pub write-append : (fs gs : List Frame) → writeAll (fs ++ gs) ≡ writeAll fs ++ writeAll gs
+unfolding writeAll
+write-append [] gs = refl
+write-append (f ∷ fs) gs = ap (λ (t : List ℕ). fedLine f ++ t) (write-append fs gs) ∙ sym (append-assoc (fedLine f) (writeAll fs) (writeAll gs))
 
 -- ## Written, then read
 

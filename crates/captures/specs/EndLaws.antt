@@ -1,0 +1,136 @@
+-- An end makes of reader and buffer what the course with its end says, where there is room for its frames.
+--     Closed n out c a l     the answer a and the buffer l hold the course c behind n bytes, and after an accepted end the reader is fresh
+--     end-closed             the theorem
+-- Assumes nothing.
+use Prim.Native.Nat.{ℕ, _+_, _≤_}
+use mathlib.Core.Path.{_≡_, refl, sym, ap, _∙_}
+use mathlib.Core.Bool.{Bool, true, false, not}
+use mathlib.Core.List.{List, [], _∷_, _++_, append-nil}
+use native.Mathlib.Omega.{arith}
+use borrow.Author.Tests.{eqb-true, eqb-false}
+use lib.Dec.{eqb}
+use lib.ListN.{length, length-append}
+use Rattle.lists.specs.Choice.{if_then_else_}
+use Rattle.lists.specs.Laid.{laid}
+use Rattle.lists.specs.LaidLaws.{laid-more, laid-length}
+use Rattle.refusals.specs.Refusals.{accepted, notHex}
+use Rattle.laying.specs.declared.Written.{Written}
+use Rattle.laying.specs.LayingLaws.{lay-fits}
+use Rattle.frame_lines.specs.Writing.{fedLine}
+use Rattle.frame_lines.specs.Recording.{writeAll}
+use Rattle.frame_lines.specs.RecordingLaws.{write-append}
+use Rattle.pulses.specs.declared.Wire.{Wire}
+use Rattle.pulses.specs.declared.Ending.{Ending}
+use Rattle.pulses.specs.Rule.{endingAt}
+use Rattle.edge_lines.specs.declared.Partial.{Partial}
+use Rattle.edge_lines.specs.PartialLaws.{gathered-count}
+use Rattle.edges.specs.declared.Reader.{Reader}
+use Rattle.edges.specs.declared.Answer.{Answer}
+use Rattle.edges.specs.Edges.{fresh, refusedWith, frameWritten, closedLeaves, Reading, answers, finished, endAnswer, endLeaves}
+use Rattle.edges.specs.EdgesLaws.{last-done, end-again, end-in-line, end-low, end-closes, end-nothing}
+use Rattle.captures.specs.Capture.{Course, refusedEnd, lastClosed, endedAt, ended, Sound}
+use Rattle.captures.specs.FillLaws.{Filled}
+
+-- the answer and the buffer hold the course behind n bytes
+pub record Closed (n : ℕ) (out : List ℕ) (c : Course) (a : Answer) (l : List ℕ) : Type 0 where
+  pub refusal : a .refusal ≡ c .refusal
+  pub written : a .written ≡ n + length (writeAll (c .frames))
+  pub laid-out : l ≡ laid out n (writeAll (c .frames))
+  pub restarted : c .refusal ≡ accepted → a .reader ≡ fresh
+
+module _ (n : ℕ) (out : List ℕ) (c : Course) (x : Reading) (k : Filled n out c x) (sound : Sound (c .wire .frame)) where
+  abbrev at-end : Reader
+  at-end = x .reader
+
+  abbrev Done : Course → Type 0
+  Done d = n + length (writeAll (d .frames)) ≤ length out → Closed n out d (endAnswer at-end (x .out)) (endLeaves at-end (x .out))
+
+  -- the answer is the reader's own, with some refusal
+  own-closed : (m : ℕ) (a : Answer) (l : List ℕ) → (m ≡ accepted → ⊥) → answers (refusedWith at-end m) ≡ a → x .out ≡ l → Closed n out (refusedEnd c m) a l
+  own-closed m a l h e f = rw (← e, ← f) record { refusal = refl; written = k .written; laid-out = k .laid-out; restarted = λ z. absurd (h z) }
+
+  refused-before : (c .refusal ≡ accepted → ⊥) → Done c
+  refused-before h room =
+      let again = end-again at-end (x .out) (rw (k .refusal) h) in
+      rw (← again .0, ← again .1) record { refusal = k .refusal; written = k .written; laid-out = k .laid-out; restarted = λ z. absurd (h z) }
+
+  module _ (well : c .refusal ≡ accepted) where
+    reader-well : at-end .refusal ≡ accepted
+    reader-well = k .refusal ∙ well
+
+    in-line : (length (c .left) ≡ 0 → ⊥) → Done (refusedEnd c notHex)
+    in-line h room =
+        let count = ap (λ (p : Partial). p .count) (k .line well) ∙ gathered-count (c .left) in
+        let some : at-end .line .count ≡ 0 → ⊥ = λ z. h (omega arith) in
+        let cut = end-in-line at-end (x .out) reader-well some in
+        own-closed notHex (endAnswer at-end (x .out)) (endLeaves at-end (x .out)) (λ z. omega arith) (cut .0) (cut .1)
+
+    module _ (bare : length (c .left) ≡ 0) where
+      no-line : at-end .line .count ≡ 0
+      no-line = let count = ap (λ (p : Partial). p .count) (k .line well) ∙ gathered-count (c .left) in omega arith
+
+      abbrev ending : Ending
+      ending = endingAt (c .wire .stage)
+
+      same-ending : ending ≡ endingAt (at-end .wire .stage)
+      same-ending = ap (λ (w : Wire). endingAt (w .stage)) (sym (k .wire))
+
+      in-low : (ending .refusal ≡ accepted → ⊥) → Done (refusedEnd c (ending .refusal))
+      in-low h room =
+          let low = end-low at-end (x .out) reader-well no-line ending same-ending h in
+          own-closed (ending .refusal) (endAnswer at-end (x .out)) (endLeaves at-end (x .out)) h (low .0) (low .1)
+
+      nothing-open : ending .refusal ≡ accepted → ending .closes ≡ false → Done c
+      nothing-open h e room =
+          let none = end-nothing at-end (x .out) reader-well no-line ending same-ending h e in
+          rw (← none .0, ← none .1) record { refusal = sym well; written = k .written; laid-out = k .laid-out; restarted = λ z. refl }
+
+      last-open : ending .refusal ≡ accepted → ending .closes ≡ true → Done (lastClosed c)
+      unfolding writeAll
+      last-open h e room =
+          let f = c .wire .frame in
+          let before = writeAll (c .frames) in
+          let line = fedLine f in
+          let text : writeAll (c .frames ++ (f ∷ [])) ≡ before ++ line = write-append (c .frames) (f ∷ []) ∙ ap (λ (t : List ℕ). before ++ t) (append-nil line) in
+          let sum = ap length text ∙ length-append before line in
+          let fits-before : n + length before ≤ length out = omega arith in
+          let size = laid-length out n before fits-before in
+          let there : n + length before + length line ≤ length (laid out n before) = omega arith in
+          let put = lay-fits (laid out n before) (n + length before) line there in
+          let wrote : frameWritten at-end (x .out) ≡ record { refusal = accepted; next = n + length before + length line } =
+          rw (k .wire, k .written, k .laid-out, sound .carried) (put .0) in
+          let last = end-closes at-end (x .out) reader-well no-line ending same-ending h e in
+          let done = last-done at-end (x .out) (ap (λ (a : Written). a .refusal) wrote) in
+          let left : closedLeaves at-end (x .out) ≡ laid out n (before ++ line) =
+          rw (k .wire, k .written, k .laid-out, sound .carried) (put .1 ∙ laid-more out n before line fits-before) in
+          let answered : endAnswer at-end (x .out) ≡ finished (n + length before + length line) =
+          sym (last .0) ∙ sym done ∙ ap (λ (a : Written). finished (a .next)) wrote in
+          record {
+            refusal = ap (λ (a : Answer). a .refusal) answered ∙ sym well;
+            written = ap (λ (a : Answer). a .written) answered ∙ omega arith;
+            laid-out = sym (last .1) ∙ left ∙ ap (laid out n) (sym text);
+            restarted = λ z. ap (λ (a : Answer). a .reader) answered;
+          }
+
+      by-ending : Done (endedAt c ending)
+      by-ending = by-refusal (eqb (ending .refusal) accepted) refl
+        where
+          by-closes : (t : Bool) → ending .closes ≡ t → ending .refusal ≡ accepted → Done (if t then lastClosed c else c)
+          by-closes true e h = last-open h e
+          by-closes false e h = nothing-open h e
+
+          by-refusal : (t : Bool) → eqb (ending .refusal) accepted ≡ t → Done (if not t then refusedEnd c (ending .refusal) else if ending .closes then lastClosed c else c)
+          by-refusal true h = by-closes (ending .closes) refl (eqb-true (ending .refusal) accepted h)
+          by-refusal false h = in-low (eqb-false (ending .refusal) accepted h)
+
+  pub end-closed : Done (ended c)
+  end-closed = by-refusal (eqb (c .refusal) accepted) refl
+    where
+      by-line : (t : Bool) → eqb (length (c .left)) 0 ≡ t → c .refusal ≡ accepted → Done (if not t then refusedEnd c notHex else endedAt c (endingAt (c .wire .stage)))
+      by-line true e h = by-ending h (eqb-true (length (c .left)) 0 e)
+      by-line false e h = in-line h (eqb-false (length (c .left)) 0 e)
+
+      by-refusal : (t : Bool) → eqb (c .refusal) accepted ≡ t
+          → Done (if not t then c else if not (eqb (length (c .left)) 0) then refusedEnd c notHex else endedAt c (endingAt (c .wire .stage)))
+      by-refusal true h = by-line (eqb (length (c .left)) 0) refl (eqb-true (c .refusal) accepted h)
+      by-refusal false h = refused-before (eqb-false (c .refusal) accepted h)
