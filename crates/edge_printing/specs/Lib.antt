@@ -1,0 +1,2 @@
+pub mod EdgePrinting
+pub mod EdgePrintingLaws
