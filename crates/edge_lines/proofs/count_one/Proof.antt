@@ -8,10 +8,10 @@ add-result : tie.Need-add-result
 add-result c = search needs
 
 returns : tie.Need-returns
-returns c = simp (lt-ltb _ _ (c .if1 .taken))
+returns c = simp (lt-ltb (c .before .args .count) 9 (c .if1 .taken))
 
 returns-2 : tie.Need-returns-2
-returns-2 c = simp (le-ltb _ _ (c .if1 .left))
+returns-2 c = simp (le-ltb (c .before .args .count) 9 (c .if1 .left))
 
 pub count-one-spec : {M : Type 1} → statement M
 count-one-spec = tie.close (tie.spec add-result returns returns-2)

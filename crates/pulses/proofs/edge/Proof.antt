@@ -23,8 +23,9 @@ refuse-requires c κs = search needs
 
 returns-2 : tie.Need-returns-2
 returns-2 c =
+    let a = c .before .before .before .before .args in
     let some = sym (c .before .before .before .has-begun .ensures) ∙ not-false _ (c .before .before .if1 .left) in
-    rw (some, le-leb _ _ (c .before .if2 .taken)) (c .refuse .ensures)
+    rw (some, le-leb (a .time) (a .wire .last) (c .before .if2 .taken)) (c .refuse .ensures)
 
 sub-after-level : tie.Need-sub-after-level
 sub-after-level c = search needs
@@ -34,8 +35,9 @@ after-level-requires-2 c κs = search needs
 
 returns-3 : tie.Need-returns-3
 returns-3 c =
+    let a = c .before .before .before .before .args in
     let some = sym (c .before .before .before .has-begun .ensures) ∙ not-false _ (c .before .before .if1 .left) in
-    rw (some, lt-leb _ _ (c .before .if2 .left)) (c .after-level2 .ensures)
+    rw (some, lt-leb (a .time) (a .wire .last) (c .before .if2 .left)) (c .after-level2 .ensures)
 
 pub edge-spec : {M : Type 1} → statement M
 edge-spec =
