@@ -34,10 +34,10 @@ use Rattle.pulses.specs.Rule.{edgeStep}
 use Rattle.edge_lines.specs.Partial.{timeDigits, noLine, gathered}
 use Rattle.edge_lines.specs.PartialLaws.{gathered-count, gathered-spelt, gathered-time, gathered-more}
 use Rattle.edges.specs.declared.Reader.{Reader}
-use Rattle.edges.specs.Edges.{refusedWith, onEdge, lineEnded, frameWritten, fedLineReader, fedLineLeaves, Reading, onByte, fedBytes}
+use Rattle.edges.specs.Edges.{refusedWith, takenSoFar, onEdge, lineEnded, frameWritten, fedLineReader, fedLineLeaves, Reading, onByte, fedBytes}
 use Rattle.edges.specs.EdgesLaws.{edge-refused, edge-taken, line-other, line-length, line-time, closing-refused, closing-done, feed-closes, feed-moves, stays, on-character, on-feed}
 use Rattle.captures.specs.Capture.{lineStep, Course, quiet, closing, onward, courseOf, Sound}
-use Rattle.captures.specs.SoundLaws.{line-sound}
+use Rattle.captures.specs.StepLaws.{line-fair}
 
 one-zero : noRoom ≡ accepted → ⊥
 one-zero z = omega arith
@@ -199,14 +199,14 @@ module _ (s : List ℕ) (behind : (w : Wire) (n : ℕ) (out : List ℕ) → Soun
 
   moved-came : line-of .refusal ≡ accepted → line-of .closes ≡ false → Came n out later fed-all
   unfolding fold
-  moved-came h e = came-as (ap (λ (x : Reading). fold onByte x s) (turn-moved w u n out h e)) (behind (line-of .wire) n out (line-sound w sound u) room)
+  moved-came h e = came-as (ap (λ (x : Reading). fold onByte x s) (turn-moved w u n out h e)) (behind (line-of .wire) n out (line-fair w sound u .sound) room)
 
   closed-came : line-of .refusal ≡ accepted → line-of .closes ≡ true → n + length frame-line ≤ length out → Came n out (closing (w .frame) later) fed-all
   unfolding fold
   closed-came h e k =
       let size = laid-length out n frame-line k in
       closing-came n out (w .frame) later fed-all k
-      (came-as (ap (λ (x : Reading). fold onByte x s) (turn-closed w u n out h e sound k)) (behind (line-of .wire) (n + length frame-line) (laid out n frame-line) (line-sound w sound u) (omega arith)))
+      (came-as (ap (λ (x : Reading). fold onByte x s) (turn-closed w u n out h e sound k)) (behind (line-of .wire) (n + length frame-line) (laid out n frame-line) (line-fair w sound u .sound) (omega arith)))
 
   short-came : line-of .refusal ≡ accepted → line-of .closes ≡ true → length out < n + length frame-line → Came n out (closing (w .frame) later) fed-all
   unfolding writeAll
@@ -231,7 +231,7 @@ module _ (s : List ℕ) (behind : (w : Wire) (n : ℕ) (out : List ℕ) → Soun
       by-refusal false h = refused-came (eqb-false (line-of .refusal) accepted h)
 
 -- one byte, by whether it is a feed
-feed-first : (u s : List ℕ) (w : Wire) → all notFeed u ≡ true → courseOf w (linesOf (u ++ lineFeed ∷ s)) ≡ onward w (lineStep w u) (courseOf (lineStep w u .wire) (linesOf s))
+pub feed-first : (u s : List ℕ) (w : Wire) → all notFeed u ≡ true → courseOf w (linesOf (u ++ lineFeed ∷ s)) ≡ onward w (lineStep w u) (courseOf (lineStep w u .wire) (linesOf s))
 unfolding courseOf
 feed-first u s w plain = ap (λ (t : List ℕ). courseOf w (linesOf t)) (sym (append-assoc u (lineFeed ∷ []) s)) ∙ ap (courseOf w) (lines-cut u s plain)
 
@@ -256,3 +256,7 @@ piece-came (c ∷ s) u w n out plain sound room =
         let took : onByte record { reader = holding w u n; out = out } c ≡ record { reader = holding w (u ++ (c ∷ [])) n; out = out } =
         on-character (holding w u n) out refl c other ∙ rw (gathered-more u c) refl in
         came-as (ap (λ (x : Reading). fold onByte x s) took) (rw (append-assoc u (c ∷ []) s) at (here still sound room))
+
+-- the reader that holds an accepted course
+pub holds : (n : ℕ) (out : List ℕ) (c : Course) (x : Reading) → Filled n out c x → c .refusal ≡ accepted → takenSoFar (x .reader) ≡ holding (c .wire) (c .left) 0
+holds n out c x k h = rw (k .refusal, h, k .line h, k .wire) refl

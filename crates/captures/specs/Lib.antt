@@ -1,7 +1,9 @@
 pub mod Capture
-pub mod SoundLaws
+pub mod StepLaws
 pub mod FillLaws
 pub mod CutLaws
 pub mod EndLaws
 pub mod Taken
+pub mod Room
+pub mod RoomLaws
 pub mod Theorem

@@ -6,6 +6,7 @@
 --     capture-ended          an end makes of them what the course with its end says
 --     refusal-stays          after a refusal every feed and every end gives it again, and changes nothing
 --     taken-whole            bytes taken piece by piece, one after the other, are the text of the frames of the whole capture
+--     taken-ample            it is enough for that that each buffer is 143 bytes longer than its piece
 --     taken-one-feed         so they are those of a single feed
 -- Assumes nothing.
 use Prim.Native.Nat.{ℕ, _+_, _<_, _≤_}
@@ -33,9 +34,11 @@ use Rattle.edges.specs.Edges.{fresh, takenSoFar, Reading, onByte, fedBytes, ans
 use Rattle.edges.specs.EdgesLaws.{stays, end-again}
 use Rattle.captures.specs.Capture.{Course, courseOf, capture, ended, Sound}
 use Rattle.captures.specs.EndLaws.{Closed, end-closed}
-use Rattle.captures.specs.SoundLaws.{blank-sound, course-kept}
-use Rattle.captures.specs.FillLaws.{holding, Filled, Came, fits, short, plain-course, piece-came}
+use Rattle.captures.specs.StepLaws.{blank-sound, course-kept}
+use Rattle.captures.specs.FillLaws.{holding, Filled, Came, fits, short, plain-course, piece-came, holds}
 use Rattle.captures.specs.CutLaws.{course-on, course-stop, left-plain}
+use Rattle.captures.specs.Room.{Ample}
+use Rattle.captures.specs.RoomLaws.{ample-roomy}
 use Rattle.captures.specs.Taken.{Piece, inOne, afterPiece, handedOf, handed, Roomy}
 
 -- ## Cuts
@@ -102,10 +105,6 @@ refusal-stays r h out s =
 
 -- ## Bytes taken piece by piece
 
--- the reader that holds an accepted course
-holds : (n : ℕ) (out : List ℕ) (c : Course) (x : Reading) → Filled n out c x → c .refusal ≡ accepted → takenSoFar (x .reader) ≡ holding (c .wire) (c .left) 0
-holds n out c x k h = rw (k .refusal, h, k .line h, k .wire) refl
-
 -- after a refusal nothing is handed over
 handed-none : (r : Reader) → r .refusal ≢ accepted → r .written ≡ 0 → (ps : List Piece) → handed r ps ≡ []
 unfolding handed
@@ -165,6 +164,10 @@ taken-pieces (p ∷ ps) w u plain sound room = taken-first p ps w u sound (taken
 pub taken-whole : (ps : List Piece) → Roomy fresh ps → handed fresh ps ≡ writeAll (capture (inOne ps) .frames)
 unfolding fold all
 taken-whole ps room = taken-pieces ps untouched [] refl sound-start room
+
+-- it is enough that each piece has room for its own bytes and 143 more
+pub taken-ample : (ps : List Piece) → Ample ps → handed fresh ps ≡ writeAll (capture (inOne ps) .frames)
+taken-ample ps room = taken-whole ps (ample-roomy ps room)
 
 pub taken-one-feed : (ps : List Piece) → Roomy fresh ps → (out : List ℕ) → length (writeAll (capture (inOne ps) .frames)) ≤ length out
     → handed fresh ps ≡ take (feedAnswer fresh out (inOne ps) .written) (feedLeaves fresh out (inOne ps))
