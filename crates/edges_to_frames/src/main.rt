@@ -8,9 +8,9 @@ use libc::STDOUT_FILENO;
 // 64 KiB of a capture.
 const PIECE: usize = 65536;
 
-// A piece closes at most the frame that was open, of 135 bytes, and less than a byte for each of its
-// own; a refusal has 11.
-const TEXT: usize = 65792;
+// Room for the frames that a piece can close, 143 bytes more than the piece, and for the line of a
+// refusal, 11.
+const TEXT: usize = 65690;
 
 // A run so far: the reader, and whether input may follow.
 struct Session {
