@@ -1,5 +1,5 @@
 -- What every step keeps. A frame on the way is sound: a blank one is, a slot keeps it so, and nothing else changes one; so all frames of a course can be written. The line of the
--- open frame grows by less than the nine bytes that a line of the capture has, and a reset leaves seven for it. No step is refused with 1, which is for lack of room.
+-- open frame grows by less than the nine bytes that a line of the capture has, and a reset leaves seven for it. No step is refused with 1, which is for lack of room, and each refusal is a byte.
 --     Fair w s               all this of what a step s makes of the line w
 --     line-fair              every line makes a fair step
 --     Kept c, course-kept    the frames of a course can be written, and that which is open is sound; its refusal is not 1
@@ -53,27 +53,28 @@ pub record Fair (w : Wire) (s : Step) : Type 0 where
   pub sound : Sound (s .wire .frame)
   pub grows : closedBytes w s + openBytes (s .wire) ≤ openBytes w + 9
   pub roomless : s .refusal ≢ noRoom
+  pub small : s .refusal < 256
 
 chosen : (w : Wire) (t : Bool) (a b : Step) → Fair w a → Fair w b → Fair w (if t then a else b)
 chosen w true a b p q = p
 chosen w false a b p q = q
 
 module _ (w : Wire) (sound : Sound (w .frame)) (t : ℕ) where
-  refuses-fair : (n : ℕ) → n ≢ noRoom → Fair w (refuses w n)
-  refuses-fair n h = record { sound = sound; grows = omega arith; roomless = h }
+  refuses-fair : (n : ℕ) → n ≢ noRoom → n < 256 → Fair w (refuses w n)
+  refuses-fair n h k = record { sound = sound; grows = omega arith; roomless = h; small = k }
 
   pulse-refused : Fair w (refuses w badPulse)
-  pulse-refused = refuses-fair badPulse (λ z. omega arith)
+  pulse-refused = refuses-fair badPulse (λ z. omega arith) (omega arith)
 
   moves-fair : (s : Stage) → Fair w (moves w s t)
-  moves-fair s = record { sound = sound; grows = omega arith; roomless = λ z. omega arith }
+  moves-fair s = record { sound = sound; grows = omega arith; roomless = λ z. omega arith; small = omega arith }
 
   blank-fair : (s : Stage) (p : Bool) → Fair w (goes s t (blankFrame p))
-  blank-fair s p = let seven = blank-seven p in record { sound = blank-sound p; grows = omega arith; roomless = λ z. omega arith }
+  blank-fair s p = let seven = blank-seven p in record { sound = blank-sound p; grows = omega arith; roomless = λ z. omega arith; small = omega arith }
 
   restarts-fair : (c : Bool) → Fair w (restarts t c)
-  restarts-fair true = let seven = blank-seven false in record { sound = blank-sound false; grows = omega arith; roomless = λ z. omega arith }
-  restarts-fair false = let seven = blank-seven false in record { sound = blank-sound false; grows = omega arith; roomless = λ z. omega arith }
+  restarts-fair true = let seven = blank-seven false in record { sound = blank-sound false; grows = omega arith; roomless = λ z. omega arith; small = omega arith }
+  restarts-fair false = let seven = blank-seven false in record { sound = blank-sound false; grows = omega arith; roomless = λ z. omega arith; small = omega arith }
 
   pushed-fair : (b : Bool) → w .frame .presence ≡ true → w .frame .count < mostSlots → Fair w (goes High t (pushed (w .frame) b))
   pushed-fair b shown room =
@@ -83,7 +84,7 @@ module _ (w : Wire) (sound : Sound (w .frame)) (t : ℕ) where
       let before = fed-length f (sound .held .size) (sound .carried) in
       let after = fed-length (pushed f b) (more .held .size) (more .carried) in
       let count = push-count f b (sound .held) room in
-      record { sound = more; grows = omega arith; roomless = λ z. omega arith }
+      record { sound = more; grows = omega arith; roomless = λ z. omega arith; small = omega arith }
 
   slot-fair : (b : Bool) → Fair w (takesSlot w t b)
   slot-fair b = by-test (w .frame .presence && ltb (w .frame .count) mostSlots) refl
@@ -92,7 +93,7 @@ module _ (w : Wire) (sound : Sound (w .frame)) (t : ℕ) where
       by-test true e =
           pushed-fair b (and-left (w .frame .presence) (ltb (w .frame .count) mostSlots) e)
           (ltb-true (w .frame .count) mostSlots (and-right (w .frame .presence) (ltb (w .frame .count) mostSlots) e))
-      by-test false e = refuses-fair malformed (λ z. omega arith)
+      by-test false e = refuses-fair malformed (λ z. omega arith) (omega arith)
 
   low-fair : (p : Pulse) → Fair w (afterLow w t p)
   low-fair One = slot-fair true
@@ -112,32 +113,33 @@ module _ (w : Wire) (sound : Sound (w .frame)) (t : ℕ) where
 
   edge-fair : Fair w (edgeStep w t)
   edge-fair =
-      chosen w (begun (w .stage) && leb t (w .last)) (refuses w notLater) (afterLevel (w .stage) w t (t - w .last)) (refuses-fair notLater (λ z. omega arith))
+      chosen w (begun (w .stage) && leb t (w .last)) (refuses w notLater) (afterLevel (w .stage) w t (t - w .last)) (refuses-fair notLater (λ z. omega arith) (omega arith))
       (level-fair (w .stage) (t - w .last))
 
 pub line-fair : (w : Wire) → Sound (w .frame) → (cs : List ℕ) → Fair w (lineStep w cs)
 line-fair w sound cs =
     chosen w (not (spells 16 cs)) (refuses w notHex) (if not (eqb (length cs) timeDigits) then refuses w malformed else edgeStep w (numberIn 16 cs))
-    (refuses-fair w sound 0 notHex (λ z. omega arith))
-    (chosen w (not (eqb (length cs) timeDigits)) (refuses w malformed) (edgeStep w (numberIn 16 cs)) (refuses-fair w sound 0 malformed (λ z. omega arith)) (edge-fair w sound (numberIn 16 cs)))
+    (refuses-fair w sound 0 notHex (λ z. omega arith) (omega arith))
+    (chosen w (not (eqb (length cs) timeDigits)) (refuses w malformed) (edgeStep w (numberIn 16 cs)) (refuses-fair w sound 0 malformed (λ z. omega arith) (omega arith)) (edge-fair w sound (numberIn 16 cs)))
 
 -- what is known of a course
 pub record Kept (c : Course) : Type 0 where
   pub writable : Writable (c .frames)
   pub last : Sound (c .wire .frame)
   pub roomless : c .refusal ≢ noRoom
+  pub small : c .refusal < 256
 
 onward-kept : (w : Wire) → Sound (w .frame) → (s : Step) → Fair w s → (c : Course) → Kept c → Kept (onward w s c)
 onward-kept w sound s fair c k = by-test (not (eqb (s .refusal) accepted)) (s .closes)
   where
     by-test : (t u : Bool) → Kept (if t then quiet w (s .refusal) [] else if u then closing (w .frame) c else c)
-    by-test true u = record { writable = none; last = sound; roomless = fair .roomless }
-    by-test false true = record { writable = one (sound .held) (sound .carried) (k .writable); last = k .last; roomless = k .roomless }
+    by-test true u = record { writable = none; last = sound; roomless = fair .roomless; small = fair .small }
+    by-test false true = record { writable = one (sound .held) (sound .carried) (k .writable); last = k .last; roomless = k .roomless; small = k .small }
     by-test false false = k
 
 pub course-kept : (w : Wire) → Sound (w .frame) → (ls : List Line) → Kept (courseOf w ls)
 unfolding courseOf
-course-kept w sound [] = record { writable = none; last = sound; roomless = λ z. omega arith }
+course-kept w sound [] = record { writable = none; last = sound; roomless = λ z. omega arith; small = omega arith }
 course-kept w sound (l ∷ ls) =
     let s = lineStep w (l .chars) in
     by-feed (l .fed) (onward-kept w sound s (line-fair w sound (l .chars)) (courseOf (s .wire) ls) (course-kept (s .wire) (line-fair w sound (l .chars) .sound) ls))
@@ -145,4 +147,4 @@ course-kept w sound (l ∷ ls) =
     by-feed : (t : Bool) → Kept (onward w (lineStep w (l .chars)) (courseOf (lineStep w (l .chars) .wire) ls))
         → Kept (if t then onward w (lineStep w (l .chars)) (courseOf (lineStep w (l .chars) .wire) ls) else quiet w accepted (l .chars))
     by-feed true k = k
-    by-feed false k = record { writable = none; last = sound; roomless = λ z. omega arith }
+    by-feed false k = record { writable = none; last = sound; roomless = λ z. omega arith; small = omega arith }

@@ -8,9 +8,8 @@ use libc::STDOUT_FILENO;
 // 64 KiB of a capture.
 const PIECE: usize = 65536;
 
-// Room for the frames that a piece can close, 143 bytes more than the piece, and for the line of a
-// refusal, 11.
-const TEXT: usize = 65690;
+// 172 bytes more, which is room for the frames that a piece can close and for the line of a refusal.
+const TEXT: usize = 65708;
 
 // A run so far: the reader, and whether input may follow.
 struct Session {

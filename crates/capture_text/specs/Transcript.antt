@@ -1,0 +1,54 @@
+-- What a program prints that hands on, after each piece and after the end, the bytes that stand in its buffer, and stops at a refusal; and what has to be printed for a capture.
+--     transcript s           the lines of the frames of a capture with its end, and behind them that of a refusal
+--     printedRun r ps out    what is handed on for the pieces ps and, where none of them is refused, for the end, with out lent for it
+--     enoughRoom             the bytes that a buffer needs besides those of its piece
+--     Lent ps                each piece has a buffer with so much room
+-- Assumes nothing.
+use Prim.Native.Nat.{ℕ, _+_, _≤_}
+use mathlib.Core.List.{List, [], _∷_, _++_}
+use lib.Dec.{eqb}
+use lib.ListN.{length, take}
+use Rattle.lists.specs.Choice.{if_then_else_}
+use Rattle.lists.specs.Each.{Each}
+use Rattle.refusals.specs.Refusals.{accepted}
+use Rattle.frame_lines.specs.Recording.{writeAll}
+use Rattle.edges.specs.declared.Reader.{Reader}
+use Rattle.edges.specs.declared.Answer.{Answer}
+use Rattle.edges.specs.Edges.{feedAnswer, feedLeaves, endAnswer, endLeaves}
+use Rattle.edge_printing.specs.declared.Printed.{Printed}
+use Rattle.edge_printing.specs.EdgePrinting.{refusedLine, printedFor, printedLeaves}
+use Rattle.captures.specs.Capture.{Course, capture, ended}
+use Rattle.captures.specs.Taken.{Piece}
+
+-- the lines of the frames of a course, and that of its refusal
+abbrev pub textOf : Course → List ℕ
+textOf c = if eqb (c .refusal) accepted then writeAll (c .frames) else writeAll (c .frames) ++ refusedLine (c .refusal)
+
+-- what has to be printed for a capture
+abbrev pub transcript : List ℕ → List ℕ
+transcript s = textOf (ended (capture s))
+
+-- ## As a program hands it on
+
+-- what an answer leaves at the front of the buffer
+abbrev pub handedOn : Answer → List ℕ → List ℕ
+handedOn a out = take (printedFor a out .written) (printedLeaves a out)
+
+-- what is printed for a piece
+abbrev pub ofPiece : Reader → Piece → Printed
+ofPiece r p = printedFor (feedAnswer r (p .buffer) (p .bytes)) (feedLeaves r (p .buffer) (p .bytes))
+
+-- what is handed on for pieces and for the end, up to a refusal
+unfoldable pub printedRun : Reader → List Piece → List ℕ → List ℕ
+printedRun r [] out = handedOn (endAnswer r out) (endLeaves r out)
+printedRun r (p ∷ ps) out =
+    handedOn (feedAnswer r (p .buffer) (p .bytes)) (feedLeaves r (p .buffer) (p .bytes))
+    ++ (if ofPiece r p .going then printedRun (ofPiece r p .reader) ps out else [])
+
+-- 143 for frames (`pieceRoom`), and 29 for the line of a refusal, as long as any that is printed
+abbrev pub enoughRoom : ℕ
+enoughRoom = 172
+
+-- each piece has a buffer with so much room
+abbrev pub Lent : List Piece → Type 0
+Lent ps = Each (λ p. enoughRoom + length (p .bytes) ≤ length (p .buffer)) ps
