@@ -39,7 +39,8 @@ use Rattle.edge_printing.specs.EdgePrinting.{refusedLine, behindRefusal, printe
 use Rattle.edge_printing.specs.EdgePrintingLaws.{refusal-laid, printed-refused, printed-on}
 use Rattle.captures.specs.Capture.{Course, quiet, courseOf, refusedEnd, lastClosed, ended, Sound}
 use Rattle.captures.specs.StepLaws.{blank-sound, openBytes, course-kept}
-use Rattle.captures.specs.FillLaws.{holding, Filled, Came, fits, short, plain-course, piece-came, holds}
+use Rattle.captures.specs.Claims.{Filled}
+use Rattle.captures.specs.FillLaws.{holding, Came, fits, short, plain-course, piece-came, holds}
 use Rattle.captures.specs.CutLaws.{behind, course-on, course-stop, left-plain}
 use Rattle.captures.specs.EndLaws.{end-closed}
 use Rattle.captures.specs.Taken.{Piece, inOne}

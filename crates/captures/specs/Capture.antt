@@ -2,6 +2,7 @@
 --     lineStep w cs          what a line of the characters cs comes to: refusal 2 for another character, then 3 for another length than eight, then the edge
 --     Course                 the frames that were closed, the refusal or 0, where the line stands, and the characters behind the last feed
 --     courseOf w ls          the course of lines from a line w on; it ends at the first refusal
+--     onward w s c           the course of a line that comes to the step s, where c is that of the lines behind it
 --     capture s              the course of a whole capture
 --     ended c                the course with its end
 --     Sound f                a frame that the program can hold and a line can carry
@@ -66,12 +67,15 @@ capture s = courseOf untouched (linesOf s)
 
 -- ## With the end
 
+-- an end that is refused
 abbrev pub refusedEnd : Course → ℕ → Course
 refusedEnd c n = record { frames = c .frames; refusal = n; wire = c .wire; left = c .left }
 
+-- an end that closes the open frame
 abbrev pub lastClosed : Course → Course
 lastClosed c = record { frames = c .frames ++ (c .wire .frame ∷ []); refusal = c .refusal; wire = c .wire; left = c .left }
 
+-- an end by where the line stands
 abbrev pub endedAt : Course → Ending → Course
 endedAt c e = if not (eqb (e .refusal) accepted) then refusedEnd c (e .refusal) else if e .closes then lastClosed c else c
 

@@ -1,5 +1,4 @@
 -- An end makes of reader and buffer what the course with its end says, where there is room for its frames.
---     Closed n out c a l     the answer a and the buffer l hold the course c behind n bytes, and after an accepted end the reader is fresh
 --     end-closed             the theorem
 -- Assumes nothing.
 use Prim.Native.Nat.{ℕ, _+_, _≤_}
@@ -26,17 +25,10 @@ use Rattle.edge_lines.specs.declared.Partial.{Partial}
 use Rattle.edge_lines.specs.PartialLaws.{gathered-count}
 use Rattle.edges.specs.declared.Reader.{Reader}
 use Rattle.edges.specs.declared.Answer.{Answer}
-use Rattle.edges.specs.Edges.{fresh, refusedWith, frameWritten, closedLeaves, Reading, answers, finished, endAnswer, endLeaves}
+use Rattle.edges.specs.Edges.{refusedWith, frameWritten, closedLeaves, Reading, answers, finished, endAnswer, endLeaves}
 use Rattle.edges.specs.EdgesLaws.{last-done, end-again, end-in-line, end-low, end-closes, end-nothing}
 use Rattle.captures.specs.Capture.{Course, refusedEnd, lastClosed, endedAt, ended, Sound}
-use Rattle.captures.specs.FillLaws.{Filled}
-
--- the answer and the buffer hold the course behind n bytes
-pub record Closed (n : ℕ) (out : List ℕ) (c : Course) (a : Answer) (l : List ℕ) : Type 0 where
-  pub refusal : a .refusal ≡ c .refusal
-  pub written : a .written ≡ n + length (writeAll (c .frames))
-  pub laid-out : l ≡ laid out n (writeAll (c .frames))
-  pub restarted : c .refusal ≡ accepted → a .reader ≡ fresh
+use Rattle.captures.specs.Claims.{Filled, Closed}
 
 module _ (n : ℕ) (out : List ℕ) (c : Course) (x : Reading) (k : Filled n out c x) (sound : Sound (c .wire .frame)) where
   abbrev at-end : Reader

@@ -1,8 +1,7 @@
 -- A reader of pieces finds the course of the lines, whatever stands in its buffer before: from a reader that holds the characters u of an unfinished line, a piece s makes what
 -- the lines of u and s come to. Its frames are laid one behind the other, or, where the buffer has no room for all of them, refusal 1 comes.
 --     holding w u n          the reader at a line w, with unfinished characters u and n bytes written
---     Filled n out c x       reader and buffer hold the course c behind n bytes
---     Came n out c x         they do, where there is room; else refusal 1 has come
+--     Came n out c x         reader and buffer hold the course c behind n bytes, where there is room; else refusal 1 has come
 --     piece-came             the theorem
 -- Assumes nothing.
 use Prim.Native.Nat.{ℕ, _+_, _<_, _≤_}
@@ -37,6 +36,7 @@ use Rattle.edges.specs.declared.Reader.{Reader}
 use Rattle.edges.specs.Edges.{refusedWith, takenSoFar, onEdge, lineEnded, frameWritten, fedLineReader, fedLineLeaves, Reading, onByte, fedBytes}
 use Rattle.edges.specs.EdgesLaws.{edge-refused, edge-taken, line-other, line-length, line-time, closing-refused, closing-done, feed-closes, feed-moves, stays, on-character, on-feed}
 use Rattle.captures.specs.Capture.{lineStep, Course, quiet, closing, onward, courseOf, Sound}
+use Rattle.captures.specs.Claims.{Filled}
 use Rattle.captures.specs.StepLaws.{line-fair}
 
 one-zero : noRoom ≡ accepted → ⊥
@@ -118,14 +118,6 @@ module _ (w : Wire) (u : List ℕ) (n : ℕ) (out : List ℕ) where
         rw (reader-is, out-is) refl
 
 -- ## A piece
-
--- reader and buffer hold the course c behind n bytes
-pub record Filled (n : ℕ) (out : List ℕ) (c : Course) (x : Reading) : Type 0 where
-  pub refusal : x .reader .refusal ≡ c .refusal
-  pub written : x .reader .written ≡ n + length (writeAll (c .frames))
-  pub wire : x .reader .wire ≡ c .wire
-  pub line : c .refusal ≡ accepted → x .reader .line ≡ gathered (c .left)
-  pub laid-out : x .out ≡ laid out n (writeAll (c .frames))
 
 -- they do, where there is room for all frames; else refusal 1 has come
 pub data Came (n : ℕ) (out : List ℕ) (c : Course) (x : Reading) : Type 0 where

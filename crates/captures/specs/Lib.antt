@@ -1,4 +1,5 @@
 pub mod Capture
+pub mod Claims
 pub mod StepLaws
 pub mod FillLaws
 pub mod CutLaws

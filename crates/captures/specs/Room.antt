@@ -9,6 +9,7 @@ use lib.ListN.{length}
 use Rattle.lists.specs.Each.{Each}
 use Rattle.captures.specs.Taken.{Piece}
 
+-- the bytes that a piece needs besides its own
 abbrev pub pieceRoom : ℕ
 pieceRoom = 143
 

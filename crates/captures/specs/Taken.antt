@@ -1,6 +1,7 @@
 -- A capture of any length, in a buffer of any length: after each piece the host takes the bytes that stand in the buffer, and the next piece is written from its front.
 --     Piece                  the bytes of a piece, and the buffer that is lent for it
 --     inOne ps               the bytes of the pieces, put together
+--     afterPiece r p, handedOf r p       the reader after a piece whose bytes were taken, and those bytes
 --     handed r ps            the bytes that the host takes, one piece after the other
 --     Roomy r ps             no piece is refused for want of room
 -- Assumes nothing.

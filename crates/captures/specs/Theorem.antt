@@ -33,20 +33,16 @@ use Rattle.edges.specs.declared.Reader.{Reader}
 use Rattle.edges.specs.Edges.{fresh, takenSoFar, Reading, onByte, fedBytes, answers, feedAnswer, feedLeaves, endAnswer, endLeaves}
 use Rattle.edges.specs.EdgesLaws.{stays, end-again}
 use Rattle.captures.specs.Capture.{Course, courseOf, capture, ended, Sound}
-use Rattle.captures.specs.EndLaws.{Closed, end-closed}
+use Rattle.captures.specs.Claims.{feeds, Filled, Closed}
+use Rattle.captures.specs.EndLaws.{end-closed}
 use Rattle.captures.specs.StepLaws.{blank-sound, course-kept}
-use Rattle.captures.specs.FillLaws.{holding, Filled, Came, fits, short, plain-course, piece-came, holds}
+use Rattle.captures.specs.FillLaws.{holding, Came, fits, short, plain-course, piece-came, holds}
 use Rattle.captures.specs.CutLaws.{course-on, course-stop, left-plain}
 use Rattle.captures.specs.Room.{Ample}
 use Rattle.captures.specs.RoomLaws.{ample-roomy}
 use Rattle.captures.specs.Taken.{Piece, inOne, afterPiece, handedOf, handed, Roomy}
 
 -- ## Cuts
-
--- reader and buffer after pieces fed one after the other
-unfoldable pub feeds : Reading → List (List ℕ) → Reading
-feeds x [] = x
-feeds x (s ∷ ss) = feeds (fedBytes (x .reader) (x .out) s) ss
 
 pub any-cuts : (x : Reading) (ss : List (List ℕ)) → feeds x ss ≡ fedBytes (x .reader) (x .out) (together ss)
 unfolding feeds together fold

@@ -4,10 +4,14 @@
 --     fresh                      a reader before the first byte
 --     refusedWith r n            the reader with a refusal
 --     withLine r l               the reader with another unfinished line
+--     withWritten r n            the reader with so many bytes in its buffer
 --     takenSoFar r               the reader once the bytes in the buffer were taken: it goes on from its front
---     lineEnded r                what a feed comes to: the reader after it, and whether the frame that r holds is closed
---     Reading                    a reader and the buffer that it fills
---     onFeed x, onByte x c       the two after a feed, and after any byte
+--     onEdge r s                 what an edge comes to, by its step: the reader after it, and whether the frame that r holds is closed
+--     lineEnded r                the same for a line at its feed
+--     closedReader r q out, closedLeaves r out       the reader and the buffer once the frame that r holds is closed, where q was to come after it
+--     fedLineReader r out, fedLineLeaves r out       the two after a feed
+--     Reading, onByte x c        a reader and the buffer that it fills; the two after a byte
+--     fedBytes r out s           the two after a piece
 --     feedAnswer, feedLeaves r out s     the answer for a piece, and what is left of the buffer
 --     endAnswer, endLeaves r out         the same for an end; where it is accepted the reader is fresh
 -- Assumes nothing.
@@ -81,9 +85,11 @@ closedReader before after out =
 abbrev pub closedLeaves : Reader → List ℕ → List ℕ
 closedLeaves r out = lineWriteLeaves out (r .written) (r .wire .frame)
 
+-- the reader after a feed
 abbrev pub fedLineReader : Reader → List ℕ → Reader
 fedLineReader r out = if lineEnded r .closes then closedReader r (lineEnded r .reader) out else lineEnded r .reader
 
+-- the buffer after a feed
 abbrev pub fedLineLeaves : Reader → List ℕ → List ℕ
 fedLineLeaves r out = if lineEnded r .closes then closedLeaves r out else out
 
@@ -115,9 +121,11 @@ fedBytes r out s = fold onByte record { reader = r; out = out } s
 abbrev pub answers : Reader → Answer
 answers r = record { refusal = r .refusal; written = r .written; reader = r }
 
+-- the answer for a piece
 abbrev pub feedAnswer : Reader → List ℕ → List ℕ → Answer
 feedAnswer r out s = answers (fedBytes r out s .reader)
 
+-- the buffer after it
 abbrev pub feedLeaves : Reader → List ℕ → List ℕ → List ℕ
 feedLeaves r out s = fedBytes r out s .out
 

@@ -48,5 +48,6 @@ isSilence d = leb 480 d
 
 -- ## What a low is
 
+-- a slot, a reset, or neither
 abbrev pub pulseOf : ℕ → Pulse
 pulseOf d = if isOne d then One else if isZero d then Zero else if isReset d then Reset else Other

@@ -43,18 +43,23 @@ begun Low = true
 
 -- ## What an edge comes to
 
+-- a refusal, and the line as it was
 abbrev pub refuses : Wire → ℕ → Step
 refuses w n = record { refusal = n; closes = false; wire = w }
 
+-- the line is at a stage, with a frame open
 abbrev pub goes : Stage → ℕ → Frame → Step
 goes s t f = record { refusal = accepted; closes = false; wire = record { stage = s; last = t; frame = f } }
 
+-- the same with the frame that was open
 abbrev pub moves : Wire → Stage → ℕ → Step
 moves w s t = goes s t (w .frame)
 
+-- a reset: a frame without presence is open
 abbrev pub restarts : ℕ → Bool → Step
 restarts t closes = record { refusal = accepted; closes = closes; wire = record { stage = Released; last = t; frame = blankFrame false } }
 
+-- one slot more; none is taken without presence, nor behind 512
 abbrev pub takesSlot : Wire → ℕ → Bool → Step
 takesSlot w t b = if w .frame .presence && ltb (w .frame .count) mostSlots then goes High t (pushed (w .frame) b) else refuses w malformed
 
