@@ -3,8 +3,12 @@
 --     printedRun r ps out    what is handed on for the pieces ps and, where none of them is refused, for the end, with out lent for it
 --     enoughRoom             the bytes that a buffer needs besides those of its piece
 --     Lent ps                each piece has a buffer with so much room
+--     Reached r              the reader of a program after some pieces, none of them refused
+--     Handed t               bytes that a program may hand to its output
 -- Assumes nothing.
 use Prim.Native.Nat.{ℕ, _+_, _≤_}
+use mathlib.Core.Path.{_≡_}
+use mathlib.Core.Bool.{true}
 use mathlib.Core.List.{List, [], _∷_, _++_}
 use lib.Dec.{eqb}
 use lib.ListN.{length, take}
@@ -14,7 +18,7 @@ use Rattle.refusals.specs.Refusals.{accepted}
 use Rattle.frame_lines.specs.Recording.{writeAll}
 use Rattle.edges.specs.declared.Reader.{Reader}
 use Rattle.edges.specs.declared.Answer.{Answer}
-use Rattle.edges.specs.Edges.{feedAnswer, feedLeaves, endAnswer, endLeaves}
+use Rattle.edges.specs.Edges.{fresh, feedAnswer, feedLeaves, endAnswer, endLeaves}
 use Rattle.edge_printing.specs.declared.Printed.{Printed}
 use Rattle.edge_printing.specs.EdgePrinting.{refusedLine, printedFor, printedLeaves}
 use Rattle.captures.specs.Capture.{Course, capture, ended}
@@ -52,3 +56,16 @@ enoughRoom = 172
 -- each piece has a buffer with so much room
 abbrev pub Lent : List Piece → Type 0
 Lent ps = Each (λ p. enoughRoom + length (p .bytes) ≤ length (p .buffer)) ps
+
+-- ## Call after call
+
+-- the reader after some pieces, none of them refused
+pub data Reached : Reader → Type 0 where
+  start : Reached fresh
+  more : {r : Reader} → Reached r → (p : Piece) → enoughRoom + length (p .bytes) ≤ length (p .buffer) → ofPiece r p .going ≡ true → Reached (ofPiece r p .reader)
+
+-- bytes that a program may hand to its output: what is handed on for the next piece, or for the end
+pub data Handed (t : List ℕ) : Type 0 where
+  of-piece : {r : Reader} → Reached r → (p : Piece) → enoughRoom + length (p .bytes) ≤ length (p .buffer)
+      → t ≡ handedOn (feedAnswer r (p .buffer) (p .bytes)) (feedLeaves r (p .buffer) (p .bytes)) → Handed t
+  of-end : {r : Reader} → Reached r → (out : List ℕ) → enoughRoom ≤ length out → t ≡ handedOn (endAnswer r out) (endLeaves r out) → Handed t

@@ -1,5 +1,6 @@
 -- An end makes of reader and buffer what the course with its end says, where there is room for its frames.
 --     end-closed             the theorem
+--     ended-writable         a line can carry each of its frames
 -- Assumes nothing.
 use Prim.Native.Nat.{ℕ, _+_, _≤_}
 use mathlib.Core.Path.{_≡_, refl, sym, ap, _∙_}
@@ -16,7 +17,8 @@ use Rattle.refusals.specs.Refusals.{accepted, notHex}
 use Rattle.laying.specs.declared.Written.{Written}
 use Rattle.laying.specs.LayingLaws.{lay-fits}
 use Rattle.frame_lines.specs.Writing.{fedLine}
-use Rattle.frame_lines.specs.Recording.{writeAll}
+use Rattle.frame.specs.declared.Frame.{Frame}
+use Rattle.frame_lines.specs.Recording.{writeAll, Writable, none, one}
 use Rattle.frame_lines.specs.RecordingLaws.{write-append}
 use Rattle.pulses.specs.declared.Wire.{Wire}
 use Rattle.pulses.specs.declared.Ending.{Ending}
@@ -28,6 +30,7 @@ use Rattle.edges.specs.declared.Answer.{Answer}
 use Rattle.edges.specs.Edges.{refusedWith, frameWritten, closedLeaves, Reading, answers, finished, endAnswer, endLeaves}
 use Rattle.edges.specs.EdgesLaws.{last-done, end-again, end-in-line, end-low, end-closes, end-nothing}
 use Rattle.captures.specs.Capture.{Course, refusedEnd, lastClosed, endedAt, ended, Sound}
+use Rattle.captures.specs.StepLaws.{Kept}
 use Rattle.captures.specs.Claims.{Filled, Closed}
 
 module _ (n : ℕ) (out : List ℕ) (c : Course) (x : Reading) (k : Filled n out c x) (sound : Sound (c .wire .frame)) where
@@ -126,3 +129,20 @@ module _ (n : ℕ) (out : List ℕ) (c : Course) (x : Reading) (k : Filled n out
           → Done (if not t then c else if not (eqb (length (c .left)) 0) then refusedEnd c notHex else endedAt c (endingAt (c .wire .stage)))
       by-refusal true h = by-line (eqb (length (c .left)) 0) refl (eqb-true (c .refusal) accepted h)
       by-refusal false h = refused-before (eqb-false (c .refusal) accepted h)
+
+-- ## The frames with the last one can be written
+
+writable-last : {fs : List Frame} → Writable fs → (f : Frame) → Sound f → Writable (fs ++ (f ∷ []))
+writable-last none f sound = one (sound .held) (sound .carried) none
+writable-last (one held carried rest) f sound = one held carried (writable-last rest f sound)
+
+pub ended-writable : (c : Course) → Kept c → Writable (ended c .frames)
+ended-writable c k = by-test (eqb (c .refusal) accepted) (eqb (length (c .left)) 0) (eqb (endingAt (c .wire .stage) .refusal) accepted) (endingAt (c .wire .stage) .closes)
+  where
+    by-test : (t u v x : Bool)
+        → Writable ((if not t then c else if not u then refusedEnd c notHex else if not v then refusedEnd c (endingAt (c .wire .stage) .refusal) else if x then lastClosed c else c) .frames)
+    by-test false u v x = k .writable
+    by-test true false v x = k .writable
+    by-test true true false x = k .writable
+    by-test true true true true = writable-last (k .writable) (c .wire .frame) (k .last)
+    by-test true true true false = k .writable

@@ -4,6 +4,7 @@
 --     capture-short          in a buffer without, refusal 1 comes
 --     capture-read           what stands in the buffer reads back to those frames
 --     capture-ended          an end makes of them what the course with its end says
+--     ended-read             what stands in the buffer then reads back to the frames of that
 --     refusal-stays          after a refusal every feed and every end gives it again, and changes nothing
 --     taken-whole            bytes taken piece by piece, one after the other, are the text of the frames of the whole capture
 --     taken-ample            it is enough for that that each buffer is 143 bytes longer than its piece
@@ -34,7 +35,7 @@ use Rattle.edges.specs.Edges.{fresh, takenSoFar, Reading, onByte, fedBytes, ans
 use Rattle.edges.specs.EdgesLaws.{stays, end-again}
 use Rattle.captures.specs.Capture.{Course, courseOf, capture, ended, Sound}
 use Rattle.captures.specs.Claims.{feeds, Filled, Closed}
-use Rattle.captures.specs.EndLaws.{end-closed}
+use Rattle.captures.specs.EndLaws.{end-closed, ended-writable}
 use Rattle.captures.specs.StepLaws.{blank-sound, course-kept}
 use Rattle.captures.specs.FillLaws.{holding, Came, fits, short, plain-course, piece-came, holds}
 use Rattle.captures.specs.CutLaws.{course-on, course-stop, left-plain}
@@ -88,6 +89,14 @@ pub capture-ended : (s out : List ℕ) → length (writeAll (capture s .frames))
     → let x = fedBytes fresh out s in Closed 0 out (ended (capture s)) (endAnswer (x .reader) (x .out)) (endLeaves (x .reader) (x .out))
 capture-ended s out room last =
     end-closed 0 out (capture s) (fedBytes fresh out s) (capture-found s out room) (course-kept untouched sound-start (linesOf s) .last) (omega arith)
+
+pub ended-read : (s out : List ℕ) → length (writeAll (capture s .frames)) ≤ length out → length (writeAll (ended (capture s) .frames)) ≤ length out
+    → let x = fedBytes fresh out s in readAll (take (endAnswer (x .reader) (x .out) .written) (endLeaves (x .reader) (x .out))) ≡ map carries (ended (capture s) .frames)
+ended-read s out room last =
+    let k = capture-ended s out room last in
+    let text = writeAll (ended (capture s) .frames) in
+    let n : endAnswer (fedBytes fresh out s .reader) (fedBytes fresh out s .out) .written ≡ length text = k .written ∙ omega arith in
+    rw (n, k .laid-out, laid-read out 0 text (omega arith)) (read-back (ended-writable (capture s) (course-kept untouched sound-start (linesOf s))))
 
 -- ## Refusals stay
 

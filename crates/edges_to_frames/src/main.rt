@@ -1,6 +1,11 @@
 // Turns the edges of a logic analyser into frames: reads a capture from standard input and prints the
 // frames as they are closed; at a refusal its line, and it stops. It only moves bytes; what is printed
 // is decided by the library.
+ghost use mathlib.Core.Path.{_≡_};
+ghost use mathlib.Core.Bool.{true};
+ghost use Prim.Native.Nat.{_+_, _≤_};
+ghost use lib.ListN.{length, take};
+ghost use Rattle.capture_text.specs.Transcript.{enoughRoom, Reached, Handed};
 use edges::Reader;
 use libc::STDIN_FILENO;
 use libc::STDOUT_FILENO;
@@ -17,16 +22,28 @@ struct Session {
     going: bool,
 }
 
-// Hands the first bytes of a buffer to the output.
-fn write_front(bytes: &[u8], count: usize) -> bool {
+// Hands text to the output.
+fn write_handed(text: &[u8]) -> bool
+    requires { ⌜ Handed (now text) ⌝ }
+{
+    io::write_all(STDOUT_FILENO, text)
+}
+
+// Hands on the first bytes of a buffer.
+fn write_front(bytes: &[u8], count: usize) -> bool
+    requires { ⌜ Handed (take count (now bytes)) ⌝ }
+{
     if count <= bytes.len() {
-        return io::write_all(STDOUT_FILENO, &bytes[..count]);
+        return write_handed(&bytes[..count]);
     }
     false
 }
 
 // A piece of the capture. Where the output takes no more, none follows it.
-fn print_piece(reader: Reader, piece: &[u8], text: &mut [u8]) -> Session {
+fn print_piece(reader: Reader, piece: &[u8], text: &mut [u8]) -> Session
+    requires { ⌜ Reached reader × (enoughRoom + length (now piece) ≤ length (now text)) ⌝ }
+    ensures answer { λ r. ⌜ (r .going ≡ true → Reached (r .reader)) ⌝ }
+{
     let printed = edge_printing::print_piece(reader, piece, text);
     let reader = printed.reader;
     let wrote = write_front(text, printed.written);
@@ -43,7 +60,10 @@ fn print_piece(reader: Reader, piece: &[u8], text: &mut [u8]) -> Session {
 }
 
 // The end of the capture.
-fn print_end(reader: Reader, text: &mut [u8]) -> Session {
+fn print_end(reader: Reader, text: &mut [u8]) -> Session
+    requires { ⌜ Reached reader × (enoughRoom ≤ length (now text)) ⌝ }
+    ensures answer { λ r. ⌜ (r .going ≡ true → Reached (r .reader)) ⌝ }
+{
     let printed = edge_printing::print_end(reader, text);
     let reader = printed.reader;
     write_front(text, printed.written);
@@ -54,7 +74,10 @@ fn print_end(reader: Reader, text: &mut [u8]) -> Session {
 }
 
 // Reads once, and prints what has come.
-fn next_piece(reader: Reader, buffer: &mut [u8], text: &mut [u8]) -> Session {
+fn next_piece(reader: Reader, buffer: &mut [u8], text: &mut [u8]) -> Session
+    requires { ⌜ Reached reader × (enoughRoom + length (now buffer) ≤ length (now text)) ⌝ }
+    ensures answer { λ r. ⌜ (r .going ≡ true → Reached (r .reader)) ⌝ }
+{
     let got = libc::read(STDIN_FILENO, buffer);
     let count = io::count(got, buffer);
     if count == 0 {
@@ -65,7 +88,9 @@ fn next_piece(reader: Reader, buffer: &mut [u8], text: &mut [u8]) -> Session {
 
 // A proved loop has to end, and nothing says that a capture does: so the turns are counted down from a
 // number that no run uses up.
-fn print_capture(buffer: &mut [u8], text: &mut [u8]) {
+fn print_capture(buffer: &mut [u8], text: &mut [u8])
+    requires { ⌜ enoughRoom + length (now buffer) ≤ length (now text) ⌝ }
+{
     let mut session = Session {
         reader: edges::start(),
         going: true,

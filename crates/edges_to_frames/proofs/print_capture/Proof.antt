@@ -1,12 +1,16 @@
--- The buffers keep their lengths. The measure is the number of turns that are left. Assumes nothing.
-use mathlib.Core.Path.{_≡_}
+-- The reader is one that pieces have led to, and the buffers keep their lengths. The measure is the number of turns that are left. Assumes nothing.
+use mathlib.Core.Path.{_≡_, refl, _∙_}
+use native.Mathlib.Omega.{arith}
+use borrow.Author.Tests.{not-false}
 use lib.ListN.{length}
+use Rattle.capture_text.specs.Transcript.{Reached, start}
 use borrow.Author.Needs.{needs}
 use Rattle.edges_to_frames.proofs.print_capture.Statement.{statement}
 use Rattle.edges_to_frames.proofs.print_capture.Tie as tie
 
 abbrev Inv-loop : tie.InvT-loop
-Inv-loop buffer₀ text₀ session₀ turns₀ buffer text session turns = (length buffer ≡ length buffer₀) × (length text ≡ length text₀)
+Inv-loop buffer₀ text₀ session₀ turns₀ buffer text session turns =
+    (length buffer ≡ length buffer₀) × (length text ≡ length text₀) × Reached (session .reader)
 
 abbrev μ-loop : tie.MeasureT-loop
 μ-loop buffer₀ text₀ session₀ turns₀ buffer text session turns = turns
@@ -15,10 +19,15 @@ start-requires : tie.Need-start-requires Inv-loop μ-loop
 start-requires c κs = search needs
 
 loop-holds : tie.Need-loop-holds Inv-loop μ-loop
-loop-holds c = search needs
+loop-holds c = (refl, refl, rw (c .start .ensures) start)
 
 next-piece-requires : tie.Need-next-piece-requires Inv-loop μ-loop
-next-piece-requires c κs = search needs
+next-piece-requires c κs =
+    let l = c .before .before .before .before in
+    let bytes = l .loop .inv .0 in
+    let room = l .loop .inv .1 in
+    let enough = l .before .before .before .before .pre in
+    (l .loop .inv .2, omega arith)
 
 same-length : tie.Need-same-length Inv-loop μ-loop
 same-length c = search needs
@@ -36,7 +45,10 @@ loop-less : tie.Need-loop-less Inv-loop μ-loop
 loop-less c = search needs
 
 loop-again : tie.Need-loop-again Inv-loop μ-loop
-loop-again c = search needs
+loop-again c =
+    let turn = c .before .before .before .before .before .before in
+    let inv = turn .before .before .before .before .before .loop .inv in
+    (turn .next-piece .kept .1 .0 ∙ inv .0, turn .next-piece .kept .1 .1 .0 ∙ inv .1, turn .next-piece .ensures (not-false _ (c .if1 .left)))
 
 same-length-3 : tie.Need-same-length-3 Inv-loop μ-loop
 same-length-3 c = search needs

@@ -4,11 +4,11 @@ use borrow.Author.Needs.{needs}
 use Rattle.edges_to_frames.proofs.write_front.Statement.{statement}
 use Rattle.edges_to_frames.proofs.write_front.Tie as tie
 
-slice-aggregate-write-all : tie.Need-slice-aggregate-write-all
-slice-aggregate-write-all c = search (needs, length-take-le)
+slice-aggregate-write-handed : tie.Need-slice-aggregate-write-handed
+slice-aggregate-write-handed c = search (needs, length-take-le)
 
-write-all-requires : tie.Need-write-all-requires
-write-all-requires c κs = search needs
+write-handed-requires : tie.Need-write-handed-requires
+write-handed-requires c κs = search needs
 
 returns : tie.Need-returns
 returns c = search needs
@@ -18,4 +18,4 @@ returns-2 c = search needs
 
 pub write-front-spec : {M : Type 1} → statement M
 write-front-spec =
-    tie.close (tie.spec slice-aggregate-write-all write-all-requires returns returns-2)
+    tie.close (tie.spec slice-aggregate-write-handed write-handed-requires returns returns-2)
