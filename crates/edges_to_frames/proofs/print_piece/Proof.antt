@@ -3,7 +3,8 @@ use Rattle.capture_text.specs.Transcript.{more, of-piece}
 use Rattle.captures.specs.Taken.{Piece}
 use denote.Ref.{now}
 use mathlib.Core.Bool.{false≢true}
-use mathlib.Core.Path.{refl}
+use mathlib.Core.Path.{refl, sym, ap, _∙_}
+use Rattle.edge_printing.specs.declared.Printed.{Printed}
 use borrow.Author.Needs.{needs}
 use Rattle.edges_to_frames.proofs.print_piece.Statement.{statement}
 use Rattle.edges_to_frames.proofs.print_piece.Tie as tie
@@ -28,7 +29,7 @@ returns c =
     let a = printed .before .before .before .before in
     let p : Piece = record { bytes = now (a .args .piece); buffer = now (a .args .text) } in
     let e = printed .print-piece .ensures in
-    λ on. rw (e .0) (more (a .pre .0) p (a .pre .1) (rw (e .0) at on))
+    λ on. rw (e .0) (more (a .pre .0) p (a .pre .1) (sym (ap (λ (q : Printed). q .going) (e .0)) ∙ on))
 
 same-length-2 : tie.Need-same-length-2
 same-length-2 c = search needs
