@@ -8,3 +8,4 @@ pub mod Taken
 pub mod Room
 pub mod RoomLaws
 pub mod Theorem
+pub mod Cases

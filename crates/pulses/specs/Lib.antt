@@ -2,3 +2,4 @@ pub mod Bounds
 pub mod BoundsLaws
 pub mod Rule
 pub mod RuleLaws
+pub mod Cases
