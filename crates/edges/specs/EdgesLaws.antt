@@ -45,24 +45,14 @@ module _ (r : Reader) (s : Step) where
   edge-taken h = choice-then (eqb (s .refusal) accepted) (moved r s) (stays-refused r (s .refusal)) (eq-eqb (s .refusal) accepted h)
 
 module _ (r : Reader) where
-  abbrev by-length : Turn
-  by-length = if not (eqb (r .line .count) timeDigits) then stays-refused r malformed else onEdge r (edgeStep (r .wire) (r .line .number))
-
-  spelt-on : r .line .spelt ≡ true → by-length ≡ lineEnded r
-  spelt-on e = choice-else (not (r .line .spelt)) (stays-refused r notHex) by-length (ap not e)
-
   pub line-other : r .line .spelt ≡ false → record { closes = false; reader = refusedWith r notHex } ≡ lineEnded r
-  line-other e = choice-then (not (r .line .spelt)) (stays-refused r notHex) by-length (ap not e)
+  line-other e = rw e refl
 
   pub line-length : r .line .spelt ≡ true → (r .line .count ≡ timeDigits → ⊥) → record { closes = false; reader = refusedWith r malformed } ≡ lineEnded r
-  line-length e h =
-      choice-then (not (eqb (r .line .count) timeDigits)) (stays-refused r malformed) (onEdge r (edgeStep (r .wire) (r .line .number)))
-      (ap not (ne-eqb (r .line .count) timeDigits h)) ∙ spelt-on e
+  line-length e h = rw (e, ne-eqb (r .line .count) timeDigits h) refl
 
   pub line-time : r .line .spelt ≡ true → r .line .count ≡ timeDigits → onEdge r (edgeStep (r .wire) (r .line .number)) ≡ lineEnded r
-  line-time e h =
-      choice-else (not (eqb (r .line .count) timeDigits)) (stays-refused r malformed) (onEdge r (edgeStep (r .wire) (r .line .number)))
-      (ap not (eq-eqb (r .line .count) timeDigits h)) ∙ spelt-on e
+  line-time e h = rw (e, eq-eqb (r .line .count) timeDigits h) refl
 
 module _ (before after : Reader) (out : List ℕ) where
   pub closing-refused : (frameWritten before out .refusal ≡ accepted → ⊥) → refusedWith before (frameWritten before out .refusal) ≡ closedReader before after out

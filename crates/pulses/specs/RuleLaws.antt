@@ -1,19 +1,19 @@
 -- The branches of the rule, one law for each. How long the line was high before the first edge counts for nothing.
 -- Assumes nothing.
-use Prim.Native.Nat.{ℕ, _<_, _≤_}
+use Prim.Native.Nat.{ℕ, _-_, _<_, _≤_}
 use mathlib.Core.Path.{_≡_, refl, sym, ap, _∙_}
 use mathlib.Core.Bool.{Bool, true, false, _&&_, and-false, false≢true}
 use native.Mathlib.Omega.{arith}
 use borrow.Author.Tests.{le-leb, lt-leb, lt-ltb, le-ltb}
-use lib.Dec.{ltb}
+use lib.Dec.{leb, ltb}
 use Rattle.lists.specs.ChoiceLaws.{choice-then, choice-else}
-use Rattle.refusals.specs.Refusals.{accepted, malformed, badPulse}
+use Rattle.refusals.specs.Refusals.{accepted, malformed, badPulse, notLater}
 use Rattle.frame.specs.Frames.{mostSlots, blankFrame, pushed}
 use Rattle.pulses.specs.declared.Stage.{Stage}
 use Rattle.pulses.specs.declared.Stage.the-variants.{Idle, FirstLow, Released, Presence, High, Low}
 use Rattle.pulses.specs.declared.Wire.{Wire}
 use Rattle.pulses.specs.BoundsLaws.{between-below, between-within, between-above}
-use Rattle.pulses.specs.Rule.{begun, goes, refuses, moves, restarts, takesSlot, afterFirstLow, afterRelease, afterPresence, afterLevel, endingAt}
+use Rattle.pulses.specs.Rule.{begun, goes, refuses, moves, restarts, takesSlot, afterFirstLow, afterRelease, afterPresence, afterLevel, edgeStep, endingAt}
 
 pub first-any : (s : Stage) (w : Wire) (t d e : ℕ) → begun s ≡ false → afterLevel s w t d ≡ afterLevel s w t e
 first-any Idle w t d e h = refl
@@ -22,6 +22,19 @@ first-any Released w t d e h = absurd (false≢true (sym h))
 first-any Presence w t d e h = absurd (false≢true (sym h))
 first-any High w t d e h = absurd (false≢true (sym h))
 first-any Low w t d e h = absurd (false≢true (sym h))
+
+-- an edge behind another, by its time
+module _ (w : Wire) (t : ℕ) (some : begun (w .stage) ≡ true) where
+  abbrev late : Bool
+  late = begun (w .stage) && leb t (w .last)
+
+  pub edge-late : t ≤ w .last → refuses w notLater ≡ edgeStep w t
+  edge-late h =
+      choice-then late (refuses w notLater) (afterLevel (w .stage) w t (t - w .last)) (ap (λ (b : Bool). b && leb t (w .last)) some ∙ le-leb t (w .last) h)
+
+  pub edge-later : w .last < t → afterLevel (w .stage) w t (t - w .last) ≡ edgeStep w t
+  edge-later h =
+      choice-else late (refuses w notLater) (afterLevel (w .stage) w t (t - w .last)) (ap (λ (b : Bool). b && leb t (w .last)) some ∙ lt-leb t (w .last) h)
 
 -- an end that is refused closes no frame
 pub refused-open : (s : Stage) → (endingAt s .refusal ≡ accepted → ⊥) → endingAt s .closes ≡ false

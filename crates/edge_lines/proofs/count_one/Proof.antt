@@ -1,4 +1,6 @@
 -- Below nine and from nine on. Assumes nothing.
+use Prim.Native.Nat.{_<_, _≤_}
+use native.Mathlib.Omega.{arith}
 use borrow.Author.Tests.{lt-ltb, le-ltb}
 use borrow.Author.Needs.{needs}
 use Rattle.edge_lines.proofs.count_one.Statement.{statement}
@@ -8,10 +10,16 @@ add-result : tie.Need-add-result
 add-result c = search needs
 
 returns : tie.Need-returns
-returns c = simp (lt-ltb (c .before .args .count) 9 (c .if1 .taken))
+returns c =
+    let n = c .before .args .count in
+    let few : n < 9 = omega arith in
+    simp (lt-ltb n 9 few)
 
 returns-2 : tie.Need-returns-2
-returns-2 c = simp (le-ltb (c .before .args .count) 9 (c .if1 .left))
+returns-2 c =
+    let n = c .before .args .count in
+    let many : 9 ≤ n = omega arith in
+    simp (le-ltb n 9 many)
 
 pub count-one-spec : {M : Type 1} → statement M
 count-one-spec = tie.close (tie.spec add-result returns returns-2)

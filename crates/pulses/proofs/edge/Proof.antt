@@ -1,7 +1,7 @@
 -- The first edge has no edge before it; every other is later than the last or refused. Assumes nothing.
-use Rattle.pulses.specs.RuleLaws.{first-any}
+use Rattle.pulses.specs.RuleLaws.{first-any, edge-late, edge-later}
 use mathlib.Core.Path.{sym, _∙_}
-use borrow.Author.Tests.{not-true, not-false, le-leb, lt-leb}
+use borrow.Author.Tests.{not-true, not-false}
 use borrow.Author.Needs.{needs}
 use Rattle.pulses.proofs.edge.Statement.{statement}
 use Rattle.pulses.proofs.edge.Tie as tie
@@ -25,7 +25,7 @@ returns-2 : tie.Need-returns-2
 returns-2 c =
     let a = c .before .before .before .before .args in
     let some = sym (c .before .before .before .has-begun .ensures) ∙ not-false _ (c .before .before .if1 .left) in
-    rw (some, le-leb (a .time) (a .wire .last) (c .before .if2 .taken)) (c .refuse .ensures)
+    c .refuse .ensures ∙ edge-late (a .wire) (a .time) some (c .before .if2 .taken)
 
 sub-after-level : tie.Need-sub-after-level
 sub-after-level c = search needs
@@ -37,7 +37,7 @@ returns-3 : tie.Need-returns-3
 returns-3 c =
     let a = c .before .before .before .before .args in
     let some = sym (c .before .before .before .has-begun .ensures) ∙ not-false _ (c .before .before .if1 .left) in
-    rw (some, lt-leb (a .time) (a .wire .last) (c .before .if2 .left)) (c .after-level2 .ensures)
+    c .after-level2 .ensures ∙ edge-later (a .wire) (a .time) some (c .before .if2 .left)
 
 pub edge-spec : {M : Type 1} → statement M
 edge-spec =

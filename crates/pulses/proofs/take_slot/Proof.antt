@@ -1,4 +1,6 @@
 -- Without presence and at 512 slots the slot is refused. Assumes nothing.
+use Prim.Native.Nat.{_<_, _≤_}
+use native.Mathlib.Omega.{arith}
 use Rattle.pulses.specs.RuleLaws.{slot-silent, slot-past, slot-taken}
 use mathlib.Core.Path.{_∙_}
 use borrow.Author.Tests.{not-true, not-false}
@@ -16,7 +18,10 @@ refuse-requires-2 : tie.Need-refuse-requires-2
 refuse-requires-2 c κs = search needs
 
 returns-2 : tie.Need-returns-2
-returns-2 c = c .refuse2 .ensures ∙ slot-past _ _ _ (c .before .if2 .taken)
+returns-2 c =
+    let w = c .before .before .before .before .before .before .args .wire in
+    let full : 512 ≤ w .frame .count = omega arith in
+    c .refuse2 .ensures ∙ slot-past w _ _ full
 
 push-requires : tie.Need-push-requires
 push-requires c κs = search needs
@@ -26,8 +31,10 @@ go-requires c κs = search needs
 
 returns-3 : tie.Need-returns-3
 returns-3 c =
-    let full = c .before .before in
-    rw (c .before .push .ensures .0) at (c .go .ensures) ∙ slot-taken _ _ _ (not-false _ (full .before .before .if1 .left)) (full .if2 .left)
+    let test = c .before .before in
+    let w = test .before .before .before .before .before .args .wire in
+    let room : w .frame .count < 512 = omega arith in
+    rw (c .before .push .ensures .0) at (c .go .ensures) ∙ slot-taken w _ _ (not-false _ (test .before .before .if1 .left)) room
 
 pub take-slot-spec : {M : Type 1} → statement M
 take-slot-spec =
