@@ -61,13 +61,6 @@ mismatch = 13
 abbrev pub badTriple : ℕ
 badTriple = 14
 
--- the address pins of a device that has them are over 15
-abbrev pub wrongPins : ℕ
-wrongPins = 17
-
--- the count bytes of a scratchpad in half degrees cannot be: byte 7 is zero, or byte 6 above it
-abbrev pub wrongCounts : ℕ
-wrongCounts = 20
 -- a pulse or a gap of the line has none of the lengths that the rule knows
 abbrev pub badPulse : ℕ
 badPulse = 15
@@ -75,3 +68,11 @@ badPulse = 15
 -- the time of an edge is not above that of the edge before it
 abbrev pub notLater : ℕ
 notLater = 16
+
+-- the address pins of a device that has them are over 15
+abbrev pub wrongPins : ℕ
+wrongPins = 17
+
+-- the count bytes of a scratchpad in half degrees cannot be: byte 7 is zero, or byte 6 above it
+abbrev pub wrongCounts : ℕ
+wrongCounts = 20

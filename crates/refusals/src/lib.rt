@@ -45,13 +45,14 @@ pub const MISMATCH: u8 = 13;
 // A search pass holds a triple that no device can give.
 pub const BAD_TRIPLE: u8 = 14;
 
-// The address pins of a device that has them are over 15.
-pub const WRONG_PINS: u8 = 17;
-
-// The count bytes of a scratchpad in half degrees cannot be: byte 7 is zero, or byte 6 above it.
-pub const WRONG_COUNTS: u8 = 20;
 // A pulse or a gap of the line has none of the lengths that the rule knows.
 pub const BAD_PULSE: u8 = 15;
 
 // The time of an edge is not above that of the edge before it.
 pub const NOT_LATER: u8 = 16;
+
+// The address pins of a device that has them are over 15.
+pub const WRONG_PINS: u8 = 17;
+
+// The count bytes of a scratchpad in half degrees cannot be: byte 7 is zero, or byte 6 above it.
+pub const WRONG_COUNTS: u8 = 20;
