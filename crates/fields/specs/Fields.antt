@@ -24,7 +24,7 @@ use Rattle.device.specs.declared.Power.the-variants.{Line, External}
 use Rattle.fields.specs.declared.CountRead.{CountRead}
 use Rattle.fields.specs.declared.PowerRead.{PowerRead}
 use Rattle.fields.specs.declared.SettingsRead.{SettingsRead}
-use Rattle.words.specs.Words.{same}
+use Rattle.lists.specs.Same.{same}
 
 -- the most places and the most bytes that a call lends; also what a search alone is lent
 abbrev pub mostPlaces : ℕ

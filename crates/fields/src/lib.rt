@@ -6,7 +6,7 @@ use device::Power;
 use device::Settings;
 use temperature::Sixteenths;
 use text::NumberRead;
-use words::same;
+use text::same;
 
 // The most places of a list and bytes of a recording that a search is lent.
 pub const MOST_PLACES: usize = 32;

@@ -10,5 +10,7 @@ pub mod FirstLaws
 pub mod Laid
 pub mod LaidLaws
 pub mod Places
+pub mod Same
+pub mod SameLaws
 pub mod Each
 pub mod EachLaws

@@ -17,7 +17,8 @@ use Rattle.fields.specs.declared.PowerRead.{PowerRead}
 use Rattle.requests.specs.declared.Request.{Request}
 use Rattle.requests.specs.declared.Request.the-variants.{Bad, Add, Reset, Slot, Converted, Copied, Cycle, Search, Alarm, Read, Write, Show, Why}
 use Rattle.fields.specs.declared.SettingsRead.{SettingsRead}
-use Rattle.words.specs.Words.{same, wordOf, wordsOf}
+use Rattle.lists.specs.Same.{same}
+use Rattle.words.specs.Words.{wordOf, wordsOf}
 use Rattle.fields.specs.Fields.{codeIn, bitIn, placesIn, bytesIn, pinsIn, countIn, threeBytesIn, powerIn, mostPlaces, mostBytes}
 
 -- ## The requests, by what was read of their fields

@@ -10,8 +10,9 @@ use lib.ListN.{length}
 use Rattle.lists.specs.ChoiceLaws.{and-left, and-right}
 use Rattle.text.specs.Ascii.{ascii}
 use Rattle.requests.specs.declared.Request.the-variants.{Bad, Reset, Copied, Cycle, Search, Alarm, Read, Show, Why}
-use Rattle.words.specs.Words.{same, wordOf}
-use Rattle.words.specs.WordsLaws.{same-equal}
+use Rattle.words.specs.Words.{wordOf}
+use Rattle.lists.specs.Same.{same}
+use Rattle.lists.specs.SameLaws.{same-equal}
 use Rattle.fields.specs.Fields.{codeIn, bitIn, placesIn, bytesIn, pinsIn, countIn, threeBytesIn, powerIn, mostPlaces, mostBytes}
 use Rattle.requests.specs.Requests.{asks, slotAsked, convertedAsked, atCode, lent, writeAsked, addAsked, pinnedAsked, ofMaster, ofBench}
 

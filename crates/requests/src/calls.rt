@@ -16,8 +16,8 @@ use fields::pins_in;
 use fields::places_in;
 use fields::power_in;
 use fields::settings_in;
+use text::same;
 use words::count;
-use words::same;
 use words::word;
 
 // ---- Requests, by their fields

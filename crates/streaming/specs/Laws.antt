@@ -9,8 +9,7 @@ use mathlib.Core.List.{List, [], _∷_, _++_}
 use native.Mathlib.Omega.{arith}
 use borrow.Author.Tests.{eqb-true}
 use lib.Dec.{eqb, leb, ltb, lit<, lit≤}
-use lib.ListN.{length, length-append, length-drop, take, drop}
-use lib.Seq.{take-all}
+use lib.ListN.{length, length-append}
 use Rattle.lists.specs.Choice.{if_then_else_}
 use Rattle.lists.specs.ChoiceLaws.{and-left, and-right}
 use Rattle.refusals.specs.Refusals.{accepted, notHex, malformed}
@@ -80,8 +79,3 @@ carried-tells = record { some = lit< tt; same = λ l m a b agree fed. long-print
 -- what the calls print for the pieces of a recording, whatever the cuts, is what is printed for the whole
 pub recording-cuts : (cs : List (List ℕ)) → pieces printedLine longestCarried [] cs ≡ printed (together cs)
 recording-cuts cs = any-cuts printedLine longestCarried carried-tells cs
-
--- ## The part of a piece from a place on, as code writes it
-
-pub part-all : (s : List ℕ) (n : ℕ) → take (length s - n) (drop n s) ≡ drop n s
-part-all s n = let l = length-drop n s in let h : length (drop n s) ≤ length s - n = omega arith in take-all (length s - n) (drop n s) h

@@ -5,18 +5,20 @@
 --     lineBytes l            a line as it stands in the text, with its feed if it has one
 --     linesBytes ls          lines put back one after the other
 --     width l                how many bytes a line takes
+--     sameLine l m           whether two lines are the same: their characters, and that both or neither of them has a feed
 --     space                  the character between two words
 --     feedAt s               how many bytes stand before the first feed; all where there is none
 --     firstLine s            the first line of some bytes
 --     notFeed c              whether a character is no line feed
 -- Assumes nothing.
 use Prim.Native.Nat.{ℕ, _+_}
-use mathlib.Core.Bool.{Bool, true, false, not}
+use mathlib.Core.Bool.{Bool, true, false, not, Bool·beq, _&&_}
 use mathlib.Core.List.{List, [], _∷_, _++_}
 use lib.Dec.{eqb, ltb}
 use lib.ListN.{length, take}
 use Rattle.lists.specs.Choice.{if_then_else_}
 use Rattle.lists.specs.First.{firstAt}
+use Rattle.lists.specs.Same.{same}
 
 -- the character that ends a line
 abbrev pub lineFeed : ℕ
@@ -53,6 +55,10 @@ linesBytes (l ∷ ls) = lineBytes l ++ linesBytes ls
 -- how many bytes a line takes: its characters, and its feed if it has one
 abbrev pub width : Line → ℕ
 width l = if l .fed then length (l .chars) + 1 else length (l .chars)
+
+-- whether two lines are the same: their characters, and that both or neither of them has a feed
+abbrev pub sameLine : Line → Line → Bool
+sameLine l m = Bool·beq (l .fed) (m .fed) && same (l .chars) (m .chars)
 
 -- how many bytes stand before the first feed; all where there is none
 abbrev pub feedAt : List ℕ → ℕ

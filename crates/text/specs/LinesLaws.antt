@@ -4,22 +4,28 @@
 --     lines-cut              a line with its feed in front of some bytes is cut off as it was
 --     lines-next, lines-done the lines from a place on, and that there are none past the end
 --     lines-fed, lines-open  the same by where the first line ends
+--     same-line-equal, same-line-itself          the test whether two lines are the same is equality
+--     line-by-end, behind-fed, behind-open       the line that starts at a place, and the place behind it, by where it ends
+--     lines-behind, bytes-parted                 the lines behind the first n, put back: their lines, and the bytes in front of them
+--     lines-from, lines-place, lines-within      where they begin
 -- Assumes nothing.
-use Prim.Native.Nat.{ℕ, suc, _+_, _-_, _<_, _≤_}
+use Prim.Native.Nat.{ℕ, zero, suc, _+_, _-_, _<_, _≤_}
 use mathlib.Core.Path.{_≡_, refl, sym, ap, _∙_}
-use mathlib.Core.Bool.{Bool, true, false}
-use mathlib.Core.List.{List, [], _∷_, _++_}
+use mathlib.Core.Bool.{Bool, true, false, Bool·beq, _&&_, false≢true}
+use mathlib.Core.List.{List, [], _∷_, _++_, append-assoc}
 use native.Mathlib.Omega.{arith}
-use borrow.Author.Tests.{eqb-true, lt-ltb, le-ltb, ltb-false, not-true}
+use borrow.Author.Tests.{eqb-true, lt-ltb, le-ltb, ltb-true, ltb-false, not-true}
 use lib.Dec.{eqb, ltb, leb·suc-suc}
-use lib.ListN.{length, take, drop, length-drop, drop-of-length-le}
-use lib.Seq.{drop-drop, take-all, length-take-le}
+use lib.ListN.{length, take, drop, length-append, length-drop, drop-of-length-le, take-append-drop}
+use lib.Seq.{drop-drop, take-all, length-take-le, drop-at}
 use Rattle.lists.specs.Choice.{if_then_else_}
 use Rattle.lists.specs.Fold.{all}
 use Rattle.lists.specs.ChoiceLaws.{and-left, and-right}
 use Rattle.lists.specs.First.{firstAt}
 use Rattle.lists.specs.FirstLaws.{at-within}
-use Rattle.text.specs.Lines.{lineFeed, Line, longer, linesOf, feedAt, notFeed, width, firstLine, linesBytes}
+use Rattle.lists.specs.Same.{same}
+use Rattle.lists.specs.SameLaws.{same-equal, same-itself}
+use Rattle.text.specs.Lines.{lineFeed, Line, longer, linesOf, sameLine, feedAt, notFeed, width, firstLine, lineBytes, linesBytes}
 
 -- the first line, and those of what follows its feed
 pub lines-first : (c : ℕ) (s : List ℕ) → linesOf (c ∷ s) ≡ firstLine (c ∷ s) ∷ linesOf (drop (feedAt (c ∷ s) + 1) (c ∷ s))
@@ -131,3 +137,119 @@ module _ (s : List ℕ) (at e : ℕ) (before : at < length s) (ends : at + feedA
       let n : length s ≤ at + length t = omega arith in
       lines-next s at before ∙ ap (λ (l : Line). l ∷ linesOf (drop (at + width l) s)) f
       ∙ ap (λ (m : List ℕ). record { chars = t; fed = false } ∷ linesOf m) (drop-of-length-le s n)
+
+-- ## Two lines
+
+pub same-line-equal : (l m : Line) → sameLine l m ≡ true → l ≡ m
+same-line-equal l m e = by-feeds (l .fed) (m .fed) refl refl e
+  where
+    both : l .fed ≡ m .fed → same (l .chars) (m .chars) ≡ true → l ≡ m
+    both f s =
+        let c = same-equal (l .chars) (m .chars) s in
+        ap (λ (cs : List ℕ). record { chars = cs; fed = l .fed }) c ∙ ap (λ (t : Bool). record { chars = m .chars; fed = t }) f
+
+    by-feeds : (t u : Bool) → l .fed ≡ t → m .fed ≡ u → (Bool·beq t u && same (l .chars) (m .chars)) ≡ true → l ≡ m
+    by-feeds true true p q s = both (p ∙ sym q) s
+    by-feeds false false p q s = both (p ∙ sym q) s
+    by-feeds true false p q s = absurd (false≢true s)
+    by-feeds false true p q s = absurd (false≢true s)
+
+pub same-line-itself : (l : Line) → sameLine l l ≡ true
+same-line-itself l = by-feed (l .fed)
+  where
+    by-feed : (t : Bool) → (Bool·beq t t && same (l .chars) (l .chars)) ≡ true
+    by-feed true = same-itself (l .chars)
+    by-feed false = same-itself (l .chars)
+
+-- ## How much of a text lines take
+
+-- the first line of some bytes takes at least one and at most all of them
+pub first-width : (t : List ℕ) → 0 < length t → (0 < width (firstLine t)) × (width (firstLine t) ≤ length t)
+first-width t h = by-test (ltb (feedAt t) (length t)) refl
+  where
+    by-test : (u : Bool) → ltb (feedAt t) (length t) ≡ u →
+        let w = if u then length (take (feedAt t) t) + 1 else length (take (feedAt t) t) in (0 < w) × (w ≤ length t)
+    by-test true e =
+        let k = ltb-true (feedAt t) (length t) e in
+        let l = length-take-le (feedAt t) t (at-within lineFeed t) in (omega arith, omega arith)
+    by-test false e =
+        let k = ltb-false (feedAt t) (length t) e in
+        let w = at-within lineFeed t in
+        let l = length-take-le (feedAt t) t w in (omega arith, omega arith)
+
+-- the line that starts at a place, by where it ends
+pub line-by-end : (s : List ℕ) (at e : ℕ) → at ≤ length s → e ≡ at + feedAt (drop at s)
+    → (e ≤ length s) × (firstLine (drop at s) ≡ record { chars = take (e - at) (drop at s); fed = ltb e (length s) })
+line-by-end s at e h ends =
+    let t = drop at s in
+    let d = length-drop at s in
+    let w = at-within lineFeed t in
+    let n : feedAt t ≡ e - at = omega arith in
+    let most : e ≤ length s = omega arith in
+    (most, rw n (ap (λ (u : Bool). record { chars = take (e - at) t; fed = u }) (by-test (ltb e (length s)) refl)))
+  where
+    by-test : (u : Bool) → ltb e (length s) ≡ u → ltb (e - at) (length (drop at s)) ≡ u
+    by-test true k = let d = length-drop at s in let l = ltb-true e (length s) k in lt-ltb (e - at) (length (drop at s)) (omega arith)
+    by-test false k = let d = length-drop at s in let l = ltb-false e (length s) k in le-ltb (e - at) (length (drop at s)) (omega arith)
+
+-- and the place behind it, where it has a feed and where it has none
+module _ (s : List ℕ) (at e : ℕ) (h : at ≤ length s) (ends : e ≡ at + feedAt (drop at s)) where
+  characters : at + length (take (e - at) (drop at s)) ≡ e
+  characters =
+      let most = line-by-end s at e h ends .0 in
+      let d = length-drop at s in
+      let size = length-take-le (e - at) (drop at s) (omega arith) in
+      omega arith
+
+  pub behind-fed : e < length s → e + 1 ≡ at + width (firstLine (drop at s))
+  behind-fed k =
+      let c = characters in
+      let w = ap width (line-by-end s at e h ends .1) in
+      let f = rw (lt-ltb e (length s) k) at w in
+      omega arith
+
+  pub behind-open : length s ≤ e → e ≡ at + width (firstLine (drop at s))
+  behind-open k =
+      let c = characters in
+      let w = ap width (line-by-end s at e h ends .1) in
+      let f = rw (le-ltb e (length s) k) at w in
+      omega arith
+
+bytes-append : (ls ms : List Line) → linesBytes (ls ++ ms) ≡ linesBytes ls ++ linesBytes ms
+unfolding linesBytes
+bytes-append [] ms = refl
+bytes-append (l ∷ ls) ms = rw (bytes-append ls ms) (sym (append-assoc (lineBytes l) (linesBytes ls) (linesBytes ms)))
+
+behind-none : (n : ℕ) → linesOf (linesBytes (drop n (linesOf []))) ≡ drop n (linesOf [])
+unfolding linesOf linesBytes
+behind-none zero = refl
+behind-none (suc n) = refl
+
+-- lines of a text, put back and cut again, are the same
+pub lines-behind : (s : List ℕ) (n : ℕ) → linesOf (linesBytes (drop n (linesOf s))) ≡ drop n (linesOf s)
+lines-behind s zero = ap linesOf (lines-bytes s)
+lines-behind [] (suc n) = behind-none (suc n)
+lines-behind (c ∷ s) (suc n) = rw (lines-first c s) (lines-behind (drop (feedAt (c ∷ s) + 1) (c ∷ s)) n)
+
+-- the bytes of the first n lines, and behind them those of the others
+module _ (s : List ℕ) (n : ℕ) where
+  pub bytes-parted : s ≡ linesBytes (take n (linesOf s)) ++ linesBytes (drop n (linesOf s))
+  bytes-parted =
+      sym (lines-bytes s) ∙ ap linesBytes (sym (take-append-drop n (linesOf s))) ∙ bytes-append (take n (linesOf s)) (drop n (linesOf s))
+
+  pub lines-from : drop (length (linesBytes (take n (linesOf s)))) s ≡ linesBytes (drop n (linesOf s))
+  lines-from =
+      let before = linesBytes (take n (linesOf s)) in
+      ap (drop (length before)) bytes-parted ∙ drop-at before (linesBytes (drop n (linesOf s))) (length before) refl
+
+  pub lines-place : (at : ℕ) → at ≤ length s → linesOf (drop at s) ≡ drop n (linesOf s) → length (linesBytes (take n (linesOf s))) ≡ at
+  lines-place at h e =
+      let behind : linesBytes (drop n (linesOf s)) ≡ drop at s = ap linesBytes (sym e) ∙ lines-bytes (drop at s) in
+      let whole = ap length bytes-parted ∙ length-append (linesBytes (take n (linesOf s))) (linesBytes (drop n (linesOf s))) in
+      let size = ap length behind ∙ length-drop at s in
+      omega arith
+
+  pub lines-within : length (linesBytes (take n (linesOf s))) ≤ length s
+  lines-within =
+      let whole = ap length bytes-parted ∙ length-append (linesBytes (take n (linesOf s))) (linesBytes (drop n (linesOf s))) in
+      omega arith

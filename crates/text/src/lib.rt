@@ -3,6 +3,7 @@ mod lines;
 mod numbers;
 
 pub use lines::line_end;
+pub use lines::same;
 pub use numbers::all_digits;
 pub use numbers::decimal_length;
 pub use numbers::digit;

@@ -2,12 +2,10 @@
 -- fields are parted by exactly one space.
 --     wordsOf s              the words of a line; of an empty line, one empty word
 --     wordOf ws k            word k, counted from 0; the empty word where there is none
---     same v w               whether two words are the same
 --     spaceAt s              how many characters stand before the first space; all where there is none
 --     wordsEnded c           how many words a character ends: a space ends one
 -- Assumes nothing.
 use Prim.Native.Nat.{ℕ}
-use mathlib.Core.Bool.{Bool, true, false, _&&_}
 use mathlib.Core.List.{List, [], _∷_}
 use lib.Dec.{eqb}
 use lib.ListN.{getD}
@@ -28,13 +26,6 @@ wordsOf (c ∷ s) = if eqb c space then [] ∷ wordsOf s else lengthened c (word
 -- word k, counted from 0; the empty word where there is none
 abbrev pub wordOf : List (List ℕ) → ℕ → List ℕ
 wordOf ws k = getD ws k []
-
--- whether two words are the same, character by character
-unfoldable pub same : List ℕ → List ℕ → Bool
-same [] [] = true
-same [] (y ∷ w) = false
-same (x ∷ v) [] = false
-same (x ∷ v) (y ∷ w) = eqb x y && same v w
 
 -- how many characters stand before the first space; all where there is none
 abbrev pub spaceAt : List ℕ → ℕ

@@ -1,20 +1,18 @@
--- Words as loops find, count and compare them.
+-- Words as loops find and count them.
 -- Assumes nothing.
 use Prim.Native.Nat.{ℕ, suc, _+_, _-_, _<_, _≤_}
 use mathlib.Core.Path.{_≡_, refl, sym, ap, _∙_}
-use mathlib.Core.Bool.{Bool, true, false, _&&_, false≢true}
+use mathlib.Core.Bool.{Bool, true, false}
 use mathlib.Core.List.{List, [], _∷_}
 use native.Mathlib.Omega.{arith}
 use native.Mathlib.Numerals.{add-one}
-use borrow.Author.Tests.{eq-eqb, ne-eqb, eqb-true}
 use lib.Dec.{eqb}
 use lib.ListN.{length, take, drop, getD, drop-of-length-le, length-drop, List·getD-eq-default}
 use lib.Seq.{drop-cons, drop-drop, getD-drop}
 use Rattle.lists.specs.Choice.{if_then_else_}
 use Rattle.lists.specs.First.{firstAt}
-use Rattle.lists.specs.ChoiceLaws.{and-left, and-right}
 use Rattle.text.specs.Lines.{space}
-use Rattle.words.specs.Words.{lengthened, wordsOf, wordOf, same, spaceAt, wordsEnded}
+use Rattle.words.specs.Words.{lengthened, wordsOf, wordOf, spaceAt, wordsEnded}
 
 -- ## How many words there are, as a loop counts them
 
@@ -108,41 +106,6 @@ module _ (s : List ℕ) (k at j e : ℕ) (h : at ≤ length s) (so : wordsOf (dr
   word-here n d =
       let m : n ≡ spaceAt (drop at s) = omega arith in
       rw m (sym (words-first (drop at s)) ∙ ap (λ (ws : List (List ℕ)). getD ws 0 []) so ∙ getD-drop j (wordsOf s) 0 [] ∙ ap (λ (i : ℕ). getD (wordsOf s) i []) (omega arith))
-
--- ## Two words compared, as a loop compares them
-
-pub same-lengths : (v w : List ℕ) → (length v ≡ length w → ⊥) → same v w ≡ false
-unfolding same
-same-lengths [] [] h = absurd (h refl)
-same-lengths [] (y ∷ w) h = refl
-same-lengths (x ∷ v) [] h = refl
-same-lengths (x ∷ v) (y ∷ w) h = both (eqb x y) (same-lengths v w (λ e. h (ap suc e)))
-  where
-    both : (t : Bool) → same v w ≡ false → (t && same v w) ≡ false
-    both true e = e
-    both false e = refl
-
-module _ (v w : List ℕ) (i : ℕ) (h : i < length v) (k : i < length w) where
-  pub same-on : getD v i 0 ≡ getD w i 0 → same (drop i v) (drop i w) ≡ same (drop (i + 1) v) (drop (i + 1) w)
-  unfolding same
-  same-on e = rw (drop-cons v i 0 h, drop-cons w i 0 k, eq-eqb (getD v i 0) (getD w i 0) e, add-one i)
-
-  pub same-not : (getD v i 0 ≡ getD w i 0 → ⊥) → same (drop i v) (drop i w) ≡ false
-  unfolding same
-  same-not e = rw (drop-cons v i 0 h, drop-cons w i 0 k, ne-eqb (getD v i 0) (getD w i 0) e)
-
-pub same-past : (v w : List ℕ) (i : ℕ) → length v ≤ i → length w ≤ i → same (drop i v) (drop i w) ≡ true
-unfolding same
-same-past v w i h k = rw (drop-of-length-le v h, drop-of-length-le w k)
-
-pub same-equal : (v w : List ℕ) → same v w ≡ true → v ≡ w
-unfolding same
-same-equal [] [] e = refl
-same-equal [] (y ∷ w) e = absurd (false≢true e)
-same-equal (x ∷ v) [] e = absurd (false≢true e)
-same-equal (x ∷ v) (y ∷ w) e =
-    let head : x ≡ y = eqb-true x y (and-left (eqb x y) (same v w) e) in
-    rw (head, same-equal v w (and-right (eqb x y) (same v w) e))
 
 -- past the last word there is the empty one
 pub word-past : (ws : List (List ℕ)) (k : ℕ) → length ws ≤ k → [] ≡ wordOf ws k

@@ -2,7 +2,7 @@
 ghost use mathlib.Core.Path.{_≡_};
 ghost use Prim.Native.Nat.{_+_, _<_, _≤_};
 ghost use lib.ListN.{length, drop};
-ghost use Rattle.words.specs.Words.{spaceAt, wordsEnded, wordsOf, wordOf, same};
+ghost use Rattle.words.specs.Words.{spaceAt, wordsEnded, wordsOf, wordOf};
 use text::SPACE;
 
 // Where the word that starts at a place ends: at the next space, or at the end of the line.
@@ -65,21 +65,4 @@ pub fn word(line: &[u8], k: usize) -> &[u8]
     let from = start_of(line, k);
     let end = word_end(line, from);
     &line[from..end]
-}
-
-// Whether two words are the same.
-pub fn same(a: &[u8], b: &[u8]) -> bool
-    ensures answer { λ r. ⌜ r ≡ same (now (a .entry)) (now (b .entry)) ⌝ }
-{
-    if a.len() != b.len() {
-        return false;
-    }
-    let mut i: usize = 0;
-    while i < a.len() {
-        if a[i] != b[i] {
-            return false;
-        }
-        i += 1;
-    }
-    true
 }

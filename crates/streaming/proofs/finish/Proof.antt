@@ -4,7 +4,8 @@ use lib.Dec.{lit<}
 use Rattle.pieces.specs.Walk.{finish-short, finish-open, finish-whole}
 use Rattle.printing.specs.Printing.{printedLine}
 use Rattle.streaming.specs.Streaming.{mostPrinted, longestCarried}
-use Rattle.streaming.specs.Laws.{text-short, part-all}
+use Rattle.lists.specs.Places.{part-all}
+use Rattle.streaming.specs.Laws.{text-short}
 use borrow.Author.Needs.{needs}
 use Rattle.streaming.proofs.finish.Statement.{statement}
 use Rattle.streaming.proofs.finish.Tie as tie

@@ -1,12 +1,12 @@
 -- A line has a first word, so what is left of the words are the fields. Assumes nothing.
 use denote.Ref.{now}
-use Rattle.words.specs.Words.{same}
+use Rattle.lists.specs.Same.{same}
 use Rattle.words.specs.WordsLaws.{words-some}
 use borrow.Author.Needs.{needs}
 use Rattle.requests.proofs.calls.asks.Statement.{statement}
 use Rattle.requests.proofs.calls.asks.Tie as tie
 use Rattle.words.proofs.count.Reads as count-reads
-use Rattle.words.proofs.same.Reads as same-reads
+use Rattle.text.proofs.same.Reads as same-reads
 use Rattle.words.proofs.word.Reads as word-reads
 
 word-requires : tie.Need-word-requires

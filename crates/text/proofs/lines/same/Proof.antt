@@ -1,14 +1,14 @@
--- The loop's invariant: the words have one length, and what is left of both from `i` on is the same just where the words are. The measure is what is left.
+-- The loop's invariant: the texts have one length, and what is left of both from `i` on is the same just where the texts are. The measure is what is left.
 -- Assumes nothing.
 use Prim.Native.Nat.{_≤_, _-_}
 use mathlib.Core.Path.{_≡_, sym, _∙_}
 use native.Mathlib.Omega.{arith}
 use lib.ListN.{length, drop}
-use Rattle.words.specs.Words.{same}
-use Rattle.words.specs.WordsLaws.{same-lengths, same-on, same-not, same-past}
+use Rattle.lists.specs.Same.{same}
+use Rattle.lists.specs.SameLaws.{same-lengths, same-on, same-not, same-past}
 use borrow.Author.Needs.{needs}
-use Rattle.words.proofs.same.Statement.{statement}
-use Rattle.words.proofs.same.Tie as tie
+use Rattle.text.proofs.lines.same.Statement.{statement}
+use Rattle.text.proofs.lines.same.Tie as tie
 
 abbrev Inv-loop : tie.InvT-loop
 Inv-loop a b i₀ i = (i ≤ length a) × (length a ≡ length b) × (same (drop i a) (drop i b) ≡ same a b)
