@@ -1,0 +1,4 @@
+pub mod Departure
+pub mod DepartureLaws
+pub mod Claims
+pub mod ClaimsLaws
