@@ -13,7 +13,7 @@ use Rattle.text.specs.LinesLaws.{lines-bytes, lines-behind, bytes-parted, same-
 use Rattle.comparing.specs.declared.Side.the-variants.{Reference, Other}
 use Rattle.comparing.specs.Departure.{sharedLines, departed, departureOf, recordingOf, partOf}
 use Rattle.comparing.specs.DepartureLaws.{front-same}
-use Rattle.comparing.specs.Claims.{PartClaim}
+use Rattle.comparing.specs.Claims.{Parted, PartClaim}
 
 module _ (reference other : List ℕ) where
   abbrev n : ℕ
@@ -90,3 +90,7 @@ parted reference other =
       whole = put-together reference other ls ms at;
       place = same-place reference other ls ms at;
     }
+
+-- the claim of what is the part
+pub parted-by : (reference other part : List ℕ) → part ≡ partOf reference other → Parted reference other (sharedLines reference other) (departureOf reference other) part
+parted-by reference other part e = rw e (parted reference other)

@@ -4,7 +4,8 @@ ghost use mathlib.Core.Path.{_≡_};
 ghost use Prim.Native.Nat.{_+_, _<_, _≤_};
 ghost use lib.ListN.{length, drop};
 ghost use Rattle.text.specs.Lines.{sameLine, firstLine, width};
-ghost use Rattle.comparing.specs.Departure.{departureOf, sideNumber, partOf};
+ghost use Rattle.comparing.specs.Departure.{sharedLines, departureOf, sideNumber, partOf};
+ghost use Rattle.comparing.specs.Claims.{Parted};
 
 // Which of two recordings a part comes from.
 pub enum Side {
@@ -105,6 +106,7 @@ pub fn part<'a>(reference: &'a [u8], other: &'a [u8], side: &mut u8, line: &mut 
     ensures answer { λ r. ⌜ now r ≡ partOf (now (reference .entry)) (now (other .entry)) ⌝ }
     ensures side { λ r. ⌜ now (side .exit) ≡ sideNumber (departureOf (now (reference .entry)) (now (other .entry)) .side) ⌝ }
     ensures line { λ r. ⌜ now (line .exit) ≡ departureOf (now (reference .entry)) (now (other .entry)) .line ⌝ }
+    ensures parted { λ r. ⌜ Parted (now (reference .entry)) (now (other .entry)) (sharedLines (now (reference .entry)) (now (other .entry))) (departureOf (now (reference .entry)) (now (other .entry))) (now r) ⌝ }
 {
     let found = compare(reference, other);
     let from = found.side;

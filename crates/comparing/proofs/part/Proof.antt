@@ -8,6 +8,7 @@ use Rattle.comparing.specs.declared.Side.{Side}
 use Rattle.comparing.specs.declared.Side.the-variants.{Reference, Other}
 use Rattle.comparing.specs.Departure.{departureOf, recordingOf, partOf, sideNumber}
 use Rattle.comparing.specs.DepartureLaws.{from-side}
+use Rattle.comparing.specs.ClaimsLaws.{parted-by}
 use borrow.Author.Needs.{needs}
 use Rattle.comparing.proofs.part.Statement.{statement}
 use Rattle.comparing.proofs.part.Tie as tie
@@ -58,10 +59,18 @@ part-result-end-2 : tie.Need-part-result-end-2
 part-result-end-2 c = search needs
 
 returns : tie.Need-returns
-returns c = let k = c .before .before .before in (found (k .before) Reference (c .before .enum-told .given .1) .1, numbers k)
+returns c =
+    let k = c .before .before .before in
+    let a = k .before .before .before .before .args in
+    let part = found (k .before) Reference (c .before .enum-told .given .1) .1 in
+    (part, (numbers k .0, (numbers k .1, parted-by (now (a .reference)) (now (a .other)) _ part)))
 
 returns-2 : tie.Need-returns-2
-returns-2 c = let k = c .before .before .before in (found (k .before) Other (c .before .enum-told2 .given .1) .1, numbers k)
+returns-2 c =
+    let k = c .before .before .before in
+    let a = k .before .before .before .before .args in
+    let part = found (k .before) Other (c .before .enum-told2 .given .1) .1 in
+    (part, (numbers k .0, (numbers k .1, parted-by (now (a .reference)) (now (a .other)) _ part)))
 
 pub part-spec : {M : Type 1} → statement M
 part-spec =
