@@ -8,13 +8,13 @@ use mathlib.Core.List.{List, [], _∷_}
 use native.Mathlib.Omega.{arith}
 use borrow.Author.Tests.{not-true, not-false}
 use lib.Dec.{ltb}
-use lib.ListN.{length, take, drop, length-drop}
+use lib.ListN.{length, take, drop}
 use lib.Seq.{drop-drop}
 use Rattle.lists.specs.Places.{part-all}
 use Rattle.lists.specs.Same.{same, alike}
 use Rattle.lists.specs.SameLaws.{alike-more, alike-stop, alike-none, alike-ended, alike-front}
 use Rattle.text.specs.Lines.{Line, linesOf, linesBytes, sameLine, feedAt, firstLine, width}
-use Rattle.text.specs.LinesLaws.{line-by-end, lines-next, lines-done, lines-place, lines-from, lines-within, first-width, same-line-equal}
+use Rattle.text.specs.LinesLaws.{line-by-end, lines-next, lines-done, lines-place, lines-from, lines-within, line-ends, same-line-equal}
 use Rattle.comparing.specs.declared.Side.{Side}
 use Rattle.comparing.specs.declared.Side.the-variants.{Reference, Other}
 use Rattle.comparing.specs.declared.Departure.{Departure}
@@ -43,9 +43,6 @@ walk-start reference other = record {
 one-less : (s : List ℕ) (at n : ℕ) → at < length s → linesOf (drop at s) ≡ drop n (linesOf s)
     → linesOf (drop (at + width (firstLine (drop at s))) s) ≡ drop (n + 1) (linesOf s)
 one-less s at n h e = ap (drop 1) (sym (lines-next s at h) ∙ e) ∙ drop-drop 1 n (linesOf s)
-
-some-left : (s : List ℕ) (at : ℕ) → at < length s → 0 < length (drop at s)
-some-left s at h = rw (length-drop at s) (omega arith)
 
 module _ (reference other : List ℕ) (at n : ℕ) (w : Walked reference other at n) where
   -- where no line more is the same in both, the answer goes by what is left of each
@@ -85,14 +82,12 @@ module _ (reference other : List ℕ) (at n : ℕ) (w : Walked reference other a
     pub walk-on : sameLine line line-other ≡ true → (next : ℕ) → next ≡ at + width line → Walked reference other next (n + 1)
     walk-on e next place =
         let same-line : line ≡ line-other = same-line-equal line line-other e in
-        let size = first-width (drop at reference) (some-left reference at before) in
-        let size-other = first-width (drop at other) (some-left other at before-other) in
+        let size = line-ends reference at before in
+        let size-other = line-ends other at before-other in
         let wide : width line ≡ width line-other = ap width same-line in
         let some = size .0 in
         let most = size .1 in
         let most-other = size-other .1 in
-        let l = length-drop at reference in
-        let m = length-drop at other in
         let f = w .few in
         let on = one-less reference at n before (w .left) in
         let on-other = rw (← wide) at (one-less other at n before-other (w .left-other)) in
@@ -116,10 +111,6 @@ module _ (reference other : List ℕ) (at n : ℕ) (w : Walked reference other a
         rw (lines-next reference at before, lines-next other at before-other)
         (alike-stop sameLine line line-other (linesOf (drop (at + width line) reference)) (linesOf (drop (at + width line-other) other)) e) in
         rw (← walk-ends none, lines-next reference at before)
-
--- behind a line less is left
-pub less-left : (s : List ℕ) (at next : ℕ) → at < length s → next ≡ at + width (firstLine (drop at s)) → length s - next < length s - at
-less-left s at next h e = let some = first-width (drop at s) (some-left s at h) .0 in omega arith
 
 -- ## Two lines, by where they end
 

@@ -3,7 +3,7 @@
 ghost use mathlib.Core.Path.{_≡_};
 ghost use Prim.Native.Nat.{_+_, _<_, _≤_};
 ghost use lib.ListN.{length, drop};
-ghost use Rattle.text.specs.Lines.{sameLine, firstLine, width};
+ghost use Rattle.text.specs.Lines.{sameLine, firstLine};
 ghost use Rattle.comparing.specs.Departure.{sharedLines, departureOf, sideNumber, partOf};
 ghost use Rattle.comparing.specs.Claims.{Parted};
 
@@ -38,15 +38,6 @@ fn same_line(reference: &[u8], other: &[u8], at: usize) -> bool
     text::same(&reference[at..end], &other[at..other_end])
 }
 
-// The place behind the line that starts at a place.
-fn behind_line(s: &[u8], at: usize) -> usize
-    requires { ⌜ at ≤ length (now s) ⌝ }
-    ensures { λ r. ⌜ r ≡ at + width (firstLine (drop at (now (s .entry)))) ⌝ }
-{
-    let end = text::line_end(s, at);
-    if end < s.len() { end + 1 } else { end }
-}
-
 // A part that begins at a place, behind so many lines that are shared.
 fn behind_shared(side: Side, place: usize, shared: usize) -> Departure
     requires { ⌜ shared < 18446744073709551615 ⌝ }
@@ -73,7 +64,7 @@ pub fn compare(reference: &[u8], other: &[u8]) -> Departure
         if !same {
             return behind_shared(Side::Reference, at, shared);
         }
-        at = behind_line(reference, at);
+        at = text::line_behind(reference, at);
         shared += 1;
     }
     if at < other.len() {

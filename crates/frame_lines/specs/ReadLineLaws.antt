@@ -66,6 +66,19 @@ read-accepted l f h = by-test (ltb longestLine (length (l .chars))) refl (spells
       spelt = cc;
     }
 
+-- a line that carries none is refused with 2 or 3
+pub refused-number : (l : Line) (n : ℕ) → readLine l ≡ noFrame n → (1 < n) × (n < 4)
+unfolding readLine readDigits
+refused-number l n h = by-test (ltb longestLine (length (l .chars))) (spells 16 (l .chars) && l .fed) (wellFormed (l .chars)) h
+  where
+    by-test : (t u v : Bool)
+        → (if t then noFrame malformed else if u then (if v then carries (frameIn (l .chars)) else noFrame malformed) else noFrame notHex) ≡ noFrame n
+        → (1 < n) × (n < 4)
+    by-test true u v e = let k : malformed ≡ n = cc in (omega arith, omega arith)
+    by-test false true true e = let z : _≡_ {A = ℕ} 0 1 = cc in absurd (omega arith)
+    by-test false true false e = let k : malformed ≡ n = cc in (omega arith, omega arith)
+    by-test false false v e = let k : notHex ≡ n = cc in (omega arith, omega arith)
+
 pub accepted-read : (l : Line) (f : Frame) → Accepted l f → readLine l ≡ carries f
 unfolding readLine readDigits
 accepted-read l f a =

@@ -45,7 +45,7 @@ digit-no-feed c h = by-test (eqb c lineFeed) refl
     by-test true e = let f = eqb-true c lineFeed e in absurd (false≢true (rw f at h))
     by-test false e = refl
 
-digits-no-feed : (cs : List ℕ) → spells 16 cs ≡ true → all notFeed cs ≡ true
+pub digits-no-feed : (cs : List ℕ) → spells 16 cs ≡ true → all notFeed cs ≡ true
 unfolding all
 digits-no-feed [] h = refl
 digits-no-feed (c ∷ cs) h =

@@ -30,6 +30,10 @@ each-perm P (List·Permᴰ·swap e f) h = (rw f at (h .1 .0), (rw e at (h .0), h
 each-perm P (List·Permᴰ·trans p q) h = each-perm P q (each-perm P p h)
 
 -- One more at the end.
+pub each-append : {A : Type 0} (P : A → Type 0) (l m : List A) → Each P l → Each P m → Each P (l ++ m)
+each-append P [] m e f = f
+each-append P (x ∷ l) m e f = (e .0, each-append P l m (e .1) f)
+
 pub each-snoc : {A : Type 0} (P : A → Type 0) (l : List A) (v : A) → Each P l → P v → Each P (l ++ (v ∷ []))
 each-snoc P [] v e p = (p, tt)
 each-snoc P (x ∷ l) v e p = (e .0, each-snoc P l v (e .1) p)

@@ -78,7 +78,7 @@ module _ (say : Line → List ℕ) (each : ℕ) where
   abbrev pub Short : Type 0
   Short = (l : Line) → 0 < width l → length (say l) ≤ each * width l
 
-  module _ (short : Short) (s out₀ : List ℕ) (at written : ℕ) (out : List ℕ) (room : each * length s ≤ length out₀) (r : Running s out₀ at written out)
+  module _ (short : Short) (s out₀ : List ℕ) (at written : ℕ) (out : List ℕ) (r : Running s out₀ at written out)
       (e : ℕ) (before : at < length s) (ends : at + feedAt (drop at s) ≡ e) (fed : e < length s) where
     abbrev here : Line
     here = record { chars = take (e - at) (drop at s); fed = true }
@@ -94,34 +94,43 @@ module _ (say : Line → List ℕ) (each : ℕ) where
         let both : each * (at + width here) ≡ each * at + each * width here = mul-add each at (width here) in
         rw (← sum, both) (omega arith)
 
-    here-room : written + length (say here) ≤ length out
-    here-room =
+    -- what is to come begins with what is said for the line that ends at e
+    here-first : saidWhole say (drop at s) ≡ say here ++ saidWhole say (drop (e + 1) s)
+    here-first = ap (λ (ls : List Line). sayAll say (whole ls)) (lines-fed s at e before ends fed) ∙ whole-more say here (linesOf (drop (e + 1) s)) refl
+
+    -- it has room in a buffer that has room for each byte of the piece, and in one that has room for all that is said
+    pub here-room : each * length s ≤ length out₀ → written + length (say here) ≤ length out
+    here-room room =
         let h = here-fits in
         let z = r .size in
         let m : each * (e + 1) ≤ each * length s = mul-le-mul-left each (omega arith) in
         omega arith
 
-    -- the line that ends at e is said, and the next place is behind its feed
-    pub running-more : (w : Written) (next : List ℕ) → w ≡ layAnswer out written (say here) → next ≡ layLeaves out written (say here)
+    pub here-within : length (saidWhole say s) ≤ length out₀ → written + length (say here) ≤ length out
+    here-within room =
+        let l = ap length here-first ∙ length-append (say here) (saidWhole say (drop (e + 1) s)) in
+        let c = r .count in
+        let z = r .size in
+        omega arith
+
+    -- it is said, and the next place is behind its feed
+    pub running-more : written + length (say here) ≤ length out → (w : Written) (next : List ℕ) → w ≡ layAnswer out written (say here) → next ≡ layLeaves out written (say here)
         → Running s out₀ (e + 1) (w .next) next
-    running-more w next h k =
+    running-more room w next h k =
         let x = say here in
-        let fits = lay-fits out written x here-room in
+        let fits = lay-fits out written x room in
         let a : w .next ≡ written + length x = ap (λ (v : Written). v .next) (h ∙ fits .0) in
         let b : next ≡ laid out written x = k ∙ fits .1 in
-        let f = lines-fed s at e before ends fed in
-        let more : saidWhole say (drop at s) ≡ x ++ saidWhole say (drop (e + 1) s) =
-        ap (λ (ls : List Line). sayAll say (whole ls)) f ∙ whole-more say here (linesOf (drop (e + 1) s)) refl in
-        let l = ap length more ∙ length-append x (saidWhole say (drop (e + 1) s)) in
+        let l = ap length here-first ∙ length-append x (saidWhole say (drop (e + 1) s)) in
         let c = r .count in
         let m = here-fits in
         record {
           within = omega arith;
-          size = rw b (laid-length out written x here-room ∙ r .size);
+          size = rw b (laid-length out written x room ∙ r .size);
           few = rw a m;
           count = omega arith;
-          text = rw (a, b, laid-more out written x (saidWhole say (drop (e + 1) s)) here-room, ← more) (r .text);
-          open-line = sym (rest-more here (linesOf (drop (e + 1) s)) refl) ∙ ap rest (sym f) ∙ r .open-line;
+          text = rw (a, b, laid-more out written x (saidWhole say (drop (e + 1) s)) room, ← here-first) (r .text);
+          open-line = sym (rest-more here (linesOf (drop (e + 1) s)) refl) ∙ ap rest (sym (lines-fed s at e before ends fed)) ∙ r .open-line;
         }
 
   -- where there is no whole line more, all is said

@@ -8,12 +8,11 @@ use mathlib.Core.Bool.{Bool, true, false, _&&_}
 use mathlib.Core.List.{List, [], _∷_, _++_}
 use native.Mathlib.Omega.{arith}
 use borrow.Author.Tests.{eqb-true}
-use lib.Dec.{eqb, leb, ltb, lit<, lit≤}
+use lib.Dec.{eqb, leb, lit<, lit≤}
 use lib.ListN.{length, length-append}
 use Rattle.lists.specs.Choice.{if_then_else_}
 use Rattle.lists.specs.ChoiceLaws.{and-left, and-right}
-use Rattle.refusals.specs.Refusals.{accepted, notHex, malformed}
-use Rattle.text.specs.Digits.{spells}
+use Rattle.refusals.specs.Refusals.{accepted, malformed}
 use Rattle.text.specs.DecimalLaws.{decimal-length, length-small}
 use Rattle.text.specs.Decimal.{decimal}
 use Rattle.text.specs.Lines.{Line, lineFeed, width}
@@ -21,8 +20,8 @@ use Rattle.pieces.specs.Pieces.{together, pieces, Enough}
 use Rattle.pieces.specs.Cuts.{any-cuts}
 use Rattle.pieces.specs.Walk.{Short}
 use Rattle.frame.specs.Frames.{bytesFor, lineable}
-use Rattle.frame_lines.specs.ReadLine.{LineContent, longestLine, presenceIn, slotCountIn, wellFormed, frameIn, carries, noFrame, readDigits, readLine}
-use Rattle.frame_lines.specs.ReadLineLaws.{read-accepted, read-long}
+use Rattle.frame_lines.specs.ReadLine.{LineContent, longestLine, presenceIn, slotCountIn, frameIn, carries, noFrame, readLine}
+use Rattle.frame_lines.specs.ReadLineLaws.{read-accepted, read-long, refused-number}
 use Rattle.naming.specs.Naming.{named, refusedName, readNamed}
 use Rattle.naming.specs.Laws.{named-small}
 use Rattle.naming.specs.declared.Name.the-variants.{Other}
@@ -31,18 +30,6 @@ use Rattle.printing.specs.Laws.{printed-length}
 use Rattle.streaming.specs.Streaming.{printed, longestCarried, mostPrinted}
 
 -- ## A line's text takes at most ten bytes for each byte of the line
-
-read-small : (l : Line) (n : ℕ) → readLine l ≡ noFrame n → n < 10
-unfolding readLine readDigits
-read-small l n h = by-test (ltb longestLine (length (l .chars))) (spells 16 (l .chars) && l .fed) (wellFormed (l .chars)) h
-  where
-    by-test : (t u v : Bool)
-        → (if t then noFrame malformed else if u then (if v then carries (frameIn (l .chars)) else noFrame malformed) else noFrame notHex) ≡ noFrame n
-        → n < 10
-    by-test true u v e = let k : malformed ≡ n = cc in omega arith
-    by-test false true true e = let z : _≡_ {A = ℕ} 0 1 = cc in absurd (omega arith)
-    by-test false true false e = let k : malformed ≡ n = cc in omega arith
-    by-test false false v e = let k : notHex ≡ n = cc in omega arith
 
 refused-short : (n : ℕ) → n < 10 → length (printedName (refusedName n)) ≤ 10
 unfolding printedName
@@ -58,7 +45,7 @@ pub text-short : Short printedLine mostPrinted
 text-short l h = by-reading (readLine l) refl
   where
     by-reading : (r : LineContent) → readLine l ≡ r → length (printedName (readNamed r)) ≤ 10 * width l
-    by-reading (noFrame n) e = let k = refused-short n (read-small l n e) in omega arith
+    by-reading (noFrame n) e = let few = refused-number l n e .1 in let k = refused-short n (omega arith) in omega arith
     by-reading (carries f) e =
         let a = read-accepted l f e in
         let cs = l .chars in

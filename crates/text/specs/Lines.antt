@@ -6,6 +6,7 @@
 --     linesBytes ls          lines put back one after the other
 --     width l                how many bytes a line takes
 --     sameLine l m           whether two lines are the same: their characters, and that both or neither of them has a feed
+--     carriageReturn         the character that some editors put in front of the feed
 --     space                  the character between two words
 --     feedAt s               how many bytes stand before the first feed; all where there is none
 --     firstLine s            the first line of some bytes
@@ -23,6 +24,10 @@ use Rattle.lists.specs.Same.{same}
 -- the character that ends a line
 abbrev pub lineFeed : ℕ
 lineFeed = 0x0A
+
+-- the character that some editors put in front of the feed
+abbrev pub carriageReturn : ℕ
+carriageReturn = 0x0D
 
 -- the character between two words
 abbrev pub space : ℕ

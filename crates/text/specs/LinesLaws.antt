@@ -14,8 +14,8 @@ use mathlib.Core.Path.{_≡_, refl, sym, ap, _∙_}
 use mathlib.Core.Bool.{Bool, true, false, Bool·beq, _&&_, false≢true}
 use mathlib.Core.List.{List, [], _∷_, _++_, append-assoc}
 use native.Mathlib.Omega.{arith}
-use borrow.Author.Tests.{eqb-true, lt-ltb, le-ltb, ltb-true, ltb-false, not-true}
-use lib.Dec.{eqb, ltb, leb·suc-suc}
+use borrow.Author.Tests.{eqb-true, lt-ltb, le-ltb, leb-true, leb-false, ltb-true, ltb-false, not-true}
+use lib.Dec.{eqb, leb, ltb, leb·suc-suc}
 use lib.ListN.{length, take, drop, length-append, length-drop, drop-of-length-le, take-append-drop}
 use lib.Seq.{drop-drop, take-all, length-take-le, drop-at}
 use Rattle.lists.specs.Choice.{if_then_else_}
@@ -177,6 +177,15 @@ first-width t h = by-test (ltb (feedAt t) (length t)) refl
         let w = at-within lineFeed t in
         let l = length-take-le (feedAt t) t w in (omega arith, omega arith)
 
+-- so the line that starts at a place before the end goes on behind it, and ends within the text
+pub line-ends : (s : List ℕ) (at : ℕ) → at < length s → let next = at + width (firstLine (drop at s)) in (at < next) × (next ≤ length s)
+line-ends s at h =
+    let l = length-drop at s in
+    let w = first-width (drop at s) (omega arith) in
+    let some = w .0 in
+    let most = w .1 in
+    (omega arith, omega arith)
+
 -- the line that starts at a place, by where it ends
 pub line-by-end : (s : List ℕ) (at e : ℕ) → at ≤ length s → e ≡ at + feedAt (drop at s)
     → (e ≤ length s) × (firstLine (drop at s) ≡ record { chars = take (e - at) (drop at s); fed = ltb e (length s) })
@@ -193,9 +202,9 @@ line-by-end s at e h ends =
     by-test false k = let d = length-drop at s in let l = ltb-false e (length s) k in le-ltb (e - at) (length (drop at s)) (omega arith)
 
 -- and the place behind it, where it has a feed and where it has none
-module _ (s : List ℕ) (at e : ℕ) (h : at ≤ length s) (ends : e ≡ at + feedAt (drop at s)) where
-  characters : at + length (take (e - at) (drop at s)) ≡ e
-  characters =
+module _ (s : List ℕ) (at e : ℕ) (ends : e ≡ at + feedAt (drop at s)) where
+  characters : at ≤ length s → at + length (take (e - at) (drop at s)) ≡ e
+  characters h =
       let most = line-by-end s at e h ends .0 in
       let d = length-drop at s in
       let size = length-take-le (e - at) (drop at s) (omega arith) in
@@ -203,19 +212,43 @@ module _ (s : List ℕ) (at e : ℕ) (h : at ≤ length s) (ends : e ≡ at + fe
 
   pub behind-fed : e < length s → e + 1 ≡ at + width (firstLine (drop at s))
   behind-fed k =
-      let c = characters in
+      let h : at ≤ length s = omega arith in
+      let c = characters h in
       let w = ap width (line-by-end s at e h ends .1) in
       let f = rw (lt-ltb e (length s) k) at w in
       omega arith
 
   pub behind-open : length s ≤ e → e ≡ at + width (firstLine (drop at s))
-  behind-open k =
-      let c = characters in
-      let w = ap width (line-by-end s at e h ends .1) in
-      let f = rw (le-ltb e (length s) k) at w in
+  unfolding firstAt
+  behind-open k = by-test (leb at (length s)) refl
+    where
+      by-test : (t : Bool) → leb at (length s) ≡ t → e ≡ at + width (firstLine (drop at s))
+      by-test true p =
+          let h = leb-true at (length s) p in
+          let c = characters h in
+          let w = ap width (line-by-end s at e h ends .1) in
+          let f = rw (le-ltb e (length s) k) at w in
+          omega arith
+      by-test false p =
+          let h = leb-false at (length s) p in
+          let past : length s ≤ at = omega arith in
+          let none = drop-of-length-le s past in
+          let e0 = rw none at ends in
+          rw none e0
+
+-- ## Lines counted one by one
+
+module _ (s : List ℕ) (at next count : ℕ) (before : at < length s) (behind : next ≡ at + width (firstLine (drop at s))) where
+  pub count-on : count + length (linesOf (drop at s)) ≡ length (linesOf s) → count + 1 + length (linesOf (drop next s)) ≡ length (linesOf s)
+  count-on e =
+      let one : length (linesOf (drop at s)) ≡ suc (length (linesOf (drop next s))) =
+      ap length (lines-next s at before) ∙ ap (λ (n : ℕ). suc (length (linesOf (drop n s)))) (sym behind) in
       omega arith
 
-bytes-append : (ls ms : List Line) → linesBytes (ls ++ ms) ≡ linesBytes ls ++ linesBytes ms
+pub count-end : (s : List ℕ) (at count : ℕ) → length s ≤ at → count + length (linesOf (drop at s)) ≡ length (linesOf s) → count ≡ length (linesOf s)
+count-end s at count h e = let none = ap length (lines-done s at h) in omega arith
+
+pub bytes-append : (ls ms : List Line) → linesBytes (ls ++ ms) ≡ linesBytes ls ++ linesBytes ms
 unfolding linesBytes
 bytes-append [] ms = refl
 bytes-append (l ∷ ls) ms = rw (bytes-append ls ms) (sym (append-assoc (lineBytes l) (linesBytes ls) (linesBytes ms)))

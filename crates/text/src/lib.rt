@@ -2,6 +2,8 @@
 mod lines;
 mod numbers;
 
+pub use lines::count_lines;
+pub use lines::line_behind;
 pub use lines::line_end;
 pub use lines::same;
 pub use numbers::all_digits;
@@ -12,8 +14,11 @@ pub use numbers::read_fixed;
 pub use numbers::read_number;
 pub use numbers::value;
 
-// The character that ends a line, that between two words, and that in front of a negative number.
+// The character that ends a line, the one that some editors put in front of it, that between two
+// words, and that in front of a negative number.
 pub const LINE_FEED: u8 = 0x0A;
+
+pub const CARRIAGE_RETURN: u8 = 0x0D;
 
 pub const SPACE: u8 = 0x20;
 

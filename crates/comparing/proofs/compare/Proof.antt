@@ -4,9 +4,11 @@ use Prim.Native.Nat.{_-_}
 use denote.Ref.{now}
 use mathlib.Core.Path.{sym, _∙_}
 use lib.ListN.{length}
+use native.Mathlib.Omega.{arith}
 use borrow.Author.Needs.{needs}
+use Rattle.text.specs.LinesLaws.{line-ends}
 use borrow.Author.Tests.{not-true, not-false}
-use Rattle.comparing.specs.DepartureLaws.{Walked, walk-start, walk-on, walk-differs, walk-other-ended, walk-ended, walk-equal, less-left}
+use Rattle.comparing.specs.DepartureLaws.{Walked, walk-start, walk-on, walk-differs, walk-other-ended, walk-ended, walk-equal}
 use Rattle.comparing.proofs.compare.Statement.{statement}
 use Rattle.comparing.proofs.compare.Tie as tie
 
@@ -44,8 +46,8 @@ returns-2 c =
     ∙ walk-differs (now (a .reference)) (now (a .other)) (l .loop .at) (l .loop .shared) (l .loop .inv) (k .before .before .loop-test .taken) (k .before .if1 .left)
     (sym (k .same-line .ensures) ∙ not-true (k .same-line .result) (c .before .if2 .taken))
 
-behind-line-requires : tie.Need-behind-line-requires Inv-loop μ-loop
-behind-line-requires c κs = search needs
+line-behind-requires : tie.Need-line-behind-requires Inv-loop μ-loop
+line-behind-requires c κs = search needs
 
 add-shared : tie.Need-add-shared Inv-loop μ-loop
 add-shared c = search needs
@@ -54,7 +56,11 @@ loop-less : tie.Need-loop-less Inv-loop μ-loop
 loop-less c =
     let l = c .before .before .before .before .before in
     let a = l .before .before .before .args in
-    less-left (now (a .reference)) (l .loop .at) (c .behind-line .result) (c .before .before .before .before .loop-test .taken) (c .behind-line .ensures)
+    let more = line-ends (now (a .reference)) (l .loop .at) (c .before .before .before .before .loop-test .taken) in
+    let next = c .line-behind .ensures in
+    let on = more .0 in
+    let most = more .1 in
+    omega arith
 
 loop-again : tie.Need-loop-again Inv-loop μ-loop
 loop-again c =
@@ -62,7 +68,7 @@ loop-again c =
     let l = k .before .before .before in
     let a = l .before .before .before .args in
     walk-on (now (a .reference)) (now (a .other)) (l .loop .at) (l .loop .shared) (l .loop .inv) (k .before .before .loop-test .taken) (k .before .if1 .left)
-    (sym (k .same-line .ensures) ∙ not-false (k .same-line .result) (c .before .if2 .left)) (c .behind-line .result) (c .behind-line .ensures)
+    (sym (k .same-line .ensures) ∙ not-false (k .same-line .result) (c .before .if2 .left)) (c .line-behind .result) (c .line-behind .ensures)
 
 behind-shared-requires-3 : tie.Need-behind-shared-requires-3 Inv-loop μ-loop
 behind-shared-requires-3 c κs = search needs
@@ -92,7 +98,7 @@ compare-spec =
     same-line-requires
     behind-shared-requires-2
     returns-2
-    behind-line-requires
+    line-behind-requires
     add-shared
     loop-less
     loop-again

@@ -4,7 +4,7 @@ use Prim.Native.Nat.{_-_}
 use mathlib.Core.Path.{sym}
 use native.Mathlib.Omega.{arith}
 use lib.ListN.{length}
-use Rattle.pieces.specs.Walk.{Running, running-start, running-more, running-done, running-open}
+use Rattle.pieces.specs.Walk.{Running, running-start, here-room, running-more, running-done, running-open}
 use Rattle.printing.specs.Printing.{printedLine}
 use Rattle.streaming.specs.Streaming.{mostPrinted}
 use Rattle.streaming.specs.Laws.{text-short}
@@ -62,8 +62,9 @@ loop-again c =
     let d = p .before .before .before .before in
     let l = d .before .before in
     let a = l .before .before .before in
-    running-more printedLine mostPrinted text-short _ _ _ _ _ (a .pre) (l .loop .inv) (d .line-end .result) (d .before .loop-test .taken) (sym (d .line-end .ensures)) (p .before .before .before .if1 .left)
-    (p .print-line .result) (p .print-line .last .0) (p .print-line .ensures .0) (p .print-line .ensures .1)
+    let room = here-room printedLine mostPrinted text-short _ _ _ _ _ (l .loop .inv) (d .line-end .result) (d .before .loop-test .taken) (sym (d .line-end .ensures)) (p .before .before .before .if1 .left) (a .pre) in
+    running-more printedLine mostPrinted text-short _ _ _ _ _ (l .loop .inv) (d .line-end .result) (d .before .loop-test .taken) (sym (d .line-end .ensures)) (p .before .before .before .if1 .left)
+    room (p .print-line .result) (p .print-line .last .0) (p .print-line .ensures .0) (p .print-line .ensures .1)
 
 same-length-2 : tie.Need-same-length-2 Inv-loop μ-loop
 same-length-2 c = c .before .loop .inv .size
