@@ -1,0 +1,31 @@
+-- The line is short, and is the two fields; nothing is laid for a line that was kept.
+-- Assumes nothing.
+use Prim.Native.Nat.{ℕ, _<_, _≤_}
+use mathlib.Core.Path.{_≡_, refl}
+use mathlib.Core.Bool.{true}
+use mathlib.Core.List.{List, [], _∷_, _++_}
+use native.Mathlib.Omega.{arith}
+use borrow.Author.Tests.{eq-eqb, ne-eqb}
+use lib.ListN.{length, length-append}
+use Rattle.lists.specs.LaidLaws.{laid-none}
+use Rattle.refusals.specs.Refusals.{accepted}
+use Rattle.text.specs.Decimal.{decimal}
+use Rattle.text.specs.DecimalLaws.{decimal-length, decimal-most}
+use Rattle.laying.specs.Laying.{hasRoom}
+use Rattle.putting.specs.Putting.{lineRoom, lineAnswer, lineLeaves}
+use Rattle.mending_answers.specs.Notice.{noticeLine, noticeOf}
+
+pub notice-short : (n b : ℕ) → n < 18446744073709551616 → b < 256 → length (noticeLine n b) ≤ lineRoom
+unfolding noticeLine
+notice-short n b h k =
+    let x : n < 100000000000000000000 = omega arith in
+    let y : b < 1000 = omega arith in
+    let p = decimal-most n 19 x in
+    let q = decimal-most b 2 y in
+    let c = decimal-length n in
+    let d = decimal-length b in
+    simp length-append (omega arith)
+
+pub notice-none : (out : List ℕ) (n b : ℕ) → b ≡ 0 → hasRoom out 0 lineRoom ≡ true
+    → (record { refusal = accepted; next = 0 } ≡ lineAnswer out 0 (noticeOf n b)) × (out ≡ lineLeaves out 0 (noticeOf n b))
+notice-none out n b e room = rw (room, eq-eqb b 0 e) (refl, laid-none out 0)

@@ -1,0 +1,2 @@
+pub mod MendingText
+pub mod Laws
