@@ -1,17 +1,17 @@
 -- The line is short, and is the two fields; nothing is laid for a line that was kept.
 -- Assumes nothing.
 use Prim.Native.Nat.{ℕ, _<_, _≤_}
-use mathlib.Core.Path.{_≡_, refl}
+use mathlib.Core.Path.{_≡_, refl, ap, _∙_}
 use mathlib.Core.Bool.{true}
-use mathlib.Core.List.{List, [], _∷_, _++_}
+use mathlib.Core.List.{List}
 use native.Mathlib.Omega.{arith}
-use borrow.Author.Tests.{eq-eqb, ne-eqb}
-use lib.ListN.{length, length-append}
-use Rattle.lists.specs.LaidLaws.{laid-none}
+use borrow.Author.Tests.{eq-eqb}
+use lib.ListN.{length, take, length-append}
+use Rattle.lists.specs.LaidLaws.{laid-none, laid-read}
 use Rattle.refusals.specs.Refusals.{accepted}
-use Rattle.text.specs.Decimal.{decimal}
 use Rattle.text.specs.DecimalLaws.{decimal-length, decimal-most}
 use Rattle.laying.specs.Laying.{hasRoom}
+use Rattle.laying.specs.declared.Written.{Written}
 use Rattle.putting.specs.Putting.{lineRoom, lineAnswer, lineLeaves}
 use Rattle.mending_answers.specs.Notice.{noticeLine, noticeOf}
 
@@ -29,3 +29,11 @@ notice-short n b h k =
 pub notice-none : (out : List ℕ) (n b : ℕ) → b ≡ 0 → hasRoom out 0 lineRoom ≡ true
     → (record { refusal = accepted; next = 0 } ≡ lineAnswer out 0 (noticeOf n b)) × (out ≡ lineLeaves out 0 (noticeOf n b))
 notice-none out n b e room = rw (room, eq-eqb b 0 e) (refl, laid-none out 0)
+
+-- what a call left at the front of its buffer, so much of it as the call answered
+pub notice-read : (out : List ℕ) (n b : ℕ) (w : Written) (after : List ℕ) → hasRoom out 0 lineRoom ≡ true
+    → w ≡ lineAnswer out 0 (noticeOf n b) → after ≡ lineLeaves out 0 (noticeOf n b) → take (w .next) after ≡ noticeOf n b
+notice-read out n b w after room answer leaves =
+    let x = noticeOf n b in
+    let size : w .next ≡ length x = ap (λ (v : Written). v .next) answer ∙ rw room (omega arith) in
+    rw (size, leaves, room) (laid-read out 0 x (omega arith))

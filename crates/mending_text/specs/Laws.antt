@@ -4,30 +4,31 @@
 use Prim.Native.Nat.{ℕ, _+_, _-_, _<_, _≤_}
 use mathlib.Core.Path.{_≡_, refl, sym, ap, _∙_}
 use mathlib.Core.Bool.{Bool, true, false, and-false}
-use mathlib.Core.List.{List, [], _∷_, _++_, append-nil}
+use mathlib.Core.List.{List, [], _∷_, _++_, append-assoc, append-nil}
 use native.Mathlib.Omega.{arith}
 use borrow.Author.Tests.{le-leb, lt-leb}
-use lib.Dec.{leb}
+use lib.Dec.{eqb, leb}
 use lib.ListN.{length, take, drop, length-append, length-take, length-drop, drop-of-length-le}
+use lib.Seq.{take-append-seam}
 use Rattle.lists.specs.Choice.{if_then_else_}
 use Rattle.lists.specs.Laid.{laid}
-use Rattle.lists.specs.LaidLaws.{laid-none}
+use Rattle.lists.specs.LaidLaws.{laid-none, laid-read}
 use Rattle.refusals.specs.Refusals.{accepted, noRoom}
-use Rattle.text.specs.Lines.{Line, linesOf, linesBytes, feedAt}
+use Rattle.text.specs.Lines.{Line, lineFeed, longer, linesOf, linesBytes, feedAt}
 use Rattle.laying.specs.declared.Written.{Written}
 use Rattle.laying.specs.Laying.{layAnswer, layLeaves}
 use Rattle.laying.specs.LayingLaws.{lay-behind}
-use Rattle.pieces.specs.Pieces.{sayAll, said, whole, rest, saidWhole}
+use Rattle.pieces.specs.Pieces.{sayAll, said, whole, rest, saidWhole, carried, Sayable, of-lines, of-all}
 use Rattle.pieces.specs.Cuts.{parts, rest-plain, alone-open}
 use Rattle.pieces.specs.Walk.{Told, Running, running-start, here-room, here-within, running-more, running-done, running-open}
-use Rattle.mending.specs.Mending.{mendedBytes, reportByte}
+use Rattle.mending.specs.Mending.{mendedBytes, mendedText, reportByte}
 use Rattle.mending.specs.Claims.{longestHeld, reportSaid}
 use Rattle.mending.specs.ClaimsLaws.{mended-short, report-short, reports-said}
 use Rattle.mending.specs.LineLaws.{open-dropped}
 use Rattle.mending_text.specs.declared.Progress.{Progress}
 use Rattle.mending_text.specs.declared.PieceMended.{PieceMended}
 use Rattle.mending_text.specs.declared.TextMended.{TextMended}
-use Rattle.mending_text.specs.MendingText.{textAnswer, textWritten, textReported, TextWithin, pieceAnswer, pieceKept, pieceWritten, pieceReported, PieceWithin}
+use Rattle.mending_text.specs.MendingText.{textRoom, textAnswer, textWritten, textReported, TextWithin, pieceAnswer, pieceKept, pieceWritten, pieceReported, PieceWithin}
 
 -- how far the lines that have their feed go
 pub record Through (s : List ℕ) (p : Progress) : Type 0 where
@@ -204,3 +205,53 @@ module _ (s out report : List ℕ) where
           b ∙ ap (λ (d : List ℕ). layLeaves d (p .lines) (reportSaid last)) noted ∙ lay-behind report 0 (saidWhole reportSaid s) (reportSaid last) (p .lines) (omega arith) (omega arith)
           ∙ ap (laid report 0) (sym all) in
           done same lines count out' report' stays more
+
+-- ## A program that reads behind what is carried
+
+module _ (s out report : List ℕ) where
+  front : (x : List ℕ) → take (length x) (laid out 0 x) ≡ x
+  front x = laid-read out 0 x (omega arith)
+
+  -- what a call left at the front of its output may be handed out, so much of it as the call answered
+  pub piece-said : (n : ℕ) (after : List ℕ) → n ≡ pieceAnswer s out report .written → after ≡ pieceWritten s out report → Sayable mendedBytes (take n after)
+  unfolding sayAll whole linesOf
+  piece-said n after h k = by-test (textRoom s out report) refl
+    where
+      by-test : (t : Bool) → textRoom s out report ≡ t → Sayable mendedBytes (take n after)
+      by-test true e =
+          let count : n ≡ length (saidWhole mendedBytes s) = h ∙ rw e refl in
+          let laid-there : after ≡ laid out 0 (saidWhole mendedBytes s) = k ∙ rw e refl in
+          of-lines s (rw (count, laid-there) (front (saidWhole mendedBytes s)))
+      by-test false e = let none : n ≡ 0 = h ∙ rw e refl in of-lines [] (rw none refl)
+
+  pub text-said : (n : ℕ) (after : List ℕ) → n ≡ textAnswer s out report .written → after ≡ textWritten s out report → Sayable mendedBytes (take n after)
+  unfolding sayAll linesOf
+  text-said n after h k = by-test (textRoom s out report) refl
+    where
+      by-test : (t : Bool) → textRoom s out report ≡ t → Sayable mendedBytes (take n after)
+      by-test true e =
+          let count : n ≡ length (mendedText s) = h ∙ rw e refl in
+          let laid-there : after ≡ laid out 0 (mendedText s) = k ∙ rw e refl in
+          of-all s (rw (count, laid-there) (front (mendedText s)))
+      by-test false e = let none : n ≡ 0 = h ∙ rw e refl in of-all [] (rw none refl)
+
+  -- what a call leaves at the front of its buffer is what is carried over, whatever stands behind the piece
+  pub front-held : length s ≤ length out → length (linesOf s) ≤ length report → (held : ℕ) (kept behind : List ℕ)
+      → held ≡ pieceAnswer s out report .held → kept ≡ pieceKept s out report → take held (kept ++ behind) ≡ carried longestHeld s
+  unfolding laid
+  front-held room places held kept behind h k =
+      let x = carried longestHeld s in
+      let size : held ≡ length x = h ∙ rw (le-leb (length s) (length out) room, le-leb (length (linesOf s)) (length report) places) refl in
+      let laid-there : kept ≡ x ++ drop (0 + length x) s = k ∙ rw (le-leb (length s) (length out) room, le-leb (length (linesOf s)) (length report) places) refl in
+      rw (size, laid-there, append-assoc x (drop (0 + length x) s) behind) (take-append-seam x (drop (0 + length x) s ++ behind))
+
+-- a text has no more lines than bytes
+pub lines-few : (s : List ℕ) → length (linesOf s) ≤ length s
+unfolding linesOf
+lines-few [] = omega arith
+lines-few (c ∷ s) = by-test (eqb c lineFeed) (linesOf s) (lines-few s)
+  where
+    by-test : (t : Bool) (ls : List Line) → length ls ≤ length s → length (if t then record { chars = []; fed = true } ∷ ls else longer c ls) ≤ length (c ∷ s)
+    by-test true ls h = omega arith
+    by-test false [] h = omega arith
+    by-test false (l ∷ ls) h = omega arith

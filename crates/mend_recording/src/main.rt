@@ -1,0 +1,156 @@
+// Mends a recording that went through an editor: reads it from standard input, and writes what is left of
+// it to standard output, and to standard error the number of each line that was not kept with the report
+// on it. It only moves bytes; what becomes of a line is decided by the libraries.
+ghost use Prim.Native.Nat.{_≤_};
+ghost use mathlib.Core.Path.{_≡_};
+ghost use lib.ListN.{length, take};
+ghost use Rattle.pieces.specs.Pieces.{Stepped, Ran, Sayable};
+ghost use Rattle.mending.specs.Mending.{mendedBytes};
+ghost use Rattle.mending.specs.Claims.{longestHeld};
+ghost use Rattle.mending_text.specs.MendingText.{pieceAnswer, pieceKept};
+ghost use Rattle.mending_answers.specs.Notice.{noticeOf};
+use libc::STDERR_FILENO;
+use libc::STDIN_FILENO;
+use libc::STDOUT_FILENO;
+
+// 16 KiB of a recording, behind what is carried over from before. What is left of a piece, and the report
+// on its lines, take no more.
+const PIECE: usize = 16641;
+
+// What came of a piece: whether to go on, how many bytes are carried over, and how many lines there were
+// so far.
+struct Piece {
+    more: bool,
+    held: usize,
+    lines: u64,
+}
+
+// Reads once, behind the bytes that are carried over, and answers how many bytes there are now.
+fn read_behind(buffer: &mut [u8], held: usize) -> usize
+    requires { ⌜ held ≤ length (now buffer) ⌝ }
+    ensures answer { λ r. ⌜ (held ≤ r) × (r ≤ length (now (buffer .entry))) ⌝ }
+    ensures kept { λ r. ⌜ take held (now (buffer .exit)) ≡ take held (now (buffer .entry)) ⌝ }
+{
+    let got = libc::read(STDIN_FILENO, &mut buffer[held..]);
+    held + io::count(got, &buffer[held..])
+}
+
+// Hands on what is left of a piece, or of what was carried to the end.
+fn write_left(left: &[u8]) -> bool
+    requires { ⌜ Sayable mendedBytes (now left) ⌝ }
+{
+    io::write_all(STDOUT_FILENO, left)
+}
+
+// Hands on what is told of a line.
+fn write_notice(text: &[u8], number: u64, report: u8)
+    requires { ⌜ now text ≡ noticeOf number report ⌝ }
+{
+    io::write_all(STDERR_FILENO, text);
+}
+
+fn tell_line(number: u64, report: u8) {
+    let mut text = [0u8; 64];
+    let told = mending_answers::notice(&mut text, number, report);
+    let end = told.next;
+    write_notice(&text[..end], number, report);
+}
+
+// Tells of each line by its report, behind so many lines before; the answer is how many there are now.
+fn tell_lines(report: &[u8], before: u64) -> u64 {
+    let mut number = before;
+    let mut i: usize = 0;
+    while i < report.len() {
+        number = std::num::wrapping_add_u64(number, 1);
+        let byte = report[i];
+        tell_line(number, byte);
+        i += 1;
+    }
+    number
+}
+
+// Mends the lines that have their feed.
+fn mend_piece(bytes: &mut [u8], left: &mut [u8], report: &mut [u8], lines: u64) -> Piece
+    ensures answer { λ r. ⌜ (r .held ≡ pieceAnswer (now (bytes .entry)) (now (left .entry)) (now (report .entry)) .held) × (r .held ≤ length (now (bytes .entry))) ⌝ }
+    ensures kept { λ r. ⌜ now (bytes .exit) ≡ pieceKept (now (bytes .entry)) (now (left .entry)) (now (report .entry)) ⌝ }
+{
+    let fed = mending_text::feed(bytes, left, report);
+    let end = fed.written;
+    let count = fed.lines;
+    let told = tell_lines(&report[..count], lines);
+    Piece {
+        more: write_left(&left[..end]),
+        held: fed.held,
+        lines: told,
+    }
+}
+
+// One piece. At the end of the input, and where the output takes no more, there is none after it.
+fn next_piece(
+    buffer: &mut [u8],
+    held: usize,
+    left: &mut [u8],
+    report: &mut [u8],
+    lines: u64,
+) -> Piece
+    requires { ⌜ (held ≤ length (now buffer)) × (length (now buffer) ≤ length (now left)) × (length (now buffer) ≤ length (now report)) ⌝ }
+    ensures answer { λ r. ⌜ r .held ≤ length (now (buffer .entry)) ⌝ }
+    ensures kept { λ r. ⌜ Stepped longestHeld (take held (now (buffer .entry))) (take (r .held) (now (buffer .exit))) ⌝ }
+{
+    let filled = read_behind(buffer, held);
+    if filled == held {
+        return Piece {
+            more: false,
+            held,
+            lines,
+        };
+    }
+    mend_piece(&mut buffer[..filled], left, report, lines)
+}
+
+// A proved loop has to end, and nothing says that a recording does: so the turns are counted down from
+// a number that no run uses up.
+fn mend_pieces(buffer: &mut [u8], left: &mut [u8], report: &mut [u8]) -> Piece
+    requires { ⌜ (length (now buffer) ≤ length (now left)) × (length (now buffer) ≤ length (now report)) ⌝ }
+    ensures answer { λ r. ⌜ r .held ≤ length (now (buffer .entry)) ⌝ }
+    ensures kept { λ r. ⌜ Ran longestHeld (take (r .held) (now (buffer .exit))) ⌝ }
+{
+    let mut piece = Piece {
+        more: true,
+        held: 0,
+        lines: 0,
+    };
+    let mut turns = u64::MAX;
+    while turns > 0 {
+        piece = next_piece(buffer, piece.held, left, report, piece.lines);
+        if !piece.more {
+            return piece;
+        }
+        turns -= 1;
+    }
+    piece
+}
+
+// What is carried to the end of the input: a last line without a feed.
+fn mend_last(bytes: &[u8], left: &mut [u8], report: &mut [u8], lines: u64) {
+    let last = mending_text::mend(bytes, left, report);
+    let end = last.written;
+    let count = last.lines;
+    tell_lines(&report[..count], lines);
+    write_left(&left[..end]);
+}
+
+fn mend_recording(buffer: &mut [u8], left: &mut [u8], report: &mut [u8])
+    requires { ⌜ (length (now buffer) ≤ length (now left)) × (length (now buffer) ≤ length (now report)) ⌝ }
+{
+    let piece = mend_pieces(buffer, left, report);
+    let held = piece.held;
+    mend_last(&buffer[..held], left, report, piece.lines);
+}
+
+fn main() {
+    let mut buffer = [0u8; PIECE];
+    let mut left = [0u8; PIECE];
+    let mut report = [0u8; PIECE];
+    mend_recording(&mut buffer, &mut left, &mut report);
+}
