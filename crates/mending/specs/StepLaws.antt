@@ -148,7 +148,7 @@ digits-unaltered cs d =
     let r = digits-raised cs d in
     let u = digits-unreturned cs d in
     let s = digits-unspaced cs d in
-    (rw (r, u, s), rw (r, u, s, same-itself cs) refl)
+    (simp (r, u, s), simp (r, u, s, same-itself cs))
 
 -- ## A character raised, as its tests find it
 

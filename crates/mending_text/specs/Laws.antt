@@ -25,13 +25,13 @@ use Rattle.mending.specs.Mending.{mendedBytes, mendedText, reportByte}
 use Rattle.mending.specs.Claims.{longestHeld, reportSaid}
 use Rattle.mending.specs.ClaimsLaws.{mended-short, report-short, reports-said}
 use Rattle.mending.specs.LineLaws.{open-dropped}
-use Rattle.mending_text.specs.declared.Progress.{Progress}
+use Rattle.mending_text.specs.declared.LinesMended.{LinesMended}
 use Rattle.mending_text.specs.declared.PieceMended.{PieceMended}
 use Rattle.mending_text.specs.declared.TextMended.{TextMended}
 use Rattle.mending_text.specs.MendingText.{textRoom, textAnswer, textWritten, textReported, TextWithin, pieceAnswer, pieceKept, pieceWritten, pieceReported, PieceWithin}
 
 -- how far the lines that have their feed go
-pub record Through (s : List ℕ) (p : Progress) : Type 0 where
+pub record Through (s : List ℕ) (p : LinesMended) : Type 0 where
   pub text : Told mendedBytes 1 s record { written = p .written; next = p .next }
   pub noted : Told reportSaid 1 s record { written = p .lines; next = p .next }
 
@@ -125,7 +125,7 @@ module _ (s out report : List ℕ) where
       rw (lt-leb (length (linesOf s)) (length report) h, and-false (leb (length s) (length out)))
       ((refl, record { text = omega arith; noted = omega arith; carries = omega arith }), (refl, (refl, refl)))
 
-  module _ (room : length s ≤ length out) (places : length (linesOf s) ≤ length report) (p : Progress) (through : Through s p) where
+  module _ (room : length s ≤ length out) (places : length (linesOf s) ≤ length report) (p : LinesMended) (through : Through s p) where
     -- what was written, and what was noted, is within the buffers
     written-within : p .written ≤ length out
     written-within = let few = through .text .few in let w = through .text .within in omega arith

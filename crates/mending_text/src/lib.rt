@@ -36,7 +36,7 @@ pub struct PieceMended {
 }
 
 // How far the lines with a feed go.
-struct Progress {
+struct LinesMended {
     written: usize,
     lines: usize,
     // where the unfinished line begins
@@ -44,7 +44,7 @@ struct Progress {
 }
 
 // Each line that has its feed, and the report on it.
-fn mend_whole(s: &[u8], out: &mut [u8], report: &mut [u8]) -> Progress
+fn mend_whole(s: &[u8], out: &mut [u8], report: &mut [u8]) -> LinesMended
     requires { ⌜ (length (now s) ≤ length (now out)) × (length (linesOf (now s)) ≤ length (now report)) ⌝ }
     ensures answer { λ r. ⌜ Through (now (s .entry)) r ⌝ }
     ensures written { λ r. ⌜ now (out .exit) ≡ laid (now (out .entry)) 0 (saidWhole mendedBytes (now (s .entry))) ⌝ }
@@ -56,7 +56,7 @@ fn mend_whole(s: &[u8], out: &mut [u8], report: &mut [u8]) -> Progress
     while at < s.len() {
         let end = text::line_end(s, at);
         if s.len() <= end {
-            return Progress {
+            return LinesMended {
                 written,
                 lines,
                 next: at,
@@ -70,7 +70,7 @@ fn mend_whole(s: &[u8], out: &mut [u8], report: &mut [u8]) -> Progress
         lines = noted.next;
         at = end + 1;
     }
-    Progress {
+    LinesMended {
         written,
         lines,
         next: at,
