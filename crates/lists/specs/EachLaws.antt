@@ -1,4 +1,4 @@
--- What holds of each element of a list: kept by a weaker claim, by a permutation, which also keeps the length, by one more at the end, by a function that keeps it,
+-- What holds of each element of a list: kept by a weaker claim, by a permutation, which also keeps the length, by one more at the end or a list behind it, by a function that keeps it,
 -- and by one element replaced; distinct elements stay so with a new one at the end; and two tests that agree pick the same.
 -- Assumes nothing.
 use mathlib.Core.List.{List, [], _∷_, _++_, map, List·Permᴰ, List·Permᴰ·nil, List·Permᴰ·cons, List·Permᴰ·swap, List·Permᴰ·trans}

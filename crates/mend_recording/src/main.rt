@@ -8,14 +8,17 @@ ghost use Rattle.pieces.specs.Pieces.{Stepped, Ran, Sayable};
 ghost use Rattle.mending.specs.Mending.{mendedBytes};
 ghost use Rattle.mending.specs.Claims.{longestHeld};
 ghost use Rattle.mending_text.specs.MendingText.{pieceAnswer, pieceKept};
-ghost use Rattle.mending_answers.specs.Notice.{noticeOf};
+ghost use Rattle.mending_answers.specs.Notice.{noticesAnswer, Tellable};
 use libc::STDERR_FILENO;
 use libc::STDIN_FILENO;
 use libc::STDOUT_FILENO;
 
-// 16 KiB of a recording, behind what is carried over from before. What is left of a piece, and the report
+// 4 KiB of a recording, behind what is carried over from before. What is left of a piece, and the report
 // on its lines, take no more.
-const PIECE: usize = 16641;
+const PIECE: usize = 4353;
+
+// What is told of the lines of a piece takes at most 25 bytes for each of its bytes.
+const TOLD: usize = 108825;
 
 // What came of a piece: whether to go on, how many bytes are carried over, and how many lines there were
 // so far.
@@ -42,31 +45,26 @@ fn write_left(left: &[u8]) -> bool
     io::write_all(STDOUT_FILENO, left)
 }
 
-// Hands on what is told of a line.
-fn write_notice(text: &[u8], number: u64, report: u8)
-    requires { ⌜ now text ≡ noticeOf number report ⌝ }
+// Hands on what is told of lines by their reports, behind so many lines before.
+fn write_told(told: &[u8], report: &[u8], before: u64)
+    requires { ⌜ Tellable before (now report) (now told) ⌝ }
 {
-    io::write_all(STDERR_FILENO, text);
+    io::write_all(STDERR_FILENO, told);
 }
 
-fn tell_line(number: u64, report: u8) {
-    let mut text = [0u8; 64];
-    let told = mending_answers::notice(&mut text, number, report);
-    let end = told.next;
-    write_notice(&text[..end], number, report);
+// Tells of each line by its report; the answer is how many lines there are now.
+fn tell_by(report: &[u8], before: u64, told: &mut [u8]) -> u64
+    ensures answer { λ r. ⌜ r ≡ noticesAnswer before (now (report .entry)) (now (told .entry)) .lines ⌝ }
+{
+    let noticed = mending_answers::notices(told, report, before);
+    let end = noticed.written;
+    write_told(&told[..end], report, before);
+    noticed.lines
 }
 
-// Tells of each line by its report, behind so many lines before; the answer is how many there are now.
 fn tell_lines(report: &[u8], before: u64) -> u64 {
-    let mut number = before;
-    let mut i: usize = 0;
-    while i < report.len() {
-        number = std::num::wrapping_add_u64(number, 1);
-        let byte = report[i];
-        tell_line(number, byte);
-        i += 1;
-    }
-    number
+    let mut told = [0u8; TOLD];
+    tell_by(report, before, &mut told)
 }
 
 // Mends the lines that have their feed.

@@ -1,2 +1,3 @@
 pub mod Notice
 pub mod NoticeLaws
+pub mod NoticesLaws
