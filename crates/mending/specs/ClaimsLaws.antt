@@ -20,9 +20,9 @@ use Rattle.pieces.specs.Pieces.{sayAll, together, Enough}
 use Rattle.pieces.specs.Cuts.{any-cuts}
 use Rattle.pieces.specs.Walk.{Short}
 use Rattle.frame_lines.specs.RecordingLaws.{digits-no-feed}
-use Rattle.mending.specs.Mending.{mendedChars, alteredBy, lineRefusal, mendedLine, longestMended, Outcome, kept, mended, dropped, outcomeOf, reportByte, left, linesLeft, mendedBytes, mendedText}
+use Rattle.mending.specs.Mending.{mendedChars, alteredBy, lineRefusal, mendedLine, longestMended, Fate, kept, mended, dropped, fateOf, reportByte, left, linesLeft, mendedBytes, mendedText}
 use Rattle.mending.specs.Repair.{mended-fewer}
-use Rattle.mending.specs.LineLaws.{reading, outcome-kept, outcome-long}
+use Rattle.mending.specs.LineLaws.{reading, fate-kept, fate-long}
 use Rattle.mending.specs.Claims.{leftOf, MendingClaim, longestHeld, reportSaid, CutsClaim}
 
 abbrev Readable : Line → Type 0
@@ -31,7 +31,7 @@ Readable l = lineRefusal l ≡ accepted
 -- ## Every line that is written reads
 
 line-reads : (l : Line) → Each Readable (linesLeft l)
-unfolding outcomeOf
+unfolding fateOf
 line-reads l = by-tests (ltb longestMended (length (l .chars))) (not (l .fed)) (eqb (lineRefusal l) accepted) (eqb (lineRefusal (mendedLine l)) accepted) refl refl
   where
     by-tests : (t u v w : Bool) → eqb (lineRefusal l) accepted ≡ v → eqb (lineRefusal (mendedLine l)) accepted ≡ w
@@ -69,7 +69,7 @@ cut-back (m ∷ ms) e =
 kept-all : (ms : List Line) → Each Readable ms → (leftOf ms ≡ ms) × (map reportByte ms ≡ replicate (length ms) 0)
 unfolding leftOf
 kept-all [] e = (refl, refl)
-kept-all (m ∷ ms) e = let i = kept-all ms (e .1) in rw (outcome-kept m (e .0)) (ap (λ (ls : List Line). m ∷ ls) (i .0), ap (λ (bs : List ℕ). 0 ∷ bs) (i .1))
+kept-all (m ∷ ms) e = let i = kept-all ms (e .1) in rw (fate-kept m (e .0)) (ap (λ (ls : List Line). m ∷ ls) (i .0), ap (λ (bs : List ℕ). 0 ∷ bs) (i .1))
 
 -- ## What is written is no longer than what was read
 
@@ -90,12 +90,12 @@ mended-width l = by-test (l .fed) (mended-fewer (l .chars))
 
 pub line-fits : (l : Line) → length (mendedBytes l) ≤ width l
 unfolding linesBytes
-line-fits l = by-outcome (outcomeOf l)
+line-fits l = by-fate (fateOf l)
   where
-    by-outcome : (o : Outcome) → length (linesBytes (left l o)) ≤ width l
-    by-outcome kept = rw (append-nil (lineBytes l), bytes-width l) (omega arith)
-    by-outcome (mended n) = rw (append-nil (lineBytes (mendedLine l)), bytes-width (mendedLine l)) (mended-width l)
-    by-outcome (dropped n) = omega arith
+    by-fate : (o : Fate) → length (linesBytes (left l o)) ≤ width l
+    by-fate kept = rw (append-nil (lineBytes l), bytes-width l) (omega arith)
+    by-fate (mended n) = rw (append-nil (lineBytes (mendedLine l)), bytes-width (mendedLine l)) (mended-width l)
+    by-fate (dropped n) = omega arith
 
 pub mended-short : Short mendedBytes 1
 mended-short l some = let h = line-fits l in omega arith
@@ -136,11 +136,11 @@ unfolding sayAll
 reports-said [] = refl
 reports-said (l ∷ ls) = ap (λ (bs : List ℕ). reportByte l ∷ bs) (reports-said ls)
 
-long-dropped : (l : Line) → longestHeld ≤ length (l .chars) → outcomeOf l ≡ dropped malformed
-long-dropped l h = let k : longestMended < length (l .chars) = omega arith in outcome-long l k
+long-dropped : (l : Line) → longestHeld ≤ length (l .chars) → fateOf l ≡ dropped malformed
+long-dropped l h = let k : longestMended < length (l .chars) = omega arith in fate-long l k
 
 same-outcome : (l m : Line) → longestHeld ≤ length (l .chars) → longestHeld ≤ length (m .chars)
-    → (linesBytes (left l (outcomeOf l)) ≡ linesBytes (left m (outcomeOf m))) × (reportSaid l ≡ reportSaid m)
+    → (linesBytes (left l (fateOf l)) ≡ linesBytes (left m (fateOf m))) × (reportSaid l ≡ reportSaid m)
 same-outcome l m a b = rw (long-dropped l a, long-dropped m b) (refl, refl)
 
 pub mended-enough : Enough mendedBytes longestHeld

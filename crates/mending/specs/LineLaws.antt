@@ -15,7 +15,7 @@ use Rattle.text.specs.Lines.{Line, lineFeed, linesBytes}
 use Rattle.laying.specs.Laying.{layAnswer, layLeaves}
 use Rattle.frame_lines.specs.ReadLine.{LineContent, carries, noFrame, readLine, longestLine, found, lineAnswerOf}
 use Rattle.frame_lines.specs.ReadLineLaws.{read-accepted, refused-number}
-use Rattle.mending.specs.Mending.{mendedChars, alteredBy, contentRefusal, lineRefusal, mendedLine, longestMended, Outcome, kept, mended, dropped, outcomeOf, outcomeByte, left, linesLeft, mendedBytes, lineMended}
+use Rattle.mending.specs.Mending.{mendedChars, alteredBy, contentRefusal, lineRefusal, mendedLine, longestMended, Fate, kept, mended, dropped, fateOf, fateByte, left, linesLeft, mendedBytes, lineMended}
 use Rattle.mending.specs.StepLaws.{digits-unaltered, unaltered-same}
 
 -- ## A line that reads
@@ -50,48 +50,48 @@ reads-unaltered l h = let d = digits-unaltered (l .chars) (reading l h .digital)
 -- ## What becomes of a line
 
 module _ (l : Line) where
-  pub outcome-long : longestMended < length (l .chars) → outcomeOf l ≡ dropped malformed
-  unfolding outcomeOf
-  outcome-long h = rw (lt-ltb longestMended (length (l .chars)) h)
+  pub fate-long : longestMended < length (l .chars) → fateOf l ≡ dropped malformed
+  unfolding fateOf
+  fate-long h = rw (lt-ltb longestMended (length (l .chars)) h)
 
-  pub outcome-open : length (l .chars) ≤ longestMended → l .fed ≡ false → outcomeOf l ≡ dropped notHex
-  unfolding outcomeOf
-  outcome-open h e = rw (le-ltb longestMended (length (l .chars)) h, e)
+  pub fate-open : length (l .chars) ≤ longestMended → l .fed ≡ false → fateOf l ≡ dropped notHex
+  unfolding fateOf
+  fate-open h e = rw (le-ltb longestMended (length (l .chars)) h, e)
 
   -- of a line without a feed nothing is left
   pub open-dropped : l .fed ≡ false → linesLeft l ≡ []
   open-dropped e = by-test (ltb longestMended (length (l .chars))) refl
     where
       by-test : (t : Bool) → ltb longestMended (length (l .chars)) ≡ t → linesLeft l ≡ []
-      by-test true h = rw (outcome-long (ltb-true longestMended (length (l .chars)) h))
-      by-test false h = rw (outcome-open (ltb-false longestMended (length (l .chars)) h) e)
+      by-test true h = rw (fate-long (ltb-true longestMended (length (l .chars)) h))
+      by-test false h = rw (fate-open (ltb-false longestMended (length (l .chars)) h) e)
 
   -- one that reads as it stands
-  pub outcome-kept : lineRefusal l ≡ accepted → outcomeOf l ≡ kept
-  unfolding outcomeOf
-  outcome-kept h =
+  pub fate-kept : lineRefusal l ≡ accepted → fateOf l ≡ kept
+  unfolding fateOf
+  fate-kept h =
       let r = reading l h in
       let few = r .few in
       let short : length (l .chars) ≤ longestMended = omega arith in
       rw (eq-eqb (lineRefusal l) accepted h, le-ltb longestMended (length (l .chars)) short, r .ended)
 
   module _ (short : length (l .chars) ≤ longestMended) (fed : l .fed ≡ true) where
-    outcome-other : (lineRefusal l ≡ accepted → ⊥) → outcomeOf l ≡ (if eqb (lineRefusal (mendedLine l)) accepted then mended (alteredBy (l .chars)) else dropped (lineRefusal (mendedLine l)))
-    unfolding outcomeOf
-    outcome-other unread = rw (ne-eqb (lineRefusal l) accepted unread, le-ltb longestMended (length (l .chars)) short, fed)
+    fate-other : (lineRefusal l ≡ accepted → ⊥) → fateOf l ≡ (if eqb (lineRefusal (mendedLine l)) accepted then mended (alteredBy (l .chars)) else dropped (lineRefusal (mendedLine l)))
+    unfolding fateOf
+    fate-other unread = rw (ne-eqb (lineRefusal l) accepted unread, le-ltb longestMended (length (l .chars)) short, fed)
 
-    pub outcome-dropped : (n : ℕ) → lineRefusal (mendedLine l) ≡ n → (n ≡ accepted → ⊥) → outcomeOf l ≡ dropped n
-    outcome-dropped n e other =
+    pub fate-dropped : (n : ℕ) → lineRefusal (mendedLine l) ≡ n → (n ≡ accepted → ⊥) → fateOf l ≡ dropped n
+    fate-dropped n e other =
         let not-kept : lineRefusal l ≡ accepted → ⊥ = λ h. other (sym e ∙ ap lineRefusal (reads-unaltered l h .0) ∙ h) in
-        outcome-other not-kept ∙ rw (e, ne-eqb n accepted other)
+        fate-other not-kept ∙ rw (e, ne-eqb n accepted other)
 
-    pub outcome-mended : lineRefusal (mendedLine l) ≡ accepted → (alteredBy (l .chars) ≡ 0 → ⊥) → outcomeOf l ≡ mended (alteredBy (l .chars))
-    outcome-mended e some = outcome-other (λ h. some (reads-unaltered l h .1)) ∙ rw (eq-eqb (lineRefusal (mendedLine l)) accepted e)
+    pub fate-mended : lineRefusal (mendedLine l) ≡ accepted → (alteredBy (l .chars) ≡ 0 → ⊥) → fateOf l ≡ mended (alteredBy (l .chars))
+    fate-mended e some = fate-other (λ h. some (reads-unaltered l h .1)) ∙ rw (eq-eqb (lineRefusal (mendedLine l)) accepted e)
 
-    pub outcome-same : lineRefusal (mendedLine l) ≡ accepted → alteredBy (l .chars) ≡ 0 → (outcomeOf l ≡ kept) × (mendedLine l ≡ l)
-    outcome-same e none =
+    pub fate-same : lineRefusal (mendedLine l) ≡ accepted → alteredBy (l .chars) ≡ 0 → (fateOf l ≡ kept) × (mendedLine l ≡ l)
+    fate-same e none =
         let one = same-line l (unaltered-same (l .chars) none) in
-        (outcome-kept (ap lineRefusal (sym one) ∙ e), one)
+        (fate-kept (ap lineRefusal (sym one) ∙ e), one)
 
 -- ## The ends of a call on a line
 
@@ -101,14 +101,14 @@ answer-refusal (carries f) next = refl
 answer-refusal (noFrame n) next = refl
 
 module _ (l : Line) (out : List ℕ) (at : ℕ) where
-  by-outcome : (o : Outcome) → outcomeOf l ≡ o → (text : List ℕ) → text ≡ linesBytes (left l o)
-      → (record { report = outcomeByte o; written = layAnswer out at text } ≡ lineMended l out at) × (layLeaves out at text ≡ layLeaves out at (mendedBytes l))
-  by-outcome o e text t = rw (e, t) (refl, refl)
+  by-fate : (o : Fate) → fateOf l ≡ o → (text : List ℕ) → text ≡ linesBytes (left l o)
+      → (record { report = fateByte o; written = layAnswer out at text } ≡ lineMended l out at) × (layLeaves out at text ≡ layLeaves out at (mendedBytes l))
+  by-fate o e text t = rw (e, t) (refl, refl)
 
-  pub line-dropped : (n : ℕ) → outcomeOf l ≡ dropped n
+  pub line-dropped : (n : ℕ) → fateOf l ≡ dropped n
       → (record { report = 32 + n; written = layAnswer out at [] } ≡ lineMended l out at) × (layLeaves out at [] ≡ layLeaves out at (mendedBytes l))
   unfolding linesBytes
-  line-dropped n e = by-outcome (dropped n) e [] refl
+  line-dropped n e = by-fate (dropped n) e [] refl
 
   -- a line that reads once mended
   module _ (short : length (l .chars) ≤ longestMended) (fed : l .fed ≡ true) (reads : lineRefusal (mendedLine l) ≡ accepted) where
@@ -124,8 +124,8 @@ module _ (l : Line) (out : List ℕ) (at : ℕ) where
             (record { report = if t then 0 else 16 + alteredBy (l .chars); written = layAnswer out at text } ≡ lineMended l out at)
             × (layLeaves out at text ≡ layLeaves out at (mendedBytes l))
         by-test true e =
-            let o = outcome-same l short fed reads (eqb-true (alteredBy (l .chars)) 0 e) in
-            by-outcome kept (o .0) (mendedChars (l .chars) ++ (lineFeed ∷ [])) (one-line (mendedChars (l .chars)) ∙ ap (λ (m : Line). linesBytes (m ∷ [])) (o .1))
+            let o = fate-same l short fed reads (eqb-true (alteredBy (l .chars)) 0 e) in
+            by-fate kept (o .0) (mendedChars (l .chars) ++ (lineFeed ∷ [])) (one-line (mendedChars (l .chars)) ∙ ap (λ (m : Line). linesBytes (m ∷ [])) (o .1))
         by-test false e =
-            by-outcome (mended (alteredBy (l .chars))) (outcome-mended l short fed reads (eqb-false (alteredBy (l .chars)) 0 e)) (mendedChars (l .chars) ++ (lineFeed ∷ []))
+            by-fate (mended (alteredBy (l .chars))) (fate-mended l short fed reads (eqb-false (alteredBy (l .chars)) 0 e)) (mendedChars (l .chars) ++ (lineFeed ∷ []))
             (one-line (mendedChars (l .chars)))

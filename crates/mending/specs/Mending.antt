@@ -6,7 +6,7 @@
 --     mendedChars cs         the three, one after the other
 --     alteredBy cs           the sum of 1, 2 and 4 for those of the three that altered the line
 --     lineRefusal l          the number with which a line is refused; 0 for one that reads
---     Outcome, outcomeOf l   what becomes of a line
+--     Fate, fateOf l   what becomes of a line
 --     reportByte l           the report on a line: 0 kept, 16 and more mended, 32 and more dropped
 --     linesLeft l            the line that is written: one or none
 --     mendedBytes l          its bytes
@@ -78,39 +78,39 @@ abbrev pub longestMended : ℕ
 longestMended = 256
 
 -- kept; mended, by which of the three; or dropped, for which refusal
-pub data Outcome : Type 0 where
-  kept : Outcome
-  mended : ℕ → Outcome
-  dropped : ℕ → Outcome
+pub data Fate : Type 0 where
+  kept : Fate
+  mended : ℕ → Fate
+  dropped : ℕ → Fate
 
 -- an over-long line is dropped whatever it holds, then one without a feed
-unfoldable pub outcomeOf : Line → Outcome
-outcomeOf l =
+unfoldable pub fateOf : Line → Fate
+fateOf l =
     if ltb longestMended (length (l .chars)) then dropped malformed
     else if not (l .fed) then dropped notHex
     else if eqb (lineRefusal l) accepted then kept
     else if eqb (lineRefusal (mendedLine l)) accepted then mended (alteredBy (l .chars))
     else dropped (lineRefusal (mendedLine l))
 
--- the byte of an outcome
-abbrev pub outcomeByte : Outcome → ℕ
-outcomeByte kept = 0
-outcomeByte (mended by) = 16 + by
-outcomeByte (dropped n) = 32 + n
+-- the byte of a fate
+abbrev pub fateByte : Fate → ℕ
+fateByte kept = 0
+fateByte (mended by) = 16 + by
+fateByte (dropped n) = 32 + n
 
 -- the report on a line
 abbrev pub reportByte : Line → ℕ
-reportByte l = outcomeByte (outcomeOf l)
+reportByte l = fateByte (fateOf l)
 
--- what an outcome leaves of a line
-abbrev pub left : Line → Outcome → List Line
+-- what a fate leaves of a line
+abbrev pub left : Line → Fate → List Line
 left l kept = l ∷ []
 left l (mended by) = mendedLine l ∷ []
 left l (dropped n) = []
 
 -- the line that is written: one or none
 abbrev pub linesLeft : Line → List Line
-linesLeft l = left l (outcomeOf l)
+linesLeft l = left l (fateOf l)
 
 -- its bytes
 abbrev pub mendedBytes : Line → List ℕ

@@ -16,7 +16,7 @@ use Rattle.laying.specs.Laying.{layAnswer, layLeaves}
 use Rattle.frame_lines.specs.declared.LineRead.{LineRead}
 use Rattle.frame_lines.specs.ReadLine.{readLine}
 use Rattle.mending.specs.Mending.{mendedChars, alteredBy, lineRefusal, mendedLine}
-use Rattle.mending.specs.LineLaws.{answer-refusal, refusal-small, outcome-dropped, line-dropped, line-written}
+use Rattle.mending.specs.LineLaws.{answer-refusal, refusal-small, fate-dropped, line-dropped, line-written}
 use borrow.Author.Needs.{needs}
 use Rattle.mending.proofs.mend_fed.Statement.{statement}
 use Rattle.mending.proofs.mend_fed.Tie as tie
@@ -74,7 +74,7 @@ returns c =
     let m = r .before .before .before in
     let a = m .before .before .before in
     let n = r .read-line .result .refusal in
-    let o = outcome-dropped (given m) (a .pre) refl n (sym (refusal r)) (d .before .before .if1 .taken) in
+    let o = fate-dropped (given m) (a .pre) refl n (sym (refusal r)) (d .before .before .if1 .taken) in
     let e = line-dropped (given m) (now (a .args .out)) (a .args .at) n o in
     (d .drop-line .ensures .0 ∙ e .0, d .drop-line .ensures .1 ∙ e .1)
 

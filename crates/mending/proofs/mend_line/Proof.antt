@@ -4,7 +4,7 @@ use mathlib.Core.Path.{_∙_}
 use borrow.Author.Tests.{not-true, not-false}
 use Rattle.text.specs.Lines.{Line}
 use Rattle.refusals.specs.Refusals.{notHex, malformed}
-use Rattle.mending.specs.LineLaws.{outcome-long, outcome-open, line-dropped}
+use Rattle.mending.specs.LineLaws.{fate-long, fate-open, line-dropped}
 use borrow.Author.Needs.{needs}
 use Rattle.mending.proofs.mend_line.Statement.{statement}
 use Rattle.mending.proofs.mend_line.Tie as tie
@@ -21,7 +21,7 @@ returns c =
     let k = d .before .before in
     let a = k .before .before .before .args in
     let l : Line = record { chars = now (a .line); fed = a .fed } in
-    let e = line-dropped l (now (a .out)) (a .at) malformed (outcome-long l (k .if1 .taken)) in
+    let e = line-dropped l (now (a .out)) (a .at) malformed (fate-long l (k .if1 .taken)) in
     (d .drop-line .ensures .0 ∙ e .0, d .drop-line .ensures .1 ∙ e .1)
 
 drop-line-requires-2 : tie.Need-drop-line-requires-2
@@ -36,7 +36,7 @@ returns-2 c =
     let k = d .before .before in
     let a = k .before .before .before .before .args in
     let l : Line = record { chars = now (a .line); fed = a .fed } in
-    let e = line-dropped l (now (a .out)) (a .at) notHex (outcome-open l (k .before .if1 .left) (not-true (a .fed) (k .if2 .taken))) in
+    let e = line-dropped l (now (a .out)) (a .at) notHex (fate-open l (k .before .if1 .left) (not-true (a .fed) (k .if2 .taken))) in
     (d .drop-line2 .ensures .0 ∙ e .0, d .drop-line2 .ensures .1 ∙ e .1)
 
 mend-fed-requires : tie.Need-mend-fed-requires
