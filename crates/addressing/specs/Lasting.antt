@@ -16,8 +16,8 @@ use Rattle.bench_laws.specs.Everywhere.{Invariant, heard-each, restarted-each, 
 use Rattle.bench_laws.specs.Laws.{slot-cases, reset-cases, added-cases}
 use Rattle.bench_laws.specs.Sound.{BenchSound}
 use Rattle.bench_laws.specs.SoundLaws.{empty-sound, slotted-sound, reset-done-sound, added-sound, conversion-finished-sound, copy-finished-sound, power-cycled-sound}
-use Rattle.history.specs.History.{Call, add, reset, slot, finishConversion, finishCopy, powerCycle, search, searchAlarms, read, write, Typed, apply, Ledger, step, start, ledger, after}
-use Rattle.history.specs.Kept.{read-keeps, write-keeps, outcome-keeps}
+use Rattle.history.specs.History.{Call, add, reset, slot, finishConversion, finishCopy, powerCycle, search, searchAlarms, read, write, readPins, Typed, apply, Ledger, step, start, ledger, after}
+use Rattle.history.specs.Kept.{read-keeps, write-keeps, outcome-keeps, pins-keep}
 
 module _ (P : Device → Type 0) (I : Invariant P) (joins : (new : Joining) → Typed (add new) → P (joined new)) where
   record Lasts (b : Bench) : Type 0 where
@@ -52,6 +52,7 @@ module _ (P : Device → Type 0) (I : Invariant P) (joins : (new : Joining) → 
   by-call b (searchAlarms places room) t r = outcome-keeps Lasts by-slot by-reset alarmSearch b places room r
   by-call b (read code) t r = read-keeps Lasts by-slot by-reset code b r
   by-call b (write code s) t r = write-keeps Lasts by-slot by-reset code s b r
+  by-call b (readPins places) t r = pins-keep Lasts by-slot by-reset b places r
 
   lasts-from : (h : List Call) (l : Ledger) → Each Typed h → Lasts (l .bench) → Lasts (fold step l h .bench)
   unfolding fold

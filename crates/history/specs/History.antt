@@ -1,6 +1,6 @@
 -- The history of a bench (the scope, "One slot" and "The master"): every sequence of calls from the empty bench, refused calls included, the bench that
 -- it leaves, the codes that it has added, and the book with a page for each code.
---     Call              one call, with its arguments; a search has the lengths of the list and of the recording lent
+--     Call              one call, with its arguments; a search has the lengths of the list and of the recording lent, the call for address pins that of its list
 --     Typed c           the arguments are values of their types: codes below 2^64, bytes below 256, counts of 16 bits
 --     apply b c         the bench in the answer to the call, refused or not
 --     after h           the bench after the calls h, from the empty bench
@@ -37,6 +37,7 @@ use Rattle.bench.specs.declared.Changed.{Changed}
 use Rattle.bench.specs.declared.Place.{Place}
 use Rattle.bench.specs.declared.Place.the-variants.{At, Nowhere}
 use Rattle.master_rules.specs.Access.{readAt, writeAt}
+use Rattle.master_rules.specs.Pins.{pinsOutcome}
 use Rattle.master_rules.specs.Search.{searchOutcome}
 
 -- ## Calls
@@ -52,6 +53,7 @@ pub data Call : Type 0 where
   searchAlarms : ℕ → ℕ → Call
   read : ℕ → Call
   write : ℕ → Settings → Call
+  readPins : ℕ → Call
 
 abbrev pub Code64 : ℕ → Type 0
 Code64 code = code < 2 ^ 64
@@ -70,6 +72,7 @@ Typed (search places room) = Code64 places × Code64 room
 Typed (searchAlarms places room) = Code64 places × Code64 room
 Typed (read code) = Code64 code
 Typed (write code s) = Code64 code × Byte (s .high) × Byte (s .low) × Byte (s .configuration)
+Typed (readPins places) = Code64 places
 
 -- ## The bench
 
@@ -84,6 +87,7 @@ apply b (search places room) = searchOutcome searchRom b places room .bench
 apply b (searchAlarms places room) = searchOutcome alarmSearch b places room .bench
 apply b (read code) = readAt b code .bench
 apply b (write code s) = writeAt b code s .bench
+apply b (readPins places) = pinsOutcome b places .found .bench
 
 -- ## What a call enters in the book
 
@@ -121,6 +125,7 @@ entry b (search places room) = nothing
 entry b (searchAlarms places room) = nothing
 entry b (read code) = nothing
 entry b (write code s) = nothing
+entry b (readPins places) = nothing
 
 -- ## The history
 

@@ -1,13 +1,15 @@
 -- What every slot and every reset keeps, the master's calls keep: they make resets and slots, and nothing else, whether they are refused or not.
---     read-keeps, write-keeps, outcome-keeps
+--     read-keeps, write-keeps, outcome-keeps, pins-keep
 --     written-keeps      and so does the sending of settings
 -- Assumes nothing.
 use Prim.Native.Nat.{ℕ}
 use mathlib.Core.Bool.{Bool, true, false, not, _&&_, _||_}
 use lib.Dec.{eqb, ltb}
+use mathlib.Core.List.{List, [], _∷_}
+use Rattle.lists.specs.Fold.{fold}
 use Rattle.lists.specs.Choice.{if_then_else_}
 use Rattle.bits.specs.Bits.{bitsOf}
-use Rattle.commands.specs.Commands.{readScratchpad, writeScratchpad}
+use Rattle.commands.specs.Commands.{readScratchpad, writeScratchpad, searchRom}
 use Rattle.refusals.specs.Refusals.{accepted, noRoom, wireBusy}
 use Rattle.family.specs.Families.{propertiesOf}
 use Rattle.family.specs.declared.Properties.{Properties}
@@ -22,6 +24,7 @@ use Rattle.master_rules.specs.declared.Access.{Access}
 use Rattle.searching.specs.Buses.{calls}
 use Rattle.master_rules.specs.Wire.{sent}
 use Rattle.master_rules.specs.Access.{addressed, readSlots, bytesShown, afterSlots, fetched, onPresence, readBack, admission, readAt, settingsSent, asAsked, writtenAndRead, writeAt}
+use Rattle.master_rules.specs.Pins.{isPinned, PinsFound, nobodyRead, pinsStep, PinsOutcome, pinsOutcome}
 use Rattle.master_rules.specs.Search.{fewestPlaces, fewestBytes, codeLength, mostPasses, refusedOutcome, lonelyOutcome, foundOutcome, searchRun, searchOutcome}
 
 module _ (Q : Bench → Type 0) (by-slot : (m : Bool) (b : Bench) → Q b → Q (slotted b m .bench)) (by-reset : (b : Bench) → Q b → Q (resetDone b .bench)) where
@@ -90,3 +93,27 @@ module _ (Q : Bench → Type 0) (by-slot : (m : Bool) (b : Bench) → Q b → Q 
       by-tests false true v = q
       by-tests false false true = by-reset b q
       by-tests false false false = search-holds calls Q by-slot by-reset (bitsOf 8 command) codeLength mostPasses b q
+
+  -- the reads at the codes of a search
+  found-either : (t : Bool) (x y : PinsFound) → Q (x .bench) → Q (y .bench) → Q ((if t then x else y) .bench)
+  found-either true x y p q = p
+  found-either false x y p q = q
+
+  pins-read-keep : (listed : List ℕ) (f : PinsFound) → Q (f .bench) → Q (fold pinsStep f listed .bench)
+  unfolding fold
+  pins-read-keep [] f q = q
+  pins-read-keep (c ∷ cs) f q =
+      let r = read-keeps c (f .bench) q in
+      pins-read-keep cs (pinsStep f c) (found-either (isPinned c) _ f (found-either (eqb (readAt (f .bench) c .refusal) accepted) _ _ r r) q)
+
+  outcome-either : (t : Bool) (x y : PinsOutcome) → Q (x .found .bench) → Q (y .found .bench) → Q ((if t then x else y) .found .bench)
+  outcome-either true x y p q = p
+  outcome-either false x y p q = q
+
+  pub pins-keep : (b : Bench) (places : ℕ) → Q b → Q (pinsOutcome b places .found .bench)
+  unfolding pinsOutcome
+  pins-keep b places q =
+      let o = searchOutcome searchRom b fewestPlaces fewestBytes in
+      let r = outcome-keeps searchRom b fewestPlaces fewestBytes q in
+      outcome-either (ltb places fewestPlaces) _ _ q
+      (outcome-either (eqb (o .refusal) accepted) _ _ (pins-read-keep (o .listed) (nobodyRead (o .bench)) r) r)

@@ -32,8 +32,8 @@ use Rattle.bench_laws.specs.Sound.{codesOf, BenchSound}
 use Rattle.bench_laws.specs.SoundLaws.{heard-codes, restarted-codes, added-codes, one-changed-codes, empty-sound, slotted-sound, reset-done-sound, added-sound, conversion-finished-sound, copy-finished-sound, power-cycled-sound}
 use Rattle.bench.specs.declared.Bench.{Bench}
 use Rattle.bench.specs.declared.Changed.{Changed}
-use Rattle.history.specs.Kept.{read-keeps, write-keeps, outcome-keeps}
-use Rattle.history.specs.History.{Call, add, reset, slot, finishConversion, finishCopy, powerCycle, search, searchAlarms, read, write, Typed, pageOf, pageAt, Entry, joins, empties, writes, ifAccepted, Ledger, bookWith, codesAfter, bookAfter, step, start, ledger}
+use Rattle.history.specs.Kept.{read-keeps, write-keeps, outcome-keeps, pins-keep}
+use Rattle.history.specs.History.{Call, add, reset, slot, finishConversion, finishCopy, powerCycle, search, searchAlarms, read, write, readPins, Typed, pageOf, pageAt, Entry, joins, empties, writes, ifAccepted, Ledger, bookWith, codesAfter, bookAfter, step, start, ledger}
 
 -- each device's page is the book's
 abbrev pub PagesAre : (ℕ → Page) → List Device → Type 0
@@ -229,6 +229,7 @@ reached-step l (search places room) t r = outcome-keeps (λ b. Reached (on l b))
 reached-step l (searchAlarms places room) t r = outcome-keeps (λ b. Reached (on l b)) (reached-slot l) (reached-reset l) alarmSearch (l .bench) places room r
 reached-step l (read code) t r = read-keeps (λ b. Reached (on l b)) (reached-slot l) (reached-reset l) code (l .bench) r
 reached-step l (write code s) t r = write-keeps (λ b. Reached (on l b)) (reached-slot l) (reached-reset l) code s (l .bench) r
+reached-step l (readPins places) t r = pins-keep (λ b. Reached (on l b)) (reached-slot l) (reached-reset l) (l .bench) places r
 
 reached-start : Reached start
 reached-start = record { sound = empty-sound; marked = record { codes-are = refl; codes-fit = tt; pages-are = tt } }

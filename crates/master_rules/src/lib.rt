@@ -23,3 +23,20 @@ pub struct Searched {
     pub bytes: u16,
     pub bench: Bench,
 }
+
+// The lowest pin number that two probes share, or none.
+pub enum SharedPin {
+    NoPin,
+    Pin(u8),
+}
+
+// The answer of the call for address pins: how many probes have any, the pins of each in the order of
+// the list and 0 behind them, and the lowest number that two share; or a refusal with zeros; and the
+// bench as the last slot left it.
+pub struct Pinned {
+    pub refusal: u8,
+    pub codes: u8,
+    pub pins: [u8; 32],
+    pub shared: SharedPin,
+    pub bench: Bench,
+}
