@@ -360,7 +360,7 @@ pub record Readable (b : Bench) : Type 0 where
 pub readable-after : (h : List Call) → Each Typed h → Readable (after h)
 readable-after h t =
     let m = reached-after h t .marked in
-    record { sound = bench-is-sound h t; codes-fit = rw (m .codes-are) (m .codes-fit); bytewise = lasts-after Bytewise bytewise-lasts joined-bytewise h t }
+    record { sound = bench-is-sound h t; codes-fit = rw (m .codes-are) (m .codes-fit); bytewise = lasts-after Bytewise bytewise-lasts (λ new u p. joined-bytewise new u) h t }
 
 -- every slot and every reset keeps it, and so do calls that make nothing else
 pub readable-slot : (m : Bool) (b : Bench) → Readable b → Readable (slotted b m .bench)

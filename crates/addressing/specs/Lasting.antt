@@ -1,12 +1,15 @@
--- What holds of every device that joins, and what nothing that can happen to a device takes from it, holds of each device of the bench after every history: `lasts-after`.
+-- What holds of every device that joins, which it does with pins that it can have, and what nothing that can happen to a device takes from it, holds of each device of the bench after every history: `lasts-after`.
 -- Assumes nothing.
-use mathlib.Core.Bool.{Bool}
+use mathlib.Core.Bool.{Bool, false}
 use mathlib.Core.List.{List, [], _∷_}
+use mathlib.Core.Path.{_≡_}
 use Rattle.lists.specs.Each.{Each}
 use Rattle.lists.specs.EachLaws.{each-snoc}
 use Rattle.lists.specs.Fold.{fold}
 use Rattle.commands.specs.Commands.{searchRom, alarmSearch}
+use Rattle.family.specs.Families.{pinsWrong}
 use Rattle.device.specs.Power.{joined}
+use Rattle.device.specs.Record.{familyRow}
 use Rattle.device.specs.declared.Device.{Device}
 use Rattle.device.specs.declared.Joining.{Joining}
 use Rattle.bench.specs.Bench.{live}
@@ -19,7 +22,7 @@ use Rattle.bench_laws.specs.SoundLaws.{empty-sound, slotted-sound, reset-done-s
 use Rattle.history.specs.History.{Call, add, reset, slot, finishConversion, finishCopy, powerCycle, search, searchAlarms, read, write, readPins, Typed, apply, Ledger, step, start, ledger, after}
 use Rattle.history.specs.Kept.{read-keeps, write-keeps, outcome-keeps, pins-keep}
 
-module _ (P : Device → Type 0) (I : Invariant P) (joins : (new : Joining) → Typed (add new) → P (joined new)) where
+module _ (P : Device → Type 0) (I : Invariant P) (joins : (new : Joining) → Typed (add new) → pinsWrong (familyRow (new .code)) (new .pins) ≡ false → P (joined new)) where
   record Lasts (b : Bench) : Type 0 where
     pub sound : BenchSound b
     pub each : Each P (live b)
@@ -41,7 +44,7 @@ module _ (P : Device → Type 0) (I : Invariant P) (joins : (new : Joining) → 
     sound = added-sound b new (r .sound);
     each =
         added-cases b new (λ c. Each P (live (c .bench))) (r .sound .places) (λ n z. r .each) (λ after a.
-        rw (a .live-is) (each-snoc P (live b) (joined new) (r .each) (joins new t)));
+        rw (a .live-is) (each-snoc P (live b) (joined new) (r .each) (joins new t (a .pins-right))));
   }
   by-call b reset t r = by-reset b r
   by-call b (slot m) t r = by-slot m b r

@@ -11,3 +11,5 @@ pub mod Bytewise
 pub mod ReadLaws
 pub mod NeverLaws
 pub mod FinishedLaws
+pub mod Pinning
+pub mod PinningLaws

@@ -131,7 +131,7 @@ module _ (b : Bench) (r : Readable b) (code i : ℕ) (f : free b ≡ true) (at :
   present : presenceOf b ≡ true
   present = let l = place-lt in let k = length-take (b .count) (b .devices) in lt-ltb 0 (b .count) (omega arith)
 
-  pad-sound : PadSound (withPins (propertiesOf (familyOf code)) (deviceAt b i .pins)) (deviceAt b i .scratchpad)
+  pub pad-sound : PadSound (withPins (propertiesOf (familyOf code)) (deviceAt b i .pins)) (deviceAt b i .scratchpad)
   unfolding rowOf
   pad-sound =
       let s = rw (device-live b code i at) at (each-at Sound (live b) i vacant place-lt (r .sound .devices-sound)) in
@@ -151,7 +151,7 @@ module _ (b : Bench) (r : Readable b) (code i : ℕ) (f : free b ≡ true) (at :
       shows-scratchpad b code i (r .codes-fit) (r .sound .codes-distinct) f at (pad-sound .eight) (bytewise .stored .pad-bytes)
 
   -- the answer, with the bench after its slots
-  abbrev answered : Bench → Access
+  abbrev pub answered : Bench → Access
   answered c = record {
     refusal = accepted;
     pad = nineBytes (deviceAt b i .scratchpad);
