@@ -13,10 +13,11 @@ use Rattle.bench.specs.Calls.{addedTo, conversionFinished, copyFinished, powerC
 use Rattle.bench.specs.Slot.{resetDone, slotted}
 use Rattle.bench.specs.declared.Bench.{Bench}
 use Rattle.master_rules.specs.Access.{readAt, writeAt}
+use Rattle.master_rules.specs.Pins.{pinsOutcome}
 use Rattle.master_rules.specs.Search.{searchOutcome}
 use Rattle.requests.specs.Requests.{requestOf}
 use Rattle.requests.specs.declared.Request.{Request}
-use Rattle.requests.specs.declared.Request.the-variants.{Bad, Add, Reset, Slot, Converted, Copied, Cycle, Search, Alarm, Read, Write, Show, Why}
+use Rattle.requests.specs.declared.Request.the-variants.{Bad, Add, Reset, Slot, Converted, Copied, Cycle, Search, Alarm, Read, Write, Show, Why, Pins}
 use Rattle.answers.specs.Answers.{badLine, showLine}
 use Rattle.why_rules.specs.Why.{whyOf}
 use Rattle.why_answers.specs.WhyLine.{whyLine}
@@ -24,6 +25,7 @@ use Rattle.call_answers.specs.Said.{Answered, says, ofChange, ofReset, ofSlot, 
 use Rattle.call_answers.specs.declared.Said.{Said}
 use Rattle.search_answers.specs.Whole.{wholeSaid, wholeLeft}
 use Rattle.search_answers.specs.Found.{ofSearch}
+use Rattle.pin_answers.specs.PinLines.{ofPins}
 
 -- ## By the request
 
@@ -41,6 +43,7 @@ answered b (Read code) = ofAccess (readAt b code)
 answered b (Write code settings) = ofAccess (writeAt b code settings)
 answered b (Show code) = says (showLine (looked b code)) b
 answered b (Why code) = says (whyLine (whyOf b code)) b
+answered b (Pins places) = ofPins (pinsOutcome b places)
 
 -- ## By the line
 

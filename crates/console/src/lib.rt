@@ -34,6 +34,7 @@ fn respond(bench: Bench, request: Request, out: &mut [u8]) -> Said
         }
         Request::Show(code) => call_answers::device(bench, bench::look(bench, code), out),
         Request::Why(code) => call_answers::why(bench, why::why(bench, code), out),
+        Request::Pins(places) => pin_answers::found(bench, places, out),
     }
 }
 

@@ -12,7 +12,7 @@ use mathlib.Core.Logic.{_≢_}
 use mathlib.Core.Path.{_≡_, refl, sym, ap, _∙_}
 use native.Mathlib.Omega.{arith}
 use borrow.Author.Tests.{lt-ltb, le-ltb, eq-eqb, ne-eqb}
-use lib.Dec.{eqb}
+use lib.Dec.{eqb, ltb, lit≤}
 use lib.ListN.{length, take, replicate, length-append}
 use Rattle.lists.specs.Choice.{if_then_else_}
 use Rattle.lists.specs.Fold.{fold}
@@ -23,7 +23,7 @@ use Rattle.refusals.specs.Refusals.{accepted, noRoom}
 use Rattle.bench.specs.declared.Bench.{Bench}
 use Rattle.master_rules.specs.declared.Pinned.{Pinned}
 use Rattle.master_rules.specs.Access.{readAt}
-use Rattle.master_rules.specs.Pins.{isPinned, PinsFound, pinsStep, nobodyRead, pinsSearched, sharedPin, notPinned, pinsOutcome, pinnedOf}
+use Rattle.master_rules.specs.Pins.{isPinned, pinsShown, PinsOutcome, PinsFound, pinsStep, nobodyRead, pinsSearched, sharedPin, notPinned, pinsOutcome, pinnedOf}
 use Rattle.master_rules.specs.Search.{Outcome, searchOutcome, answerOf, listAfter}
 use Rattle.master_rules.specs.declared.Searched.{Searched}
 use Rattle.master.specs.Sweep.{search-bounded}
@@ -110,3 +110,39 @@ holds-answer list0 list r f h =
     let front : take (r .codes) (r .pins) ≡ f .pins =
     ap (λ (l : List ℕ). take (r .codes) l) (h .pins-are) ∙ ap (λ (n : ℕ). take n (laid (replicate 32 0) 0 (f .pins))) (h .codes-are ∙ sym (h .as-many)) ∙ listed-front (replicate 32 0) (f .pins) in
     rw (front, h .codes-are, h .pins-are, h .bench-is)
+
+-- ## How many are found
+
+even-either : (t : Bool) (x y : PinsFound) → length (x .pins) ≡ length (x .codes) → length (y .pins) ≡ length (y .codes)
+    → length ((if t then x else y) .pins) ≡ length ((if t then x else y) .codes)
+even-either true x y h k = h
+even-either false x y h k = k
+
+step-even : (f : PinsFound) (code : ℕ) → length (f .pins) ≡ length (f .codes) → length (pinsStep f code .pins) ≡ length (pinsStep f code .codes)
+step-even f code h =
+    let one : length (f .pins ++ (pinsShown (readAt (f .bench) code .pad) ∷ [])) ≡ length (f .codes ++ (code ∷ [])) =
+    length-append (f .pins) _ ∙ ap (λ (n : ℕ). n + 1) h ∙ sym (length-append (f .codes) (code ∷ [])) in
+    even-either (isPinned code) _ f (even-either (eqb (readAt (f .bench) code .refusal) accepted) _ _ one h) h
+
+read-even : (f : PinsFound) (codes : List ℕ) → length (f .pins) ≡ length (f .codes) → length (fold pinsStep f codes .pins) ≡ length (fold pinsStep f codes .codes)
+unfolding fold
+read-even f [] h = h
+read-even f (c ∷ codes) h = read-even (pinsStep f c) codes (step-even f c h)
+
+-- at most 32, and as many pins
+pub record Few (o : PinsOutcome) : Type 0 where
+  pub most : length (o .found .codes) ≤ 32
+  pub as-many : length (o .found .pins) ≡ length (o .found .codes)
+
+few-answer : (t : Bool) (x y : PinsOutcome) → Few x → Few y → Few (if t then x else y)
+few-answer true x y h k = h
+few-answer false x y h k = k
+
+pub found-few : (b : Bench) (places : ℕ) → Few (pinsOutcome b places)
+unfolding pinsOutcome
+found-few b places =
+    let o = whole b in
+    let listed = search-bounded searchRom b 32 1824 .codes-most in
+    let read = read-few (nobodyRead (o .bench)) (o .listed) in
+    few-answer (ltb places 32) _ _ (record { most = lit≤ tt; as-many = refl })
+    (few-answer (eqb (o .refusal) accepted) _ _ (record { most = omega (arith, listed, read); as-many = read-even (nobodyRead (o .bench)) (o .listed) refl }) (record { most = lit≤ tt; as-many = refl }))

@@ -15,7 +15,7 @@ use Rattle.text.specs.declared.NumberRead.{NumberRead}
 use Rattle.fields.specs.declared.CountRead.{CountRead}
 use Rattle.fields.specs.declared.PowerRead.{PowerRead}
 use Rattle.requests.specs.declared.Request.{Request}
-use Rattle.requests.specs.declared.Request.the-variants.{Bad, Add, Reset, Slot, Converted, Copied, Cycle, Search, Alarm, Read, Write, Show, Why}
+use Rattle.requests.specs.declared.Request.the-variants.{Bad, Add, Reset, Slot, Converted, Copied, Cycle, Search, Alarm, Read, Write, Show, Why, Pins}
 use Rattle.fields.specs.declared.SettingsRead.{SettingsRead}
 use Rattle.lists.specs.Same.{same}
 use Rattle.words.specs.Words.{wordOf, wordsOf}
@@ -36,6 +36,10 @@ atCode request code = if code .valid then request (code .number) else Bad
 -- a search that is lent so many places and bytes
 abbrev pub lent : (ℕ → ℕ → Request) → NumberRead → NumberRead → Request
 lent request places bytes = if places .valid && bytes .valid then request (places .number) (bytes .number) else Bad
+
+-- the call for address pins that is lent so many places
+abbrev pub pinsAsked : NumberRead → Request
+pinsAsked places = if places .valid then Pins (places .number) else Bad
 
 abbrev pub writeAsked : NumberRead → SettingsRead → Request
 writeAsked code s = if code .valid && s .valid then Write (code .number) (s .settings) else Bad
@@ -62,7 +66,7 @@ pinnedAsked code power s pins = if pins .valid then addAsked code power s (pins 
 abbrev pub asks : List ℕ → ℕ → List (List ℕ) → Bool
 asks name n ws = same (wordOf ws 0) name && eqb (length ws - 1) n
 
--- SEARCH and ALARM alone, with all that can be lent, or with PLACES BYTES; READ CODE; WRITE CODE HIGH LOW CONFIGURATION
+-- SEARCH and ALARM alone, with all that can be lent, or with PLACES BYTES; READ CODE; WRITE CODE HIGH LOW CONFIGURATION; PINS alone, or with PLACES
 unfoldable pub ofMaster : List (List ℕ) → Request
 ofMaster ws =
     let field = wordOf ws in
@@ -72,6 +76,8 @@ ofMaster ws =
     else if asks (ascii "alarm") 2 ws then lent Alarm (placesIn (field 1)) (bytesIn (field 2))
     else if asks (ascii "read") 1 ws then atCode Read (codeIn (field 1))
     else if asks (ascii "write") 4 ws then writeAsked (codeIn (field 1)) (threeBytesIn (field 2) (field 3) (field 4))
+    else if asks (ascii "pins") 0 ws then Pins mostPlaces
+    else if asks (ascii "pins") 1 ws then pinsAsked (placesIn (field 1))
     else Bad
 
 -- ADD CODE POWER HIGH LOW CONFIGURATION, or with PINS, else 0; RESET; SLOT BIT; CONVERTED CODE COUNT; COPIED, CYCLE, SHOW, WHY CODE

@@ -9,12 +9,12 @@ use lib.Dec.{eqb}
 use lib.ListN.{length}
 use Rattle.lists.specs.ChoiceLaws.{and-left, and-right}
 use Rattle.text.specs.Ascii.{ascii}
-use Rattle.requests.specs.declared.Request.the-variants.{Bad, Reset, Copied, Cycle, Search, Alarm, Read, Show, Why}
+use Rattle.requests.specs.declared.Request.the-variants.{Bad, Reset, Copied, Cycle, Search, Alarm, Read, Show, Why, Pins}
 use Rattle.words.specs.Words.{wordOf}
 use Rattle.lists.specs.Same.{same}
 use Rattle.lists.specs.SameLaws.{same-equal}
 use Rattle.fields.specs.Fields.{codeIn, bitIn, placesIn, bytesIn, pinsIn, countIn, threeBytesIn, powerIn, mostPlaces, mostBytes}
-use Rattle.requests.specs.Requests.{asks, slotAsked, convertedAsked, atCode, lent, writeAsked, addAsked, pinnedAsked, ofMaster, ofBench}
+use Rattle.requests.specs.Requests.{asks, slotAsked, convertedAsked, atCode, lent, pinsAsked, writeAsked, addAsked, pinnedAsked, ofMaster, ofBench}
 
 module _ (name : List ℕ) (n : ℕ) (ws : List (List ℕ)) (e : asks name n ws ≡ true) where
   pub asks-name : wordOf ws 0 ≡ name
@@ -95,7 +95,15 @@ module _ (ws : List (List ℕ)) where
   unfolding ofMaster same
   row-write e = rw (asks-name (ascii "write") 4 ws e, asks-fields (ascii "write") 4 ws e)
 
-  pub no-master-row : asks (ascii "search") 0 ws ≡ false → asks (ascii "alarm") 0 ws ≡ false → asks (ascii "search") 2 ws ≡ false → asks (ascii "alarm") 2 ws ≡ false → asks (ascii "read") 1 ws ≡ false → asks (ascii "write") 4 ws ≡ false
+  pub row-pins-alone : asks (ascii "pins") 0 ws ≡ true → Pins mostPlaces ≡ ofMaster ws
+  unfolding ofMaster same
+  row-pins-alone e = rw (asks-name (ascii "pins") 0 ws e, asks-fields (ascii "pins") 0 ws e)
+
+  pub row-pins : asks (ascii "pins") 1 ws ≡ true → pinsAsked (placesIn (wordOf ws 1)) ≡ ofMaster ws
+  unfolding ofMaster same
+  row-pins e = rw (asks-name (ascii "pins") 1 ws e, asks-fields (ascii "pins") 1 ws e)
+
+  pub no-master-row : asks (ascii "search") 0 ws ≡ false → asks (ascii "alarm") 0 ws ≡ false → asks (ascii "search") 2 ws ≡ false → asks (ascii "alarm") 2 ws ≡ false → asks (ascii "read") 1 ws ≡ false → asks (ascii "write") 4 ws ≡ false → asks (ascii "pins") 0 ws ≡ false → asks (ascii "pins") 1 ws ≡ false
       → Bad ≡ ofMaster ws
   unfolding ofMaster
-  no-master-row a b c d e f = rw (a, b, c, d, e, f)
+  no-master-row a b c d e f g h = rw (a, b, c, d, e, f, g, h)

@@ -3,7 +3,7 @@ ghost use mathlib.Core.Path.{_≡_};
 ghost use Rattle.words.specs.Words.{wordsOf, wordOf};
 ghost use Rattle.fields.specs.Fields.{codeIn, bitIn, placesIn, bytesIn, pinsIn, countIn, threeBytesIn, powerIn};
 ghost use Rattle.requests.specs.declared.Request.the-variants.{Copied, Cycle, Search, Alarm, Read, Show, Why};
-ghost use Rattle.requests.specs.Requests.{asks, slotAsked, convertedAsked, atCode, lent, writeAsked, addAsked, pinnedAsked, ofMaster, ofBench};
+ghost use Rattle.requests.specs.Requests.{asks, slotAsked, convertedAsked, atCode, lent, pinsAsked, writeAsked, addAsked, pinnedAsked, ofMaster, ofBench};
 use crate::Request;
 use device::Joining;
 use fields::MOST_BYTES;
@@ -177,6 +177,17 @@ fn alarm(line: &[u8]) -> Request
     Request::Bad
 }
 
+// `pins PLACES`
+fn pins(line: &[u8]) -> Request
+    ensures { λ r. ⌜ r ≡ pinsAsked (placesIn (wordOf (wordsOf (now (line .entry))) 1)) ⌝ }
+{
+    let places = places_in(word(line, 1));
+    if places.valid {
+        return Request::Pins(places.number as usize);
+    }
+    Request::Bad
+}
+
 // `write CODE HIGH LOW CONFIGURATION`
 fn write(line: &[u8]) -> Request
     ensures { λ r. ⌜ r ≡ writeAsked (codeIn (wordOf (wordsOf (now (line .entry))) 1)) (threeBytesIn (wordOf (wordsOf (now (line .entry))) 2) (wordOf (wordsOf (now (line .entry))) 3) (wordOf (wordsOf (now (line .entry))) 4)) ⌝ }
@@ -234,6 +245,12 @@ fn of_master(line: &[u8]) -> Request
     }
     if asks(line, b"write", 4) {
         return write(line);
+    }
+    if asks(line, b"pins", 0) {
+        return Request::Pins(MOST_PLACES);
+    }
+    if asks(line, b"pins", 1) {
+        return pins(line);
     }
     Request::Bad
 }

@@ -26,6 +26,7 @@ pub enum Request {
     Write { code: u64, settings: Settings },
     Show(u64),
     Why(u64),
+    Pins(usize),
 }
 
 // What a line, without its feed, asks for.

@@ -125,6 +125,12 @@ why-requires c κs = search needs
 why-requires-2 : tie.Need-why-requires-2
 why-requires-2 c κs = search needs
 
+enum-known-request-12 : tie.Need-enum-known-request-12
+enum-known-request-12 c = search needs
+
+found-requires-3 : tie.Need-found-requires-3
+found-requires-3 c κs = search needs
+
 same-length : tie.Need-same-length
 same-length c = search needs
 
@@ -288,6 +294,17 @@ returns-13 c =
     let said = line-says (now (start .args .out)) (start .pre) (says (whyLine (call .why .result)) (start .args .bench)) (arm .why2 .last .1 .1 .0) (arm .why2 .result) (arm .why2 .ensures .0) (arm .why2 .ensures .1 .0) (arm .why2 .ensures .1 .1) in
     rw told (subst (λ (r : Why). Says (now (start .args .out)) (says (whyLine r) (start .args .bench)) (arm .why2 .last .1 .1 .0) (arm .why2 .result)) (call .why .ensures .0) said)
 
+same-length-14 : tie.Need-same-length-14
+same-length-14 c = search needs
+
+returns-14 : tie.Need-returns-14
+unfolding answered
+returns-14 c =
+    let arm = c .before .before in
+    let told = arm .before .before .before .request12 .given .1 in
+    let start = arm .before .before .before .before .before .before in
+    rw told (whole-says (now (start .args .out)) (start .pre) _ (arm .found3 .last .1 .1 .0) (arm .found3 .result) (start .args .bench) (arm .found3 .ensures .0) (arm .found3 .ensures .1 .0) (arm .found3 .ensures .1 .1))
+
 pub respond-spec : {M : Type 1} → statement M
 respond-spec =
     tie.close
@@ -328,6 +345,8 @@ respond-spec =
     enum-known-request-11
     why-requires
     why-requires-2
+    enum-known-request-12
+    found-requires-3
     same-length
     returns
     same-length-2
@@ -353,4 +372,6 @@ respond-spec =
     same-length-12
     returns-12
     same-length-13
-    returns-13)
+    returns-13
+    same-length-14
+    returns-14)

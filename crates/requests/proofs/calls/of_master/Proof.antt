@@ -1,6 +1,6 @@
 -- Row by row: where a row asks, its own request is given; behind the last, none has asked. Assumes nothing.
 use mathlib.Core.Path.{sym, _∙_}
-use Rattle.requests.specs.RequestsLaws.{row-search-alone, row-alarm-alone, row-search, row-alarm, row-read, row-write, no-master-row}
+use Rattle.requests.specs.RequestsLaws.{row-search-alone, row-alarm-alone, row-search, row-alarm, row-read, row-write, row-pins-alone, row-pins, no-master-row}
 use borrow.Author.Needs.{needs}
 use Rattle.requests.proofs.calls.of_master.Statement.{statement}
 use Rattle.requests.proofs.calls.of_master.Tie as tie
@@ -76,15 +76,39 @@ write-requires c κs = search needs
 returns-6 : tie.Need-returns-6
 returns-6 c = c .write .ensures ∙ row-write _ (sym (c .before .before .asks6 .ensures) ∙ c .before .if6 .taken)
 
+slice-aggregate-asks-7 : tie.Need-slice-aggregate-asks-7
+slice-aggregate-asks-7 c = search needs
+
+asks-requires-7 : tie.Need-asks-requires-7
+asks-requires-7 c κs = search needs
+
 returns-7 : tie.Need-returns-7
-returns-7 c =
-    let row6 = c in
+returns-7 c = row-pins-alone _ (sym (c .before .asks7 .ensures) ∙ c .if7 .taken)
+
+slice-aggregate-asks-8 : tie.Need-slice-aggregate-asks-8
+slice-aggregate-asks-8 c = search needs
+
+asks-requires-8 : tie.Need-asks-requires-8
+asks-requires-8 c κs = search needs
+
+pins-requires : tie.Need-pins-requires
+pins-requires c κs = search needs
+
+returns-8 : tie.Need-returns-8
+returns-8 c = c .pins .ensures ∙ row-pins _ (sym (c .before .before .asks8 .ensures) ∙ c .before .if8 .taken)
+
+returns-9 : tie.Need-returns-9
+returns-9 c =
+    let row8 = c in
+    let row7 = row8 .before .before .before in
+    let row6 = row7 .before .before .before in
     let row5 = row6 .before .before .before in
     let row4 = row5 .before .before .before in
     let row3 = row4 .before .before .before in
     let row2 = row3 .before .before .before in
     let row1 = row2 .before .before .before in
     no-master-row _ (sym (row1 .before .asks .ensures) ∙ row1 .if1 .left) (sym (row2 .before .asks2 .ensures) ∙ row2 .if2 .left) (sym (row3 .before .asks3 .ensures) ∙ row3 .if3 .left) (sym (row4 .before .asks4 .ensures) ∙ row4 .if4 .left) (sym (row5 .before .asks5 .ensures) ∙ row5 .if5 .left) (sym (row6 .before .asks6 .ensures) ∙ row6 .if6 .left)
+    (sym (row7 .before .asks7 .ensures) ∙ row7 .if7 .left) (sym (row8 .before .asks8 .ensures) ∙ row8 .if8 .left)
 
 pub of-master-spec : {M : Type 1} → statement M
 of-master-spec =
@@ -112,4 +136,11 @@ of-master-spec =
     asks-requires-6
     write-requires
     returns-6
-    returns-7)
+    slice-aggregate-asks-7
+    asks-requires-7
+    returns-7
+    slice-aggregate-asks-8
+    asks-requires-8
+    pins-requires
+    returns-8
+    returns-9)
