@@ -2,7 +2,7 @@
 
 use crate::bench::{Answer, Bench, Why};
 use crate::device::{Power, Work};
-use crate::master::{self, Found, ALARM, BYTES, PLACES, SEARCH};
+use crate::master::{self, Found, Pin, ALARM, BYTES, PLACES, SEARCH};
 
 /// The lines that answer a line, without their feeds.
 pub fn answer(bench: &mut Bench, line: &[u8]) -> Vec<String> {
@@ -16,6 +16,7 @@ fn call(bench: &mut Bench, text: &str) -> Option<Vec<String>> {
     let line = match words[..] {
         ["search", ref lent @ ..] => return searched(bench, SEARCH, lent),
         ["alarm", ref lent @ ..] => return searched(bench, ALARM, lent),
+        ["pins", ref lent @ ..] => return pinned(bench, lent),
         ["reset"] => bit(bench.reset()),
         ["slot", "0"] => bit(bench.slot(false)),
         ["slot", "1"] => bit(bench.slot(true)),
@@ -42,10 +43,20 @@ fn call(bench: &mut Bench, text: &str) -> Option<Vec<String>> {
 fn searched(bench: &mut Bench, command: u8, lent: &[&str]) -> Option<Vec<String>> {
     let (places, bytes) = match lent {
         [] => (PLACES, BYTES),
-        [places, bytes] => lengths(places, bytes)?,
+        [places, bytes] => (length(places, PLACES)?, length(bytes, BYTES)?),
         _ => return None,
     };
     Some(found(master::search(bench, command, places, bytes)))
+}
+
+/// The address pins, with the places lent, or with what the search needs where none are given.
+fn pinned(bench: &mut Bench, lent: &[&str]) -> Option<Vec<String>> {
+    let places = match lent {
+        [] => PLACES,
+        [places] => length(places, PLACES)?,
+        _ => return None,
+    };
+    Some(pin_numbers(master::pins(bench, places)))
 }
 
 fn power_kind(word: &str) -> Option<Power> {
@@ -91,10 +102,10 @@ fn signed(word: &str) -> Option<i16> {
     i16::try_from(value).ok()
 }
 
-/// The lengths lent to a search: no more than it needs.
-fn lengths(places: &str, bytes: &str) -> Option<(usize, usize)> {
-    let (places, bytes) = (decimal(places)? as usize, decimal(bytes)? as usize);
-    (places <= PLACES && bytes <= BYTES).then_some((places, bytes))
+/// A length lent to a search: no more than it needs.
+fn length(word: &str, needed: usize) -> Option<usize> {
+    let length = decimal(word)? as usize;
+    (length <= needed).then_some(length)
 }
 
 fn refusal(answer: Answer<()>) -> String {
@@ -149,6 +160,17 @@ fn found(answer: Answer<Found>) -> Vec<String> {
     let mut lines = vec![format!("{number} {} {passes} {slots} {}", codes.len(), recording.len())];
     lines.extend(codes.iter().map(|code| format!("{code:016X}")));
     lines.extend(recording.lines().map(String::from));
+    lines
+}
+
+fn pin_numbers(answer: Answer<Vec<Pin>>) -> Vec<String> {
+    let (number, pins) = match answer {
+        Ok(pins) => (0, pins),
+        Err(number) => (number, Vec::new()),
+    };
+    let shared = master::shared(&pins).map_or("-".to_string(), |pin| pin.to_string());
+    let mut lines = vec![format!("{number} {} {shared}", pins.len())];
+    lines.extend(pins.iter().map(|pin| format!("{:016X} {}", pin.code, pin.number)));
     lines
 }
 

@@ -15,6 +15,8 @@ pub struct Generator {
     codes: Vec<u64>,
     /// Among how many devices one is line-powered.
     line_powered_in: usize,
+    /// Address pins are mostly below this: with few numbers probes share them, with all many do not.
+    pin_numbers: usize,
     /// The devices that are added at the start.
     first: usize,
 }
@@ -28,8 +30,9 @@ impl Generator {
         let size = random.of(&[1, 2, 2, 3, 3, 4, 6, 10, 34, 36]);
         let codes = some_codes(&mut random, size);
         let line_powered_in = random.of(&[1, 2, 4, 1000]);
+        let pin_numbers = random.of(&[2, 5, 16]);
         let first = if random.once_in(6) { 0 } else { size };
-        Generator { random, codes, line_powered_in, first }
+        Generator { random, codes, line_powered_in, pin_numbers, first }
     }
 
     /// The calls of the next move.
@@ -41,7 +44,7 @@ impl Generator {
         if bench.is_held() && self.random.once_in(3) {
             return vec![self.finish(bench)];
         }
-        match self.random.below(26) {
+        match self.random.below(27) {
             0 => vec![self.add()],
             1 => vec![self.cycle()],
             2..=4 => vec![self.finish(bench)],
@@ -53,6 +56,7 @@ impl Generator {
             13..=14 => vec![self.show()],
             15 => self.loose_slots(),
             16..=17 => vec![self.why()],
+            18 => self.pins_and_slots(),
             _ => self.command(bench),
         }
     }
@@ -65,7 +69,7 @@ impl Generator {
             lines.push(format!("read {code:016X}").into_bytes());
             lines.push(format!("why {code:016X}").into_bytes());
         }
-        lines.extend([b"alarm".to_vec(), b"search".to_vec()]);
+        lines.extend([b"alarm".to_vec(), b"search".to_vec(), b"pins".to_vec()]);
         lines
     }
 
@@ -95,7 +99,7 @@ impl Generator {
 
     fn adding(&mut self, code: u64) -> Line {
         let power = if self.random.once_in(self.line_powered_in) { "line" } else { "external" };
-        let few = self.random.below(16);
+        let few = self.random.below(self.pin_numbers);
         let pins = match self.random.below(8) {
             0..=1 => String::new(),
             2 => self.random.of(&[" 15", " 16", " 255", " 256", " 007", " 0015", " F", " "]).to_string(),
@@ -140,6 +144,20 @@ impl Generator {
         }
     }
 
+    fn pins(&mut self) -> Line {
+        let places = self.random.of(&["31", "32", "0", "032", "00032", "33"]);
+        if self.random.once_in(3) { format!("pins {places}").into_bytes() } else { b"pins".to_vec() }
+    }
+
+    /// The pins, at times with a function command right behind them: it shows where they leave the bench.
+    fn pins_and_slots(&mut self) -> Vec<Line> {
+        let mut lines = vec![self.pins()];
+        if self.random.once_in(3) {
+            lines.extend(self.function_command().into_iter().map(slot));
+        }
+        lines
+    }
+
     /// The end of what a device is busy with, mostly of the right kind and with a count in range.
     fn finish(&mut self, bench: &Bench) -> Line {
         let busy: Vec<&Device> = bench.devices.iter().filter(|d| d.is_busy()).collect();
@@ -175,7 +193,7 @@ impl Generator {
 
     /// A line that is no call, or only just one: a call with one character changed, put in or left out.
     fn malformed(&mut self, bench: &Bench) -> Line {
-        let mut line = match self.random.below(9) {
+        let mut line = match self.random.below(10) {
             0 => self.add(),
             1 => self.show(),
             2 => self.finish(bench),
@@ -184,6 +202,7 @@ impl Generator {
             5 => b"reset".to_vec(),
             6 => slot(true),
             7 => self.why(),
+            8 => self.pins(),
             _ => vec![b'x'; self.random.below(200)],
         };
         let place = self.random.below(line.len() + 1);
@@ -273,6 +292,7 @@ impl Generator {
                 1 => self.cycle(),
                 2 => self.show(),
                 3 => self.malformed(bench),
+                4 => b"pins 31".to_vec(),
                 _ => self.finish(bench),
             };
             lines.insert(place, line);

@@ -1,4 +1,4 @@
-//! The master: search, alarm search, reading and writing at a code.
+//! The master: search, alarm search, reading and writing at a code, address pins.
 
 use crate::bench::{Answer, Bench};
 use crate::code::{crc, family_of, Family};
@@ -143,6 +143,34 @@ fn judge(family: Family, pad: &[u8; 9]) -> Answer<()> {
     } else {
         Ok(())
     }
+}
+
+/// A code with address pins, and the pin number that its scratchpad shows.
+pub struct Pin {
+    pub code: u64,
+    pub number: u8,
+}
+
+/// A search over a list of this length, then a read at each code of a DS1825.
+pub fn pins(bench: &mut Bench, places: usize) -> Answer<Vec<Pin>> {
+    // Nothing is recorded, so that bytes are never short.
+    let found = search(bench, SEARCH, places, BYTES)?;
+    let mut pins = Vec::new();
+    for code in found.codes {
+        if family_of(code) != Ok(Family::Pinned) {
+            continue;
+        }
+        // A refused reply shows no pins.
+        if let Ok(pad) = read(bench, code) {
+            pins.push(Pin { code, number: pad[4] & 15 });
+        }
+    }
+    Ok(pins)
+}
+
+/// The lowest pin number that two of these have.
+pub fn shared(pins: &[Pin]) -> Option<u8> {
+    (0..16).find(|&number| pins.iter().filter(|pin| pin.number == number).count() >= 2)
 }
 
 pub fn write(bench: &mut Bench, code: u64, asked: [u8; 3]) -> Answer<[u8; 9]> {
