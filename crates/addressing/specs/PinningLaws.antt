@@ -3,7 +3,7 @@
 --     pins-claim       the claim
 -- Assumes nothing.
 use Prim.Native.Nat.{ℕ, zero, suc, _+_, _*_, _/_, _%_, _^_, _<_, _≤_}
-use mathlib.Core.Bool.{Bool, true, false, not, _&&_, _||_}
+use mathlib.Core.Bool.{Bool, true, false, not, _||_}
 use mathlib.Core.List.{List, [], _∷_, _++_, map, append-nil, append-assoc}
 use mathlib.Core.Logic.{_≢_}
 use mathlib.Core.Path.{_≡_, refl, sym, ap, subst, _∙_}
@@ -11,7 +11,7 @@ use native.Mathlib.Omega.{arith}
 use borrow.Author.Tests.{le-ltb, eq-eqb, eqb-true, ltb-true, ltb-false}
 use lib.Bits.{bitAnd, and-high}
 use lib.Dec.{eqb, ltb, lit<, lit≤}
-use lib.ListN.{length, getD, List·getD-map}
+use lib.ListN.{getD, List·getD-map}
 use Rattle.lists.specs.Choice.{if_then_else_}
 use Rattle.lists.specs.Each.{Each, those}
 use Rattle.lists.specs.EachLaws.{each-implies, each-perm, each-at}
@@ -43,19 +43,19 @@ use Rattle.bench_laws.specs.Laws.{place-nowhere, place-live, place-found, devic
 use Rattle.bench_laws.specs.Sound.{codesOf}
 use Rattle.searching.specs.OnTheBench.{same-but-stage, search-calls, search-keeps}
 use Rattle.searching.specs.Thermometers.{unstaged}
-use Rattle.history.specs.Corollaries.{codes-are-added}
-use Rattle.history.specs.Demand.{Comes}
-use Rattle.history.specs.History.{Call, add, Typed, added, after}
-use Rattle.history.specs.Kept.{read-keeps, outcome-keeps}
-use Rattle.history.specs.Theorem.{demand-3}
-use Rattle.addressing.specs.Lasting.{lasts-after}
 use Rattle.master_rules.specs.Access.{readAt}
 use Rattle.master_rules.specs.Pins.{isPinned, pinsShown, PinsFound, pinRead, pinsStep, havePin, sharedFrom, sharedPin, pinsOutcome}
 use Rattle.master_rules.specs.Search.{mostPasses, Outcome, searchOutcome}
 use Rattle.master_rules.specs.SearchLaws.{nobody-there, passes-made, search-accepted}
 use Rattle.master_rules.specs.declared.Access.{Access}
-use Rattle.master_rules.specs.declared.SharedPin.the-variants.{NoPin, Pin}
+use Rattle.master_rules.specs.declared.SharedPin.the-variants.{Pin}
+use Rattle.history.specs.Corollaries.{codes-are-added}
+use Rattle.history.specs.Demand.{Comes}
+use Rattle.history.specs.History.{Call, add, Typed, added, after}
+use Rattle.history.specs.Kept.{read-keeps, outcome-keeps}
+use Rattle.history.specs.Theorem.{demand-3}
 use Rattle.addressing.specs.Bytewise.{Readable, readable-after, readable-slot, readable-reset}
+use Rattle.addressing.specs.Lasting.{lasts-after}
 use Rattle.addressing.specs.Pinning.{pinsAtPlace, pinsAt, readOn, LeastShared, PinsClaim}
 use Rattle.addressing.specs.ReadLaws.{pad-sound, answered, read-answered}
 use Rattle.addressing.specs.ShownLaws.{code-at, restarted-kept, read-kept}

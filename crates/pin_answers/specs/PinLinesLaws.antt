@@ -1,28 +1,30 @@
--- The lines are short, and those of some probes and one more are theirs and its.
+-- The answer to the call for address pins, part by part. A probe's line is at most 21 bytes, so that 32 of them and the counts are within the room.
+--     Put                       what the loop over the probes has put: the lines of the first i, and the place behind them
+--     says-pins                 the counts and the lines behind them are one answer
+--     codes-front, pins-front   the codes and pins found are the front of the list lent and of the pins answered
+--     says-asked                so that what is said of those is said of what the call came to
 -- Assumes nothing.
 use Prim.Native.Nat.{ℕ, zero, suc, _+_, _*_, _<_, _≤_}
-use mathlib.Core.Path.{_≡_, refl, sym, ap, subst, _∙_}
+use mathlib.Core.Path.{_≡_, sym, ap, subst, _∙_}
 use mathlib.Core.Bool.{Bool, true, false}
 use mathlib.Core.List.{List, [], _∷_, _++_, append-assoc, append-nil}
 use native.Mathlib.Omega.{arith}
 use native.Mathlib.Numerals.{add-one}
-use borrow.Author.Tests.{ltb-true}
 use lib.Dec.{ltb, lit≤}
 use lib.ListN.{length, take, getD, replicate, length-append, length-take}
 use lib.Seq.{take-all}
 use Rattle.lists.specs.Choice.{if_then_else_}
 use Rattle.lists.specs.Laid.{laid}
 use Rattle.lists.specs.LaidLaws.{laid-none, laid-length, laid-then}
+use Rattle.refusals.specs.Refusals.{accepted}
 use Rattle.text.specs.DigitsLaws.{digits-length}
 use Rattle.putting.specs.Putting.{lineRoom, Puts}
 use Rattle.putting.specs.FieldsLaws.{byte-digits}
-use Rattle.master_rules.specs.declared.SharedPin.{SharedPin}
-use Rattle.master_rules.specs.declared.SharedPin.the-variants.{NoPin, Pin}
 use Rattle.bench.specs.declared.Bench.{Bench}
 use Rattle.master_rules.specs.Pins.{havePin, sharedFrom, sharedPin, pinsOutcome, pinnedOf, pinsListAfter}
 use Rattle.master_rules.specs.declared.Pinned.{Pinned}
+use Rattle.master_rules.specs.declared.SharedPin.the-variants.{Pin}
 use Rattle.pins.specs.OutcomeLaws.{enough-places, listed-front, found-few}
-use Rattle.refusals.specs.Refusals.{accepted}
 use Rattle.call_answers.specs.Said.{says}
 use Rattle.call_answers.specs.declared.Said.{Said}
 use Rattle.search_answers.specs.Whole.{room, Says}

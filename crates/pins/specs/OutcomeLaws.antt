@@ -21,7 +21,6 @@ use Rattle.lists.specs.LaidLaws.{laid-read, laid-length}
 use Rattle.commands.specs.Commands.{searchRom}
 use Rattle.refusals.specs.Refusals.{accepted, noRoom}
 use Rattle.bench.specs.declared.Bench.{Bench}
-use Rattle.master_rules.specs.declared.Pinned.{Pinned}
 use Rattle.master_rules.specs.Access.{readAt}
 use Rattle.master_rules.specs.Pins.{isPinned, pinsShown, PinsOutcome, PinsFound, pinsStep, nobodyRead, pinsSearched, sharedPin, notPinned, pinsOutcome, pinnedOf}
 use Rattle.master_rules.specs.Search.{Outcome, searchOutcome, answerOf, listAfter}

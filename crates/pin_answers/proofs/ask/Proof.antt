@@ -1,7 +1,6 @@
 -- What is said is the front of the list and of the pins answered. Assumes nothing.
 use denote.Ref.{now}
 use mathlib.Core.Path.{sym}
-use lib.ListN.{length}
 use lib.Seq.{length-take-le}
 use Rattle.pin_answers.specs.PinLinesLaws.{codes-within, pins-within, asked-few, asked-short, says-asked}
 use borrow.Author.Needs.{needs}

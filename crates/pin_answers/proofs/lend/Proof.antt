@@ -1,5 +1,4 @@
 -- A part is as long as asked where it is within the whole, and 32 places are as good as more. Assumes nothing.
-use Prim.Native.Nat.{ℕ}
 use denote.Ref.{now}
 use mathlib.Core.Path.{_≡_, sym, ap, subst, _∙_}
 use native.Mathlib.Omega.{arith}

@@ -1,7 +1,7 @@
 -- Field after field. Assumes nothing.
 use denote.Ref.{now}
 use Rattle.text.specs.Decimal.{decimal}
-use Rattle.text.specs.Digits.{codeDigits, hexDigits}
+use Rattle.text.specs.Digits.{hexDigits}
 use Rattle.putting.specs.PuttingLaws.{puts-field, field-puts}
 use Rattle.pin_answers.specs.PinLines.{pinLine}
 use Rattle.pin_answers.specs.PinLinesLaws.{pin-short}

@@ -1,7 +1,6 @@
 -- Without pins nothing, after a refused reply the bench alone, else one code more (`holds-skip`, `holds-refused`, `holds-read`). Assumes nothing.
 use denote.Ref.{now}
-use Prim.Native.Nat.{_+_, _≤_}
-use mathlib.Core.Path.{_≡_, sym, ap, _∙_}
+use mathlib.Core.Path.{sym, _∙_}
 use native.Mathlib.Omega.{arith}
 use borrow.Author.Tests.{not-true, not-false}
 use borrow.Author.Needs.{needs}

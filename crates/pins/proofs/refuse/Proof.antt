@@ -1,6 +1,4 @@
 -- Nothing is listed, and nobody shares a pin. Assumes nothing.
-use mathlib.Core.Path.{_≡_, refl, ap}
-use Rattle.master_rules.specs.Pins.{sharedFrom}
 use Rattle.pins.specs.ReadingLaws.{nobody-shares, nothing-laid}
 use Rattle.pins.proofs.refuse.Statement.{statement}
 use Rattle.pins.proofs.refuse.Tie as tie

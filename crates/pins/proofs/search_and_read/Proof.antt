@@ -1,11 +1,11 @@
 -- A search that is refused, and one that is done with the reads at the front of what it was lent. Assumes nothing.
 use denote.Ref.{now}
-use mathlib.Core.Path.{_≡_, sym, ap, _∙_}
+use mathlib.Core.Path.{sym, ap, _∙_}
 use native.Mathlib.Omega.{arith}
-use lib.ListN.{length, take}
+use lib.ListN.{take}
 use lib.Seq.{length-take-le}
 use Rattle.lists.specs.LaidLaws.{laid-none}
-use Rattle.master_rules.specs.Pins.{PinsOutcome, nobodyRead, pinsSearched, pinnedOf, pinsListAfter}
+use Rattle.master_rules.specs.Pins.{nobodyRead, pinnedOf, pinsListAfter}
 use Rattle.pins.specs.OutcomeLaws.{listed-most, listed-within, refused-is, done-is, read-few, holds-answer}
 use borrow.Author.Needs.{needs}
 use Rattle.pins.proofs.search_and_read.Statement.{statement}

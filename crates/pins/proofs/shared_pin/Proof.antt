@@ -1,6 +1,6 @@
 -- The loop's invariant: from the number that is looked at on, the answer is still to come. The measure is how many numbers are left. Assumes nothing.
-use Prim.Native.Nat.{ℕ, suc, _+_, _-_, _≤_, _<_}
-use mathlib.Core.Path.{_≡_, refl, sym, ap, _∙_}
+use Prim.Native.Nat.{_-_, _≤_}
+use mathlib.Core.Path.{_≡_, refl, sym, _∙_}
 use native.Mathlib.Omega.{arith}
 use Rattle.master_rules.specs.Pins.{sharedFrom, sharedPin}
 use Rattle.pins.specs.ReadingLaws.{shared-here, shared-on, shared-none}
