@@ -24,10 +24,11 @@ returns c =
     let pin = c .before .before in
     let code = pin .before .before .before .before in
     let start = code .before .before .before in
-    let a = start .args in
-    (puts-field (hexDigits 16 (a .code)) 0x20 (field-puts (now (a .out)) (a .at) (hexDigits 16 (a .code)) 0x20 (code .put-digits .last .0) (code .put-digits .result) (code .put-digits .ensures .0, code .put-digits .ensures .1))
-    (field-puts (code .put-digits .last .0) (code .put-digits .result) (decimal (a .pin)) 0x0A (pin .put-number .last .0) (pin .put-number .result) (pin .put-number .ensures .0, pin .put-number .ensures .1)),
-    pin-short (a .code) (a .pin) (start .fits .pin .fits))
+    let a = start .args in (
+      puts-field (hexDigits 16 (a .code)) 0x20 (field-puts (now (a .out)) (a .at) (hexDigits 16 (a .code)) 0x20 (code .put-digits .last .0) (code .put-digits .result) (code .put-digits .ensures .0, code .put-digits .ensures .1))
+          (field-puts (code .put-digits .last .0) (code .put-digits .result) (decimal (a .pin)) 0x0A (pin .put-number .last .0) (pin .put-number .result) (pin .put-number .ensures .0, pin .put-number .ensures .1)),
+      pin-short (a .code) (a .pin) (start .fits .pin .fits),
+    )
 
 pub put-pin-spec : {M : Type 1} → statement M
 put-pin-spec =
