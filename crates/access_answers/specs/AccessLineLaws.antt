@@ -1,6 +1,6 @@
 -- The line is short: a numerator of thirty-two bits takes at most eleven characters.
 -- Assumes nothing.
-use Prim.Native.Nat.{ℕ, suc, _<_, _≤_}
+use Prim.Native.Nat.{ℕ, _<_, _≤_}
 use mathlib.Core.List.{List, [], _∷_, _++_, append-assoc}
 use mathlib.Core.Path.{_≡_}
 use native.Mathlib.Omega.{arith}
@@ -12,7 +12,7 @@ use Rattle.text.specs.DigitsLaws.{hex-length}
 use Rattle.putting.specs.Putting.{lineRoom}
 use Rattle.putting.specs.FieldsLaws.{byte-digits, word-digits, signed-digits}
 use Rattle.temperature.specs.declared.Reading.{Reading}
-use Rattle.access_answers.specs.AccessLine.{readingDigits, over, accessFields}
+use Rattle.access_answers.specs.AccessLine.{readingDigits, accessFields}
 
 pub access-short : (refusal : ℕ) (pad : List ℕ) (reading : Reading) (n : ℤ) (d : ℕ) → refusal < 256 → length pad ≡ 9 → SFits w32 n → d < 65536
     → length (accessFields refusal pad reading n d) ≤ lineRoom

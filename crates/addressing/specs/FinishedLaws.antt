@@ -7,12 +7,10 @@ use mathlib.Core.Path.{_≡_, refl, sym, ap, subst, _∙_}
 use lib.IntN.{pos, _*ℤ_}
 use lib.ListN.{length, getD, length-set}
 use lib.Seq.{getD-set-same}
-use Rattle.lists.specs.Each.{Each}
 use Rattle.lists.specs.EachLaws.{each-at, each-snoc}
 use Rattle.lists.specs.Fold.{fold}
 use Rattle.lists.specs.FoldLaws.{fold-append}
 use Rattle.refusals.specs.Refusals.{accepted}
-use Rattle.family.specs.declared.Properties.{Properties}
 use Rattle.family.specs.declared.Unit.the-variants.{HalfDegrees as inHalfDegrees}
 use Rattle.temperature.specs.Range.{inRange}
 use Rattle.temperature.specs.declared.Reading.the-variants.{InSixteenths}

@@ -29,7 +29,7 @@ use Rattle.device.specs.OfferLaws.{nine-byte}
 use Rattle.device.specs.Outcomes.{hear-outcome}
 use Rattle.device.specs.Finish.{conversionDone, copyDone}
 use Rattle.device.specs.Power.{powerUp, joined}
-use Rattle.device.specs.Record.{familyRow, holdsWire}
+use Rattle.device.specs.Record.{familyRow}
 use Rattle.device.specs.declared.Device.{Device}
 use Rattle.device.specs.declared.Joining.{Joining}
 use Rattle.bench.specs.Bench.{live, vacant, placeOf, free}
@@ -39,9 +39,9 @@ use Rattle.bench.specs.declared.Bench.{Bench}
 use Rattle.bench.specs.declared.Place.{Place}
 use Rattle.bench.specs.declared.Place.the-variants.{At, Nowhere}
 use Rattle.bench_laws.specs.Everywhere.{Invariant}
-use Rattle.bench_laws.specs.Laws.{place-nowhere, place-live, place-found, device-live, free-live, reset-cases}
+use Rattle.bench_laws.specs.Laws.{place-nowhere, place-live, place-found, device-live, reset-cases}
 use Rattle.bench_laws.specs.Sound.{codesOf}
-use Rattle.searching.specs.OnTheBench.{same-but-stage, search-calls, search-keeps}
+use Rattle.searching.specs.OnTheBench.{same-but-stage, same-free, restarted-keeps, search-calls, search-keeps}
 use Rattle.searching.specs.Thermometers.{unstaged}
 use Rattle.master_rules.specs.Access.{readAt}
 use Rattle.master_rules.specs.Pins.{isPinned, pinsShown, PinsFound, pinRead, pinsStep, havePin, sharedFrom, sharedPin, pinsOutcome}
@@ -58,7 +58,7 @@ use Rattle.addressing.specs.Bytewise.{Readable, readable-after, readable
 use Rattle.addressing.specs.Lasting.{lasts-after}
 use Rattle.addressing.specs.Pinning.{pinsAtPlace, pinsAt, readOn, LeastShared, PinsClaim}
 use Rattle.addressing.specs.ReadLaws.{pad-sound, answered, read-answered}
-use Rattle.addressing.specs.ShownLaws.{code-at, restarted-kept, read-kept}
+use Rattle.addressing.specs.ShownLaws.{code-at, read-kept}
 
 -- ## Pins over 15 never join
 
@@ -152,17 +152,6 @@ kept-low row pins byte p c h = stored-low byte pins (eqb-true byte (storedForm b
 pins-bound : (row : Properties) (pins : ℕ) → row .pinned ≡ true → pinsWrong row pins ≡ false → pins < 16
 pins-bound row pins p h = let k = ltb-false 15 pins (rw p at h) in omega (arith, k)
 
--- ## The wire goes by the devices without their stages
-
-wire-values : (ds : List Device) → all (λ d. not (holdsWire d)) ds ≡ all (λ t. t) (map (λ d. not (holdsWire d)) ds)
-unfolding all
-wire-values [] = refl
-wire-values (d ∷ ds) = let i = wire-values ds in rw i
-
-same-free : (b c : Bench) → map unstaged (live c) ≡ map unstaged (live b) → free c ≡ free b
-same-free b c e =
-    free-live c ∙ wire-values (live c) ∙ ap (all (λ t. t)) (same-but-stage (λ d. not (holdsWire d)) (λ d. refl) (live c) (live b) e) ∙ sym (wire-values (live b)) ∙ sym (free-live b)
-
 -- ## One read
 
 module _ (b : Bench) (few : Each PinsFew (live b)) (f : free b ≡ true) where
@@ -174,8 +163,8 @@ module _ (b : Bench) (few : Each PinsFew (live b)) (f : free b ≡ true) where
     at-c : placeOf c code ≡ At (p .place)
     at-c = same-place b c (s .kept) code ∙ p .at
 
-    read-is : readAt c code ≡ answered c (s .readable) code (p .place) (same-free b c (s .kept) ∙ f) at-c (readOn c code)
-    read-is = read-answered c (s .readable) code (p .place) (same-free b c (s .kept) ∙ f) at-c
+    read-is : readAt c code ≡ answered c (s .readable) code (p .place) (same-free c b (s .kept) ∙ f) at-c (readOn c code)
+    read-is = read-answered c (s .readable) code (p .place) (same-free c b (s .kept) ∙ f) at-c
 
     pin-few : isPinned code ≡ true → pinsAt b code < 16
     pin-few h =
@@ -189,7 +178,7 @@ module _ (b : Bench) (few : Each PinsFew (live b)) (f : free b ≡ true) where
     pin-shown h =
         let row = propertiesOf (familyOf code) in
         let pad = deviceAt c (p .place) .scratchpad in
-        let sound = pad-sound c (s .readable) code (p .place) (same-free b c (s .kept) ∙ f) at-c in
+        let sound = pad-sound c (s .readable) code (p .place) (same-free c b (s .kept) ∙ f) at-c in
         let low : getD pad 4 0 % 16 ≡ deviceAt c (p .place) .pins % 16 =
         kept-low row (deviceAt c (p .place) .pins) (getD pad 4 0) h (pinned-configurable (familyOf code) h) (sound .as-kept) in
         let there : pinsAt b code ≡ deviceAt b (p .place) .pins = ap (pinsAtPlace b) (p .at) in
@@ -272,7 +261,7 @@ search-kept b f = by-presence (resetDone b .presence) refl
         rw (passes-made searchRom b 32 1824 (lit≤ tt) (lit≤ tt) f e) (ap (λ r. map unstaged (live (r .devices))) (search-calls mostPasses b f) ∙ search-keeps mostPasses b)
     by-presence false e =
         rw (nobody-there searchRom b 32 1824 (lit≤ tt) (lit≤ tt) f e)
-        (reset-cases b (λ r. map unstaged (live (r .bench)) ≡ map unstaged (live b)) (λ g. restarted-kept b) (λ g. refl))
+        (reset-cases b (λ r. map unstaged (live (r .bench)) ≡ map unstaged (live b)) (λ g. restarted-keeps b) (λ g. refl))
 
 placed-listed : (b : Bench) (s : Outcome) (ns : List ℕ) → Each (Placed b) ns → Comes searchRom ns ns b s → Each (Placed b) (s .listed)
 placed-listed b s [] e l = rw (l .listed-is) tt

@@ -7,7 +7,7 @@ use mathlib.Core.List.{List, [], _∷_}
 use mathlib.Core.Logic.{_≢_}
 use mathlib.Core.Path.{_≡_, refl, sym, ap, _∙_}
 use native.Mathlib.Omega.{arith}
-use borrow.Author.Tests.{eqb-true, eqb-false, eq-eqb, lt-ltb}
+use borrow.Author.Tests.{eqb-true, eq-eqb, lt-ltb}
 use lib.Dec.{eqb, lit<}
 use lib.ListN.{length, getD, replicate, length-take}
 use lib.Seq.{take-at}
@@ -35,7 +35,7 @@ use Rattle.bench.specs.Bench.{live, vacant, placeOf, free}
 use Rattle.bench.specs.Calls.{deviceAt}
 use Rattle.bench.specs.Slot.{presenceOf, restarted}
 use Rattle.bench.specs.declared.Bench.{Bench}
-use Rattle.bench.specs.declared.Place.the-variants.{At, Nowhere}
+use Rattle.bench.specs.declared.Place.the-variants.{At}
 use Rattle.bench_laws.specs.Laws.{reset-accepted, place-live, place-found, device-live}
 use Rattle.master_rules.specs.declared.Access.{Access}
 use Rattle.master_rules.specs.Access.{addressed, afterSlots, judgedReply, fetched, readBack, admission, readAt}

@@ -35,7 +35,7 @@ use Rattle.bench.specs.declared.Bench.{Bench}
 use Rattle.bench_laws.specs.Laws.{reset-accepted, restarted-live, place-found, place-live, place-nowhere, device-live}
 use Rattle.bench_laws.specs.Sound.{codesOf}
 use Rattle.searching.specs.Buses.{slotRule}
-use Rattle.searching.specs.OnTheBench.{Free, free-restarted}
+use Rattle.searching.specs.OnTheBench.{Free, restarted-keeps, free-restarted}
 use Rattle.searching.specs.Thermometers.{unstaged}
 use Rattle.master_rules.specs.Access.{refusedAt, addressed, afterSlots, readBack, admission, readAt}
 use Rattle.addressing.specs.Unrefused.{addressBits}
@@ -187,13 +187,6 @@ shows-scratchpad b code i fit apart f at long bytes =
 pub shows-ones : ShowsOnes
 shows-ones b code fits fit f at = shown-by-none b code fit fits f (place-nowhere b code at)
 
-reset-kept : (ds : List Device) → map unstaged (map resetOf ds) ≡ map unstaged ds
-reset-kept [] = refl
-reset-kept (d ∷ ds) = let i = reset-kept ds in rw i
-
-pub restarted-kept : (b : Bench) → map unstaged (live (restarted b)) ≡ map unstaged (live b)
-restarted-kept b = ap (map unstaged) (restarted-live b) ∙ reset-kept (live b)
-
 pub read-kept : ReadKeeps
 unfolding readAt readBack
 read-kept b code fits fit = by-admission (eqb (admission b code) accepted) refl
@@ -202,7 +195,7 @@ read-kept b code fits fit = by-admission (eqb (admission b code) accepted) refl
     by-presence true e h =
         let f = admitted-free b code h in
         rw (reset-accepted b f, e) (ap (λ c. map unstaged (live c)) (fetched-bench code (restarted b)) ∙ asked-kept b code fit fits f)
-    by-presence false e h = rw (reset-accepted b (admitted-free b code h), e) (restarted-kept b)
+    by-presence false e h = rw (reset-accepted b (admitted-free b code h), e) (restarted-keeps b)
 
     by-admission : (t : Bool) → eqb (admission b code) accepted ≡ t → map unstaged (live ((if not t then refusedAt (admission b code) b else readBack code b) .bench)) ≡ map unstaged (live b)
     by-admission true e = by-presence (presenceOf b) refl (eqb-true (admission b code) accepted e)

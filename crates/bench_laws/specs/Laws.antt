@@ -7,11 +7,11 @@
 --     ..-refused                   a refused call changes nothing
 --     place-found, place-nowhere   the place of a code is where a device has it; nowhere if none has
 -- Assumes nothing.
-use Prim.Native.Nat.{ℕ, zero, suc, _+_, _<_, _≤_}
+use Prim.Native.Nat.{ℕ, _+_, _<_}
 use mathlib.Core.Path.{_≡_, refl, ap, _∙_}
 use mathlib.Core.Logic.{_≢_}
 use mathlib.Core.Bool.{Bool, true, false, not, _&&_}
-use mathlib.Core.List.{List, [], _∷_, _++_, map}
+use mathlib.Core.List.{[], _∷_, _++_, map}
 use native.Mathlib.Omega.{arith}
 use native.Mathlib.Numerals.{add-one}
 use borrow.Author.Tests.{eqb-true, eqb-false, ltb-true, ne-eqb}
@@ -19,7 +19,7 @@ use lib.Dec.{eqb, ltb}
 use lib.ListN.{length, getD, set, length-set, length-take}
 use lib.Seq.{take-suc-set, take-set-lt, getD-take}
 use Rattle.lists.specs.Choice.{if_then_else_}
-use Rattle.lists.specs.First.{firstWith}
+use Rattle.lists.specs.FirstLaws.{first-cases}
 use Rattle.lists.specs.Fold.{all}
 use Rattle.lists.specs.FrontLaws.{front-taken, front-length}
 use Rattle.lists.specs.Each.{Each}
@@ -123,53 +123,31 @@ reset-accepted b e = rw e
 
 -- ## The place of a code
 
--- the first that passes is at its place, and passes
-record Hit (p : Device → Bool) (k i : ℕ) (l : List Device) : Type 0 where
-  pub from : k ≤ i
-  pub within : i < k + length l
-  pub there : (j : ℕ) → k + j ≡ i → (d : Device) → p (getD l j d) ≡ true
+record Found (b : Bench) (code i : ℕ) : Type 0 where
+  pub within : i < length (live b)
+  pub code-there : getD (live b) i vacant .code ≡ code
 
-first-hits : (p : Device → Bool) (k i : ℕ) (l : List Device) → firstWith p At Nowhere k l ≡ At i → Hit p k i l
-unfolding firstWith
-first-hits p k i [] e = let z : _≡_ {A = ℕ} 0 1 = cc in absurd (omega arith)
-first-hits p k i (d ∷ l) e = by-test (p d) refl (first-hits p (suc k) i l) e
-  where
-    by-test : (t : Bool) → p d ≡ t → (firstWith p At Nowhere (suc k) l ≡ At i → Hit p (suc k) i l)
-        → (if t then At k else firstWith p At Nowhere (suc k) l) ≡ At i → Hit p k i (d ∷ l)
-    by-test true f later e = let g : k ≡ i = cc in record { from = omega arith; within = omega arith; there = here g }
-      where
-        here : k ≡ i → (j : ℕ) → k + j ≡ i → (x : Device) → p (getD (d ∷ l) j x) ≡ true
-        here g zero h x = f
-        here g (suc j) h x = absurd (omega arith)
-    by-test false f later e =
-        let h = later e in record { from = omega (arith, h .from); within = omega (arith, h .within); there = there-later h }
-      where
-        there-later : Hit p (suc k) i l → (j : ℕ) → k + j ≡ i → (x : Device) → p (getD (d ∷ l) j x) ≡ true
-        there-later h zero g x = absurd (omega (arith, h .from))
-        there-later h (suc j) g x = h .there j (omega arith) x
-
-first-misses : (p : Device → Bool) (k : ℕ) (l : List Device) → firstWith p At Nowhere k l ≡ Nowhere → Each (λ d. p d ≡ false) l
-unfolding firstWith
-first-misses p k [] e = tt
-first-misses p k (d ∷ l) e = by-test (p d) refl (first-misses p (suc k) l) e
-  where
-    by-test : (t : Bool) → p d ≡ t → (firstWith p At Nowhere (suc k) l ≡ Nowhere → Each (λ x. p x ≡ false) l)
-        → (if t then At k else firstWith p At Nowhere (suc k) l) ≡ Nowhere → Each (λ x. p x ≡ false) (d ∷ l)
-    by-test true f later e = let z : _≡_ {A = ℕ} 0 1 = cc in absurd (omega arith)
-    by-test false f later e = (f, later e)
+found-at : (b : Bench) (code i : ℕ) → placeOf b code ≡ At i → Found b code i
+unfolding placeOf
+found-at b code i =
+    first-cases (λ d. eqb (d .code) code) At Nowhere 0 (live b) (λ p. p ≡ At i → Found b code i)
+    (λ j within passes same.
+    let g : j ≡ i = let h : 0 + j ≡ i = cc in omega arith in
+    record { within = omega arith; code-there = eqb-true _ code (rw g at (passes vacant)) })
+    (λ none same. let z : _≡_ {A = ℕ} 0 1 = cc in absurd (omega arith))
 
 pub place-live : (b : Bench) (code i : ℕ) → placeOf b code ≡ At i → i < length (live b)
-unfolding placeOf
-place-live b code i e = let h = first-hits (λ d. eqb (d .code) code) 0 i (live b) e in omega arith
+place-live b code i e = found-at b code i e .within
 
 pub place-found : (b : Bench) (code i : ℕ) → placeOf b code ≡ At i → getD (live b) i vacant .code ≡ code
-unfolding placeOf
-place-found b code i e = eqb-true _ code (first-hits (λ d. eqb (d .code) code) 0 i (live b) e .there i (omega arith) vacant)
+place-found b code i e = found-at b code i e .code-there
 
 pub place-nowhere : (b : Bench) (code : ℕ) → placeOf b code ≡ Nowhere → Each (λ d. d .code ≢ code) (live b)
 unfolding placeOf
-place-nowhere b code e =
-    each-implies (λ d. eqb-false (d .code) code) (live b) (first-misses (λ d. eqb (d .code) code) 0 (live b) e)
+place-nowhere b code =
+    first-cases (λ d. eqb (d .code) code) At Nowhere 0 (live b) (λ p. p ≡ Nowhere → Each (λ d. d .code ≢ code) (live b))
+    (λ j within passes same. let z : _≡_ {A = ℕ} 0 1 = cc in absurd (omega arith))
+    (λ none same. each-implies (λ d. eqb-false (d .code) code) (live b) none)
 
 -- ## Adding
 

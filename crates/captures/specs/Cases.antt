@@ -2,7 +2,7 @@
 -- Assumes nothing.
 use Prim.Native.Nat.{ℕ}
 use mathlib.Core.Path.{_≡_, refl}
-use mathlib.Core.List.{List, [], _∷_, _++_, map}
+use mathlib.Core.List.{List, [], _∷_, _++_}
 use Rattle.lists.specs.Fold.{fold, all}
 use Rattle.refusals.specs.Refusals.{accepted, notLater}
 use Rattle.text.specs.Ascii.{ascii}
@@ -12,7 +12,7 @@ use Rattle.bits.specs.Bits.{numberOf, bitsOf, bytesBits}
 use Rattle.frame.specs.Frames.{noBits, packed}
 use Rattle.frame_lines.specs.Writing.{charactersOf}
 use Rattle.frame_lines.specs.Recording.{writeAll}
-use Rattle.captures.specs.Capture.{Course, courseOf, capture, ended}
+use Rattle.captures.specs.Capture.{courseOf, capture, ended}
 
 -- a line with its feed
 abbrev fed : List ℕ → List ℕ

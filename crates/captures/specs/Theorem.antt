@@ -10,7 +10,7 @@
 --     taken-ample            it is enough for that that each buffer is 143 bytes longer than its piece
 --     taken-one-feed         so they are those of a single feed
 -- Assumes nothing.
-use Prim.Native.Nat.{ℕ, _+_, _<_, _≤_}
+use Prim.Native.Nat.{ℕ, _<_, _≤_}
 use mathlib.Core.Path.{_≡_, refl, sym, ap, _∙_}
 use mathlib.Core.Logic.{_≢_}
 use mathlib.Core.Bool.{Bool, true, false}

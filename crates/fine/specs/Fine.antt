@@ -6,7 +6,7 @@
 --     noFine                                      zero over zero, where there is no fine reading
 --     fineOf reading remaining perDegree          of half degrees that fraction of their whole degrees, where the counts are right; else none
 -- Assumes nothing.
-use Prim.Native.Nat.{ℕ, _+_, _-_, _*_}
+use Prim.Native.Nat.{ℕ, _-_, _*_}
 use mathlib.Core.Bool.{Bool, true, _&&_}
 use lib.Dec.{leb, ltb}
 use lib.IntN.{pos, _+ℤ_, _-ℤ_, _*ℤ_}

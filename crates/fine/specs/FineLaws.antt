@@ -2,13 +2,11 @@
 -- The idea: with w = s + 4 and r what w is over 16 t, byte 6 is 16 - r (`remaining-over`). What is over is told by the two signs of w.
 -- Assumes nothing.
 use Prim.Native.Nat.{ℕ, suc, _+_, _-_, _*_, _/_, _%_, _<_, _≤_}
-use mathlib.Core.Path.{_≡_, refl, sym, ap, _∙_}
+use mathlib.Core.Path.{_≡_, sym, ap, _∙_}
 use mathlib.Core.Bool.{true}
 use native.Mathlib.Omega.{arith}
-use borrow.Author.Tests.{lt-ltb, le-leb}
-use lib.Dec.{leb, ltb}
-use lib.IntN.{ℤ, pos, negsuc, negℤ, subℕ, _+ℤ_, _-ℤ_, _*ℤ_, +ℤ-negℤ-cancel}
-use Rattle.lists.specs.Choice.{if_then_else_}
+use borrow.Author.Tests.{le-leb}
+use lib.IntN.{ℤ, pos, negsuc, subℕ, _+ℤ_, _-ℤ_, _*ℤ_, +ℤ-negℤ-cancel}
 use Rattle.family.specs.declared.Unit.the-variants.{HalfDegrees as inHalfDegrees}
 use Rattle.signed.specs.Complement.{Fits16, bits8, bits16}
 use Rattle.signed.specs.DifferencesLaws.{difference-cases, difference-same, pos-difference, negative-difference, difference-negated, difference-sum}
@@ -20,7 +18,7 @@ use Rattle.temperature.specs.Units.{wholeOf}
 use Rattle.temperature.specs.declared.Reading.the-variants.{InHalves}
 use Rattle.temperature.specs.declared.Sixteenths.{Sixteenths}
 use Rattle.temperature.specs.declared.WholeDegrees.{WholeDegrees}
-use Rattle.fine.specs.Fine.{countsPerDegree, remainingOf, countsRight, fraction, fineOf}
+use Rattle.fine.specs.Fine.{countsPerDegree, remainingOf, countsRight, fineOf}
 
 -- ## What is over a multiple of 16
 

@@ -27,19 +27,18 @@ use Rattle.search_law.specs.Numbers.{Below, Numbered}
 use Rattle.search_law.specs.Whole.{search-issued, search-unheard}
 use Rattle.search_law.specs.Searchers.{Searchers}
 use Rattle.search_law.specs.Wire.{Search, searched, passes, slots, ran, run, wireSearch}
-use Rattle.device.specs.Power.{resetOf}
 use Rattle.device.specs.Sound.{Sound}
 use Rattle.device.specs.declared.Device.{Device}
 use Rattle.device.specs.declared.Page.{Page}
 use Rattle.bench.specs.Bench.{live, free}
-use Rattle.bench_laws.specs.Laws.{reset-accepted, restarted-live}
+use Rattle.bench_laws.specs.Laws.{reset-accepted}
 use Rattle.bench.specs.Slot.{resetDone, restarted, presenceOf}
 use Rattle.bench_laws.specs.Sound.{codesOf, BenchSound}
 use Rattle.bench_laws.specs.SoundLaws.{codes-count}
 use Rattle.bench.specs.declared.Bench.{Bench}
 use Rattle.searching.specs.OnTheBench as bench
 use Rattle.searching.specs.Buses.{slotRule}
-use Rattle.searching.specs.OnTheBench.{Free, flaggedCodes, same-but-stage}
+use Rattle.searching.specs.OnTheBench.{Free, flaggedCodes, same-but-stage, restarted-keeps}
 use Rattle.searching.specs.Thermometers.{thermometers, Moving, everybody, everybody-course, flagged, flagged-course, unstaged, numbersOf}
 use Rattle.searching.specs.Course.{Course}
 use Rattle.master_rules.specs.Search.{fewestPlaces, fewestBytes, codeLength, mostPasses, frameOf, lonelyOutcome, foundOutcome, searchRun, searchOutcome, passesIn, slotsIn}
@@ -141,14 +140,9 @@ presence-shown b f = ap (λ r. r .presence) (reset-accepted b f)
 stored-same : (b c : Bench) → map unstaged (live c) ≡ map unstaged (live b) → storedOf c ≡ storedOf b
 stored-same b c e = same-but-stage (λ d. record { scratchpad = d .scratchpad; eeprom = d .eeprom }) (λ d. refl) (live c) (live b) e
 
-unstaged-reset : (ds : List Device) → map unstaged (map resetOf ds) ≡ map unstaged ds
-unstaged-reset [] = refl
-unstaged-reset (d ∷ ds) = let i = unstaged-reset ds in rw i
-
 stored-reset : (b : Bench) → free b ≡ true → storedOf (resetDone b .bench) ≡ storedOf b
 stored-reset b f =
-    rw (reset-accepted b f)
-    (stored-same b (restarted b) (ap (map unstaged) (restarted-live b) ∙ unstaged-reset (live b)))
+    rw (reset-accepted b f) (stored-same b (restarted b) (restarted-keeps b))
 
 -- ## Flags are the verdicts of the book
 

@@ -1,10 +1,10 @@
 -- What holds of each element of a list: kept by a weaker claim, by a permutation, which also keeps the length, by one more at the end or a list behind it, by a function that keeps it,
--- and by one element replaced; distinct elements stay so with a new one at the end; and two tests that agree pick the same.
+-- and by one element replaced; distinct elements stay so with a new one at the end; two tests that agree pick the same; and those of two lists are those of the one and then of the other.
 -- Assumes nothing.
 use mathlib.Core.List.{List, [], _∷_, _++_, map, List·Permᴰ, List·Permᴰ·nil, List·Permᴰ·cons, List·Permᴰ·swap, List·Permᴰ·trans}
 use Rattle.lists.specs.Choice.{if_then_else_}
 use Rattle.lists.specs.Each.{Each, Distinct, those}
-use mathlib.Core.Bool.{Bool}
+use mathlib.Core.Bool.{Bool, true, false}
 use mathlib.Core.Path.{_≡_, refl, ap, _∙_}
 use mathlib.Core.Logic.{_≢_}
 use native.Mathlib.Omega.{arith}
@@ -63,3 +63,14 @@ unfolding those
 those-same p q [] e = refl
 those-same p q (x ∷ l) e =
     ap (λ (u : Bool). if u then x ∷ those p l else those p l) (e .0) ∙ ap (λ m. if q x then x ∷ m else m) (those-same p q l (e .1))
+
+-- Those of two lists, one behind the other.
+pub those-append : {A : Type 0} (p : A → Bool) (l m : List A) → those p (l ++ m) ≡ those p l ++ those p m
+unfolding those
+those-append p [] m = refl
+those-append p (x ∷ l) m = by-test (p x) (those-append p l m)
+  where
+    by-test : (t : Bool) → those p (l ++ m) ≡ those p l ++ those p m
+        → (if t then x ∷ those p (l ++ m) else those p (l ++ m)) ≡ (if t then x ∷ those p l else those p l) ++ those p m
+    by-test true e = ap (λ k. x ∷ k) e
+    by-test false e = e

@@ -3,11 +3,12 @@
 --     first-hit, first-miss, first-skip, first-end           one turn of a loop that looks for the first
 --     at-within, at-none, at-there, at-here, at-on, at-end   how many stand before the first that is v, what they are, and one turn of a loop that looks for it
 --     all-onward, all-stopped, all-skip, all-passed          one turn of a loop that returns at the first that fails
+--     first-cases, first-none, first-append, first-mapped    where the first stands, or none; of two lists; of what a function makes of each
 -- Assumes nothing.
 use Prim.Native.Nat.{ℕ, suc, _+_, _<_, _≤_}
-use mathlib.Core.Path.{_≡_, refl, sym, ap, _∙_}
+use mathlib.Core.Path.{_≡_, refl, sym, ap, subst, _∙_}
 use mathlib.Core.Bool.{Bool, true, false, not}
-use mathlib.Core.List.{List, [], _∷_}
+use mathlib.Core.List.{List, [], _∷_, _++_, map}
 use native.Mathlib.Omega.{arith}
 use native.Mathlib.Numerals.{add-one}
 use borrow.Author.Tests.{eq-eqb, ne-eqb, eqb-true}
@@ -15,6 +16,7 @@ use lib.Dec.{eqb}
 use lib.ListN.{length, take, drop, getD, length-take, drop-of-length-le}
 use lib.Seq.{drop-cons, getD-take}
 use Rattle.lists.specs.Choice.{if_then_else_}
+use Rattle.lists.specs.Each.{Each}
 use Rattle.lists.specs.Fold.{all}
 use Rattle.lists.specs.FoldLaws.{all-passes, all-fails, all-end}
 use Rattle.lists.specs.First.{firstWith, firstAt}
@@ -115,3 +117,39 @@ module _ (v : ℕ) (l : List ℕ) (i : ℕ) where
   pub at-end : length l ≤ i → i + firstAt v (drop i l) ≡ i
   unfolding firstAt
   at-end h = rw (drop-of-length-le l h) (omega arith)
+
+-- ## Where the first stands
+
+-- What holds of the place of one that passes, and where none passes, holds of the answer.
+pub first-cases : {A R : Type 0} (p : A → Bool) (f : ℕ → R) (z : R) (k : ℕ) (l : List A) (P : R → Type 0)
+    → ((i : ℕ) → i < length l → ((d : A) → p (getD l i d) ≡ true) → P (f (k + i))) → (Each (λ x. p x ≡ false) l → P z) → P (firstWith p f z k l)
+unfolding firstWith
+first-cases p f z k [] P hit miss = miss tt
+first-cases p f z k (x ∷ l) P hit miss =
+    by-test (p x) refl (λ e. first-cases p f z (suc k) l P
+    (λ i h t. subst (λ (n : ℕ). P (f n)) (omega arith) (hit (suc i) (omega arith) t))
+    (λ rest. miss (e, rest)))
+  where
+    by-test : (t : Bool) → p x ≡ t → (p x ≡ false → P (firstWith p f z (suc k) l)) → P (if t then f k else firstWith p f z (suc k) l)
+    by-test true e later = subst (λ (n : ℕ). P (f n)) (omega arith) (hit 0 (omega arith) (λ d. e))
+    by-test false e later = later e
+
+pub first-none : {A R : Type 0} (p : A → Bool) (f : ℕ → R) (z : R) (k : ℕ) (l : List A) → Each (λ x. p x ≡ false) l → firstWith p f z k l ≡ z
+unfolding firstWith
+first-none p f z k [] e = refl
+first-none p f z k (x ∷ l) e = rw (e .0) (first-none p f z (suc k) l (e .1))
+
+-- of two lists, behind the first of which the second is looked at
+pub first-append : {A R : Type 0} (p : A → Bool) (f : ℕ → R) (z : R) (k : ℕ) (l m : List A)
+    → firstWith p f z k (l ++ m) ≡ firstWith p f (firstWith p f z (k + length l) m) k l
+unfolding firstWith
+first-append p f z k [] m = ap (λ (n : ℕ). firstWith p f z n m) (omega arith)
+first-append p f z k (x ∷ l) m =
+    ap (λ r. if p x then f k else r) (first-append p f z (suc k) l m ∙ ap (λ (n : ℕ). firstWith p f (firstWith p f z n m) (suc k) l) (omega arith))
+
+-- of what a function makes of each
+pub first-mapped : {A B R : Type 0} (g : A → B) (q : B → Bool) (f : ℕ → R) (z : R) (k : ℕ) (l : List A)
+    → firstWith (λ x. q (g x)) f z k l ≡ firstWith q f z k (map g l)
+unfolding firstWith
+first-mapped g q f z k [] = refl
+first-mapped g q f z k (x ∷ l) = ap (λ r. if q (g x) then f k else r) (first-mapped g q f z (suc k) l)

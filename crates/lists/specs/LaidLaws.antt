@@ -64,3 +64,11 @@ laid-next d at x i n z v e h k same =
 pub laid-then : {A : Type 0} (d : List A) (at : ℕ) (x y : List A) (n : ℕ) → at + length x ≡ n → n ≤ length d
     → laid (laid d at x) n y ≡ laid d at (x ++ y)
 laid-then d at x y n e h = rw (← e) (laid-more d at x y (omega arith))
+
+-- what is laid at the front is the front, and there is room for it
+pub laid-front : {A : Type 0} (d x d' : List A) (n : ℕ) → n ≡ length x → d' ≡ laid d 0 x → length x ≤ length d
+    → (n ≤ length d') × (take n d' ≡ x) × (n ≡ length (take n d'))
+laid-front d x d' n count so within =
+    let size : length d' ≡ length d = ap length so ∙ laid-length d 0 x (omega arith) in
+    let front : take n d' ≡ x = rw (count, so) (laid-read d 0 x (omega arith)) in
+    (omega arith, front, count ∙ ap length (sym front))

@@ -10,7 +10,7 @@
 use Prim.Native.Nat.{ℕ, zero, suc, _+_, _*_, _-_, _<_, _≤_}
 use mathlib.Core.Path.{_≡_, refl, sym, ap, subst, _∙_}
 use mathlib.Core.Bool.{Bool, true, false, not, _&&_, _||_}
-use mathlib.Core.List.{List, [], _∷_, _++_, map, append-assoc, append-nil}
+use mathlib.Core.List.{List, [], _∷_, _++_, map, append-nil}
 use native.Mathlib.Omega.{arith}
 use native.Mathlib.Nat.{le-of-eq}
 use native.Mathlib.Numerals.{add-one}
@@ -28,6 +28,7 @@ use Rattle.refusals.specs.Refusals.{accepted, noRoom, wireBusy}
 use Rattle.frame.specs.Frames.{blankFrame, lineable}
 use Rattle.frame.specs.FramesLaws.{recorded-all, blank-held, blank-lineable}
 use Rattle.frame_lines.specs.Recording.{writeAll}
+use Rattle.frame_lines.specs.RecordingLaws.{write-append}
 use Rattle.frame_lines.specs.Writing.{fedLine, lineWriteAnswer, lineWriteLeaves}
 use Rattle.frame_lines.specs.WritingLaws.{fed-length, write-done}
 use Rattle.frame.specs.declared.Frame.{Frame}
@@ -194,8 +195,7 @@ slots-more fs f = fold-append (λ (n : ℕ) (g : Frame). n + g .count) 0 fs (f �
 
 written-more : (fs : List Frame) (f : Frame) → writeAll (fs ++ f ∷ []) ≡ writeAll fs ++ fedLine f
 unfolding writeAll
-written-more [] f = append-nil (fedLine f)
-written-more (g ∷ fs) f = ap (λ (l : List ℕ). fedLine g ++ l) (written-more fs f) ∙ sym (append-assoc (fedLine g) (writeAll fs) (fedLine f))
+written-more fs f = write-append fs (f ∷ []) ∙ ap (λ (l : List ℕ). writeAll fs ++ l) (append-nil (fedLine f))
 
 -- ## A pass more
 

@@ -9,7 +9,7 @@
 --     pinsOutcome b places   the call on bench b with a list of so many places: 1 for fewer than 32, then 10
 --     pinnedOf, pinsListAfter      what the caller gets: the numbers, and the list
 -- No reset follows the last read, nor the search where no such probe is there. Assumes nothing.
-use Prim.Native.Nat.{ℕ, zero, suc, _+_, _-_, _%_}
+use Prim.Native.Nat.{ℕ, zero, suc, _+_, _%_}
 use mathlib.Core.Bool.{Bool}
 use mathlib.Core.List.{List, [], _∷_, _++_}
 use lib.Dec.{eqb, ltb}

@@ -1,23 +1,25 @@
 -- The line is short, and is the two fields; nothing is laid for a line that was kept.
 -- Assumes nothing.
-use Prim.Native.Nat.{ℕ, _<_, _≤_}
+use Prim.Native.Nat.{ℕ, _^_, _<_, _≤_}
 use mathlib.Core.Path.{_≡_, refl, ap, _∙_}
-use mathlib.Core.Bool.{true}
-use mathlib.Core.List.{List}
+use mathlib.Core.Bool.{Bool, true, false}
+use mathlib.Core.List.{List, []}
 use native.Mathlib.Omega.{arith}
 use borrow.Author.Tests.{eq-eqb}
+use lib.Dec.{eqb}
 use lib.ListN.{length, take, length-append}
+use Rattle.lists.specs.Choice.{if_then_else_}
 use Rattle.lists.specs.LaidLaws.{laid-none, laid-read}
 use Rattle.refusals.specs.Refusals.{accepted}
 use Rattle.text.specs.DecimalLaws.{decimal-length, decimal-most}
 use Rattle.laying.specs.Laying.{hasRoom}
 use Rattle.laying.specs.declared.Written.{Written}
 use Rattle.putting.specs.Putting.{lineRoom, lineAnswer, lineLeaves}
-use Rattle.mending_answers.specs.Notice.{noticeLine, noticeOf}
+use Rattle.mending_answers.specs.Notice.{noticeLine, noticeOf, mostTold}
 
-pub notice-short : (n b : ℕ) → n < 18446744073709551616 → b < 256 → length (noticeLine n b) ≤ lineRoom
+pub line-most : (n b : ℕ) → n < 2 ^ 64 → b < 256 → length (noticeLine n b) ≤ mostTold
 unfolding noticeLine
-notice-short n b h k =
+line-most n b h k =
     let x : n < 100000000000000000000 = omega arith in
     let y : b < 1000 = omega arith in
     let p = decimal-most n 19 x in
@@ -25,6 +27,16 @@ notice-short n b h k =
     let c = decimal-length n in
     let d = decimal-length b in
     simp length-append (omega arith)
+
+pub notice-short : (n b : ℕ) → n < 2 ^ 64 → b < 256 → length (noticeLine n b) ≤ lineRoom
+notice-short n b h k = omega (arith, line-most n b h k)
+
+pub notice-most : (n b : ℕ) → n < 2 ^ 64 → b < 256 → length (noticeOf n b) ≤ mostTold
+notice-most n b h k = by-test (eqb b 0)
+  where
+    by-test : (t : Bool) → length (if t then [] else noticeLine n b) ≤ mostTold
+    by-test true = omega arith
+    by-test false = line-most n b h k
 
 pub notice-none : (out : List ℕ) (n b : ℕ) → b ≡ 0 → hasRoom out 0 lineRoom ≡ true
     → (record { refusal = accepted; next = 0 } ≡ lineAnswer out 0 (noticeOf n b)) × (out ≡ lineLeaves out 0 (noticeOf n b))

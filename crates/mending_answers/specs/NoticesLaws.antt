@@ -9,19 +9,17 @@ use mathlib.Core.List.{List, [], _∷_, _++_, append-assoc, append-nil}
 use native.Mathlib.Omega.{arith}
 use native.Mathlib.Numerals.{add-one}
 use borrow.Author.Tests.{le-leb, lt-leb}
-use lib.Dec.{eqb}
 use lib.ListN.{length, take, getD, length-append}
 use lib.Seq.{take-suc, take-all, length-take-le}
-use Rattle.lists.specs.Choice.{if_then_else_}
 use Rattle.lists.specs.Laid.{laid}
 use Rattle.lists.specs.LaidLaws.{laid-none, laid-length, laid-read}
 use Rattle.refusals.specs.Refusals.{accepted, noRoom}
-use Rattle.text.specs.DecimalLaws.{decimal-length, decimal-most}
 use Rattle.laying.specs.declared.Written.{Written}
 use Rattle.laying.specs.Laying.{layAnswer, layLeaves}
 use Rattle.laying.specs.LayingLaws.{lay-fits, lay-behind}
 use Rattle.mending_answers.specs.declared.Noticed.{Noticed}
-use Rattle.mending_answers.specs.Notice.{noticeLine, noticeOf, lineNumber, noticesOf, mostTold, noticesRoom, noticesAnswer, noticesLeaves, Tellable, of-report, no-room}
+use Rattle.mending_answers.specs.NoticeLaws.{notice-most}
+use Rattle.mending_answers.specs.Notice.{noticeOf, lineNumber, noticesOf, mostTold, noticesRoom, noticesAnswer, noticesLeaves, Tellable, of-report, no-room}
 
 -- ## A report in parts
 
@@ -45,21 +43,6 @@ pub notices-wrap : (r : List ℕ) (n : ℕ) → noticesOf (n % 2 ^ 64) r ≡ not
 notices-wrap r n = same-numbers r (n % 2 ^ 64) n (omega arith)
 
 -- ## Line by line
-
-pub notice-most : (n b : ℕ) → n < 2 ^ 64 → b < 256 → length (noticeOf n b) ≤ mostTold
-unfolding noticeLine
-notice-most n b h k = by-test (eqb b 0)
-  where
-    by-test : (t : Bool) → length (if t then [] else noticeLine n b) ≤ mostTold
-    by-test true = omega arith
-    by-test false =
-        let x : n < 100000000000000000000 = omega arith in
-        let y : b < 1000 = omega arith in
-        let p = decimal-most n 19 x in
-        let q = decimal-most b 2 y in
-        let c = decimal-length n in
-        let d = decimal-length b in
-        simp length-append (omega arith)
 
 -- the loop's invariant: what is told of the first i lines is laid
 pub record Noting (before : ℕ) (report out₀ : List ℕ) (i number written : ℕ) (out : List ℕ) : Type 0 where

@@ -15,7 +15,7 @@ use lib.ListN.{length, take, getD, replicate, length-append, length-take}
 use lib.Seq.{take-all}
 use Rattle.lists.specs.Choice.{if_then_else_}
 use Rattle.lists.specs.Laid.{laid}
-use Rattle.lists.specs.LaidLaws.{laid-none, laid-length, laid-then}
+use Rattle.lists.specs.LaidLaws.{laid-none, laid-length, laid-read, laid-then}
 use Rattle.refusals.specs.Refusals.{accepted}
 use Rattle.text.specs.DigitsLaws.{digits-length}
 use Rattle.putting.specs.Putting.{lineRoom, Puts}
@@ -24,7 +24,7 @@ use Rattle.bench.specs.declared.Bench.{Bench}
 use Rattle.master_rules.specs.Pins.{havePin, sharedFrom, sharedPin, pinsOutcome, pinnedOf, pinsListAfter}
 use Rattle.master_rules.specs.declared.Pinned.{Pinned}
 use Rattle.master_rules.specs.declared.SharedPin.the-variants.{Pin}
-use Rattle.pins.specs.OutcomeLaws.{enough-places, listed-front, found-few}
+use Rattle.pins.specs.OutcomeLaws.{enough-places, found-few}
 use Rattle.call_answers.specs.Said.{says}
 use Rattle.call_answers.specs.declared.Said.{Said}
 use Rattle.search_answers.specs.Whole.{room, Says}
@@ -135,12 +135,12 @@ module _ (b : Bench) (list list' : List ℕ) (r : Pinned) (is : r ≡ pinnedOf (
   count-is = ap (λ (q : Pinned). q .codes) is
 
   pub codes-front : take (r .codes) list' ≡ pinsOutcome b (length list) .found .codes
-  codes-front = ap (λ (n : ℕ). take n list') count-is ∙ ap (take (length (pinsOutcome b (length list) .found .codes))) so ∙ listed-front list (pinsOutcome b (length list) .found .codes)
+  codes-front = ap (λ (n : ℕ). take n list') count-is ∙ ap (take (length (pinsOutcome b (length list) .found .codes))) so ∙ laid-read list 0 (pinsOutcome b (length list) .found .codes) (omega arith)
 
   pub pins-front : take (r .codes) (r .pins) ≡ pinsOutcome b (length list) .found .pins
   pins-front =
       let f = pinsOutcome b (length list) .found in
-      ap (λ (n : ℕ). take n (r .pins)) (count-is ∙ sym (found-few b (length list) .as-many)) ∙ ap (λ (q : Pinned). take (length (f .pins)) (q .pins)) is ∙ listed-front (replicate 32 0) (f .pins)
+      ap (λ (n : ℕ). take n (r .pins)) (count-is ∙ sym (found-few b (length list) .as-many)) ∙ ap (λ (q : Pinned). take (length (f .pins)) (q .pins)) is ∙ laid-read (replicate 32 0) 0 (f .pins) (omega arith)
 
   pub codes-within : r .codes ≤ length list'
   codes-within = omega (arith, length-take (r .codes) list', ap length codes-front, count-is)

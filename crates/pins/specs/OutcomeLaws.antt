@@ -17,7 +17,7 @@ use lib.ListN.{length, take, replicate, length-append}
 use Rattle.lists.specs.Choice.{if_then_else_}
 use Rattle.lists.specs.Fold.{fold}
 use Rattle.lists.specs.Laid.{laid}
-use Rattle.lists.specs.LaidLaws.{laid-read, laid-length}
+use Rattle.lists.specs.LaidLaws.{laid-read, laid-front}
 use Rattle.commands.specs.Commands.{searchRom}
 use Rattle.refusals.specs.Refusals.{accepted, noRoom}
 use Rattle.bench.specs.declared.Bench.{Bench}
@@ -36,10 +36,6 @@ few-places b places h = rw (lt-ltb places 32 h)
 pub enough-places : (b : Bench) (places : ℕ) → 32 ≤ places → pinsOutcome b places ≡ pinsSearched (searchOutcome searchRom b 32 1824)
 unfolding pinsOutcome
 enough-places b places h = rw (le-ltb places 32 h)
-
--- what is laid at the front of a list is read there again
-pub listed-front : (list listed : List ℕ) → take (length listed) (laid list 0 listed) ≡ listed
-listed-front list listed = laid-read list 0 listed (omega arith)
 
 -- ## A search in room lent for it
 
@@ -64,17 +60,17 @@ module _ (b : Bench) (list recording list' : List ℕ) (r : Searched) (places : 
   list-is : list' ≡ laid list 0 (whole b .listed)
   list-is = so ∙ ap (λ (o : Outcome). laid list 0 (o .listed)) outcome
 
+  front : (r .codes ≤ length list') × (take (r .codes) list' ≡ whole b .listed) × (r .codes ≡ length (take (r .codes) list'))
+  front = let few = search-bounded searchRom b 32 1824 .codes-most in laid-front list (whole b .listed) list' (r .codes) codes-are list-is (omega arith)
+
   pub listed-part : take (r .codes) list' ≡ whole b .listed
-  listed-part = ap (λ (n : ℕ). take n list') codes-are ∙ ap (take (length (whole b .listed))) list-is ∙ listed-front list (whole b .listed)
+  listed-part = front .1
 
   pub listed-most : length (take (r .codes) list') ≤ 32
   listed-most = rw listed-part (search-bounded searchRom b 32 1824 .codes-most)
 
   pub listed-within : r .codes ≤ length list'
-  listed-within =
-      let few = search-bounded searchRom b 32 1824 .codes-most in
-      let size : length list' ≡ length list = ap length list-is ∙ laid-length list 0 (whole b .listed) (omega arith) in
-      omega (arith, codes-are)
+  listed-within = front .0
 
   pub refused-is : r .refusal ≢ accepted → pinsSearched (whole b) ≡ notPinned (r .refusal) (r .bench)
   refused-is n =
@@ -107,7 +103,7 @@ pub holds-answer : (list0 list : List ℕ) (r : Reading) (f : PinsFound) → Hol
     → record { refusal = accepted; codes = r .codes; pins = r .pins; shared = sharedPin (take (r .codes) (r .pins)); bench = r .bench } ≡ pinnedOf (record { refusal = accepted; found = f })
 holds-answer list0 list r f h =
     let front : take (r .codes) (r .pins) ≡ f .pins =
-    ap (λ (l : List ℕ). take (r .codes) l) (h .pins-are) ∙ ap (λ (n : ℕ). take n (laid (replicate 32 0) 0 (f .pins))) (h .codes-are ∙ sym (h .as-many)) ∙ listed-front (replicate 32 0) (f .pins) in
+    ap (λ (l : List ℕ). take (r .codes) l) (h .pins-are) ∙ ap (λ (n : ℕ). take n (laid (replicate 32 0) 0 (f .pins))) (h .codes-are ∙ sym (h .as-many)) ∙ laid-read (replicate 32 0) 0 (f .pins) (omega arith) in
     rw (front, h .codes-are, h .pins-are, h .bench-is)
 
 -- ## How many are found

@@ -13,6 +13,7 @@ use lib.Seq.{take-suc}
 use native.Mathlib.Numerals.{add-one}
 use Rattle.lists.specs.Choice.{if_then_else_}
 use Rattle.lists.specs.Each.{those}
+use Rattle.lists.specs.EachLaws.{those-append}
 use Rattle.lists.specs.Laid.{laid}
 use Rattle.lists.specs.LaidLaws.{laid-none, laid-store}
 use Rattle.refusals.specs.Refusals.{accepted}
@@ -61,15 +62,6 @@ module _ (list0 list : List ℕ) (r : Reading) (f : PinsFound) (code : ℕ) (h :
         (record { room = room; codes-are = omega arith; as-many = omega arith; pins-are = stored; list-is = listed; bench-is = ap (λ (b : Bench). readAt b code .bench) (h .bench-is) })
 
 -- ## How many have a pin number, one more at a time
-
-those-append : (t : ℕ → Bool) (l m : List ℕ) → those t (l ++ m) ≡ those t l ++ those t m
-unfolding those
-those-append t [] m = refl
-those-append t (x ∷ l) m = by-test (t x) (those-append t l m)
-  where
-    by-test : (u : Bool) → those t (l ++ m) ≡ those t l ++ those t m → (if u then x ∷ those t (l ++ m) else those t (l ++ m)) ≡ (if u then x ∷ those t l else those t l) ++ those t m
-    by-test true e = ap (λ (k : List ℕ). x ∷ k) e
-    by-test false e = e
 
 pub have-none : (pins : List ℕ) (p : ℕ) → 0 ≡ havePin (take 0 pins) p
 unfolding those

@@ -10,7 +10,7 @@ use lib.Dec.{ltb}
 use lib.ListN.{length, take, getD, length-append}
 use lib.Seq.{length-take-le, take-all}
 use Rattle.lists.specs.Laid.{laid}
-use Rattle.lists.specs.LaidLaws.{laid-none, laid-length, laid-read, laid-then}
+use Rattle.lists.specs.LaidLaws.{laid-none, laid-length, laid-front, laid-then}
 use Rattle.refusals.specs.Refusals.{accepted}
 use Rattle.laying.specs.Laying.{layAnswer, layLeaves}
 use Rattle.laying.specs.LayingLaws.{lay-fits}
@@ -100,25 +100,18 @@ module _ (out₀ : List ℕ) (at : ℕ) (cs : List ℕ) (fits : at + 17 * length
 -- ## What a search left in what it was lent
 
 -- the front of a list that was laid over
-pub front-part : {A : Type 0} (d x d' : List A) (n : ℕ) → n ≡ length x → d' ≡ laid d 0 x → length x ≤ length d
-    → (n ≤ length d') × (take n d' ≡ x) × (n ≡ length (take n d'))
-front-part d x d' n count so within =
-    let size : length d' ≡ length d = ap length so ∙ laid-length d 0 x (omega arith) in
-    let front : take n d' ≡ x = rw (count, so) (laid-read d 0 x (omega arith)) in
-    (omega arith, front, count ∙ ap length (sym front))
-
 module _ (command : ℕ) (b : Bench) (list recording list' recording' : List ℕ) (r : Searched) (is : r ≡ answerOf (searchOutcome command b (length list) (length recording))) where
   pub codes-part : list' ≡ listAfter list (searchOutcome command b (length list) (length recording))
       → (r .codes ≤ length list') × (take (r .codes) list' ≡ searchOutcome command b (length list) (length recording) .listed) × (r .codes ≡ length (take (r .codes) list'))
   codes-part so =
-      front-part list (searchOutcome command b (length list) (length recording) .listed) list' (r .codes) (ap (λ (q : Searched). q .codes) is) so
+      laid-front list (searchOutcome command b (length list) (length recording) .listed) list' (r .codes) (ap (λ (q : Searched). q .codes) is) so
       (search-bounded command b (length list) (length recording) .codes-lent)
 
   pub bytes-part : recording' ≡ recordingAfter recording (searchOutcome command b (length list) (length recording))
       → (r .bytes ≤ length recording') × (take (r .bytes) recording' ≡ writeAll (searchOutcome command b (length list) (length recording) .frames))
       × (r .bytes ≡ length (take (r .bytes) recording'))
   bytes-part so =
-      front-part recording (writeAll (searchOutcome command b (length list) (length recording) .frames)) recording' (r .bytes) (ap (λ (q : Searched). q .bytes) is) so
+      laid-front recording (writeAll (searchOutcome command b (length list) (length recording) .frames)) recording' (r .bytes) (ap (λ (q : Searched). q .bytes) is) so
       (search-bounded command b (length list) (length recording) .bytes-lent)
 
 module _ (d : List ℕ) (o : Outcome) (r : Searched) (cs fs d' : List ℕ) (s : Said) where

@@ -10,6 +10,7 @@
 --     ..-listed      each code is listed once, in order
 --     ..-complete    as many passes as codes, each of 200 slots, and what each shows
 --     ..-passes      the search is the passes of these codes, slot by slot
+--     same-but-stage, same-free, restarted-keeps    what goes by the devices without their stages, which a reset keeps
 --     alarm-none     where no flag is set: one pass, of the command and two reads
 --     ..-keeps       no device changes but for its stage
 --     ..-free, ..-codes, ..-sound     whether the wire is free, who takes part and what holds of every bench: as before
@@ -64,6 +65,33 @@ alarmSearchOn fuel b = wireSearch slotRule alarmBits fuel 64 b
 abbrev pub flaggedCodes : Bench → List ℕ
 flaggedCodes b = numbersOf (those (λ d. d .alarm) (live b))
 
+-- ## What goes by the devices without their stages
+
+through : {A : Type 0} (f : Device → A) → ((d : Device) → f (unstaged d) ≡ f d) → (ds : List Device) → map f (map unstaged ds) ≡ map f ds
+through f h [] = refl
+through f h (d ∷ ds) = let i = through f h ds in rw (h d, i)
+
+-- whatever a device has besides its stage is the same for each
+pub same-but-stage : {A : Type 0} (f : Device → A) → ((d : Device) → f (unstaged d) ≡ f d) → (ds es : List Device) → map unstaged ds ≡ map unstaged es
+    → map f ds ≡ map f es
+same-but-stage f h ds es e = sym (through f h ds) ∙ ap (map f) e ∙ through f h es
+
+wire-unstaged : (ds : List Device) → all (λ d. not (holdsWire d)) (map unstaged ds) ≡ all (λ d. not (holdsWire d)) ds
+unfolding all
+wire-unstaged [] = refl
+wire-unstaged (d ∷ ds) = let i = wire-unstaged ds in rw i
+
+pub same-free : (b c : Bench) → map unstaged (live b) ≡ map unstaged (live c) → free b ≡ free c
+same-free b c e =
+    free-live b ∙ sym (wire-unstaged (live b)) ∙ ap (all (λ d. not (holdsWire d))) e ∙ wire-unstaged (live c) ∙ sym (free-live c)
+
+unstaged-reset : (ds : List Device) → map unstaged (map resetOf ds) ≡ map unstaged ds
+unstaged-reset [] = refl
+unstaged-reset (d ∷ ds) = let i = unstaged-reset ds in rw i
+
+pub restarted-keeps : (b : Bench) → map unstaged (live (restarted b)) ≡ map unstaged (live b)
+restarted-keeps b = ap (map unstaged) (restarted-live b) ∙ unstaged-reset (live b)
+
 -- ## No slot of a search makes a device busy
 
 wire-heard : (l : Bool) (ds : List Device) → Each Moving ds → all (λ d. not (holdsWire d)) (map (λ d. hearOf d l) ds) ≡ all (λ d. not (holdsWire d)) ds
@@ -74,16 +102,11 @@ wire-heard l (d ∷ ds) h =
     let e : holdsWire (hearOf d l) ≡ holdsWire d = ap holdsWire (hear-only-stage d l (h .0)) in
     rw (e, i)
 
-wire-reset : (ds : List Device) → all (λ d. not (holdsWire d)) (map resetOf ds) ≡ all (λ d. not (holdsWire d)) ds
-unfolding all
-wire-reset [] = refl
-wire-reset (d ∷ ds) = let i = wire-reset ds in rw i
-
 pub free-heard : (b : Bench) (l : Bool) → Each Moving (live b) → free (heard b l) ≡ free b
 free-heard b l h = free-live (heard b l) ∙ rw (heard-live b l) (wire-heard l (live b) h) ∙ sym (free-live b)
 
 pub free-restarted : (b : Bench) → free (restarted b) ≡ free b
-free-restarted b = free-live (restarted b) ∙ rw (restarted-live b) (wire-reset (live b)) ∙ sym (free-live b)
+free-restarted b = same-free (restarted b) b (restarted-keeps b)
 
 abbrev pub Free : Bench → Type 0
 Free b = free b ≡ true
@@ -124,25 +147,7 @@ module _ {command : List Bool} (Z : Searchers thermometers command 64) (K : Keep
         rw e at
         (search-is onBench Z fuel b (rw e (bits-sized 64 ns)) (rw e (bits-distinct 64 ns l d)) (rw e (some-bits ns h)) (rw (e, length-map ns (bitsOf 64)) f))
 
--- ## What goes by the devices without their stages
-
-through : {A : Type 0} (f : Device → A) → ((d : Device) → f (unstaged d) ≡ f d) → (ds : List Device) → map f (map unstaged ds) ≡ map f ds
-through f h [] = refl
-through f h (d ∷ ds) = let i = through f h ds in rw (h d, i)
-
--- whatever a device has besides its stage is the same for each
-pub same-but-stage : {A : Type 0} (f : Device → A) → ((d : Device) → f (unstaged d) ≡ f d) → (ds es : List Device) → map unstaged ds ≡ map unstaged es
-    → map f ds ≡ map f es
-same-but-stage f h ds es e = sym (through f h ds) ∙ ap (map f) e ∙ through f h es
-
-wire-unstaged : (ds : List Device) → all (λ d. not (holdsWire d)) (map unstaged ds) ≡ all (λ d. not (holdsWire d)) ds
-unfolding all
-wire-unstaged [] = refl
-wire-unstaged (d ∷ ds) = let i = wire-unstaged ds in rw i
-
-same-free : (b c : Bench) → map unstaged (live b) ≡ map unstaged (live c) → free b ≡ free c
-same-free b c e =
-    free-live b ∙ sym (wire-unstaged (live b)) ∙ ap (all (λ d. not (holdsWire d))) e ∙ wire-unstaged (live c) ∙ sym (free-live c)
+-- ## The flags go by the devices without their stages
 
 flagged-unstaged : (ds : List Device) → numbersOf (those (λ d. d .alarm) (map unstaged ds)) ≡ numbersOf (those (λ d. d .alarm) ds)
 unfolding those

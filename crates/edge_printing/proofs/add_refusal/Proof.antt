@@ -1,7 +1,6 @@
 -- The line is laid, or has no room. Assumes nothing.
 use denote.Ref.{now}
 use Rattle.edge_printing.specs.EdgePrintingLaws.{refusal-short, refusal-laid}
-use mathlib.Core.Path.{_∙_}
 use borrow.Author.Needs.{needs}
 use Rattle.edge_printing.proofs.add_refusal.Statement.{statement}
 use Rattle.edge_printing.proofs.add_refusal.Tie as tie

@@ -3,7 +3,6 @@ use Rattle.fields.specs.Fields.{powerIn}
 use borrow.Author.Needs.{needs}
 use Rattle.fields.proofs.power_in.Statement.{statement}
 use Rattle.fields.proofs.power_in.Tie as tie
-use Rattle.text.proofs.same.Reads as same-reads
 
 slice-aggregate-same : tie.Need-slice-aggregate-same
 slice-aggregate-same c = search needs

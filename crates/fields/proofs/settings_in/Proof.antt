@@ -5,8 +5,6 @@ use Rattle.fields.specs.FieldsLaws.{byte-below}
 use borrow.Author.Needs.{needs}
 use Rattle.fields.proofs.settings_in.Statement.{statement}
 use Rattle.fields.proofs.settings_in.Tie as tie
-use Rattle.fields.proofs.both.Reads as both-reads
-use Rattle.fields.proofs.byte_in.Reads as byte-in-reads
 
 byte-in-requires : tie.Need-byte-in-requires
 byte-in-requires c κs = search needs

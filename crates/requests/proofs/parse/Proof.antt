@@ -4,7 +4,6 @@ use Rattle.requests.specs.Requests.{requestOf}
 use borrow.Author.Needs.{needs}
 use Rattle.requests.proofs.parse.Statement.{statement}
 use Rattle.requests.proofs.parse.Tie as tie
-use Rattle.requests.proofs.calls.of_bench.Reads as of-bench-reads
 
 returns : tie.Need-returns
 unfolding requestOf

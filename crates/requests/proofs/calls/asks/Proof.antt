@@ -5,9 +5,6 @@ use Rattle.words.specs.WordsLaws.{words-some}
 use borrow.Author.Needs.{needs}
 use Rattle.requests.proofs.calls.asks.Statement.{statement}
 use Rattle.requests.proofs.calls.asks.Tie as tie
-use Rattle.words.proofs.count.Reads as count-reads
-use Rattle.text.proofs.same.Reads as same-reads
-use Rattle.words.proofs.word.Reads as word-reads
 
 word-requires : tie.Need-word-requires
 word-requires c κs = search needs

@@ -4,9 +4,6 @@ use Rattle.fields.specs.Fields.{codeIn, countIn}
 use borrow.Author.Needs.{needs}
 use Rattle.requests.proofs.calls.converted.Statement.{statement}
 use Rattle.requests.proofs.calls.converted.Tie as tie
-use Rattle.fields.proofs.code_in.Reads as code-in-reads
-use Rattle.fields.proofs.count_in.Reads as count-in-reads
-use Rattle.words.proofs.word.Reads as word-reads
 
 word-requires : tie.Need-word-requires
 word-requires c κs = search needs

@@ -4,15 +4,6 @@ use Rattle.requests.specs.RequestsLaws.{row-add, row-pinned, row-reset, 
 use borrow.Author.Needs.{needs}
 use Rattle.requests.proofs.calls.of_bench.Statement.{statement}
 use Rattle.requests.proofs.calls.of_bench.Tie as tie
-use Rattle.requests.proofs.calls.add.Reads as add-reads
-use Rattle.requests.proofs.calls.add_pinned.Reads as add-pinned-reads
-use Rattle.requests.proofs.calls.asks.Reads as asks-reads
-use Rattle.requests.proofs.calls.converted.Reads as converted-reads
-use Rattle.requests.proofs.calls.copied.Reads as copied-reads
-use Rattle.requests.proofs.calls.cycle.Reads as cycle-reads
-use Rattle.requests.proofs.calls.of_master.Reads as of-master-reads
-use Rattle.requests.proofs.calls.show.Reads as show-reads
-use Rattle.requests.proofs.calls.slot.Reads as slot-reads
 
 slice-aggregate-asks : tie.Need-slice-aggregate-asks
 slice-aggregate-asks c = search needs

@@ -4,11 +4,6 @@ use Rattle.requests.specs.RequestsLaws.{row-search-alone, row-alarm-alon
 use borrow.Author.Needs.{needs}
 use Rattle.requests.proofs.calls.of_master.Statement.{statement}
 use Rattle.requests.proofs.calls.of_master.Tie as tie
-use Rattle.requests.proofs.calls.alarm.Reads as alarm-reads
-use Rattle.requests.proofs.calls.asks.Reads as asks-reads
-use Rattle.requests.proofs.calls.read.Reads as read-reads
-use Rattle.requests.proofs.calls.search.Reads as search-reads
-use Rattle.requests.proofs.calls.write.Reads as write-reads
 
 slice-aggregate-asks : tie.Need-slice-aggregate-asks
 slice-aggregate-asks c = search needs

@@ -4,8 +4,6 @@ use Rattle.fields.specs.Fields.{codeIn}
 use borrow.Author.Needs.{needs}
 use Rattle.requests.proofs.calls.read.Statement.{statement}
 use Rattle.requests.proofs.calls.read.Tie as tie
-use Rattle.fields.proofs.code_in.Reads as code-in-reads
-use Rattle.words.proofs.word.Reads as word-reads
 
 word-requires : tie.Need-word-requires
 word-requires c κs = search needs

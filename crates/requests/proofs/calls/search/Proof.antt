@@ -4,9 +4,6 @@ use Rattle.fields.specs.Fields.{placesIn, bytesIn}
 use borrow.Author.Needs.{needs}
 use Rattle.requests.proofs.calls.search.Statement.{statement}
 use Rattle.requests.proofs.calls.search.Tie as tie
-use Rattle.fields.proofs.bytes_in.Reads as bytes-in-reads
-use Rattle.fields.proofs.places_in.Reads as places-in-reads
-use Rattle.words.proofs.word.Reads as word-reads
 
 word-requires : tie.Need-word-requires
 word-requires c κs = search needs

@@ -4,8 +4,6 @@ use Rattle.fields.specs.Fields.{bitIn}
 use borrow.Author.Needs.{needs}
 use Rattle.requests.proofs.calls.slot.Statement.{statement}
 use Rattle.requests.proofs.calls.slot.Tie as tie
-use Rattle.fields.proofs.bit_in.Reads as bit-in-reads
-use Rattle.words.proofs.word.Reads as word-reads
 
 word-requires : tie.Need-word-requires
 word-requires c κs = search needs
