@@ -40,7 +40,8 @@ fn send(bench: Bench, number: u64, count: u8) -> Bench
     b
 }
 
-fn refuse(number: u8, bench: Bench) -> Access
+// An answer that refuses: zeros, no fine reading, and the bench.
+pub fn refuse(number: u8, bench: Bench) -> Access
     ensures answer { λ r. ⌜ r ≡ refusedAt number bench ⌝ }
 {
     Access {

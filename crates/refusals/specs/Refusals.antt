@@ -73,6 +73,14 @@ notLater = 16
 abbrev pub wrongPins : ℕ
 wrongPins = 17
 
+-- a change names a version of settings that is not the current one
+abbrev pub staleVersion : ℕ
+staleVersion = 18
+
+-- settings are at the last version that there is
+abbrev pub versionsSpent : ℕ
+versionsSpent = 19
+
 -- the count bytes of a scratchpad in half degrees cannot be: byte 7 is zero, or byte 6 above it
 abbrev pub wrongCounts : ℕ
 wrongCounts = 20

@@ -54,5 +54,11 @@ pub const NOT_LATER: u8 = 16;
 // The address pins of a device that has them are over 15.
 pub const WRONG_PINS: u8 = 17;
 
+// A change names a version of settings that is not the current one.
+pub const STALE_VERSION: u8 = 18;
+
+// Settings are at the last version that there is, so that no change can follow.
+pub const VERSIONS_SPENT: u8 = 19;
+
 // The count bytes of a scratchpad in half degrees cannot be: byte 7 is zero, or byte 6 above it.
 pub const WRONG_COUNTS: u8 = 20;

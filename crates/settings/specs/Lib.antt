@@ -1,0 +1,5 @@
+pub mod Store
+pub mod Calls
+pub mod StoreLaws
+pub mod Runs
+pub mod RunsLaws

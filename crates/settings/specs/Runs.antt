@@ -1,0 +1,137 @@
+-- Every run of calls on a store, by any callers in any order, refused calls included, and an account of each code that is made of the accepted ones alone (document 02, E6).
+--     StoreCall             one call, with its arguments
+--     book h                the store after the calls h from the empty one, the codes that were first added, in order, and the account of each code
+--     after h               that store
+--     settled a             the first settings of an account under its changes, in turn
+--     shownOf code a        what a read of the code shows, by its account
+--     InTurn n changes      the changes named n, n + 1 and so on
+--     RunsRight             after every run each read shows its account, each accepted change named how many there were before it, and a code has one place for ever
+--     SameVersion           equal versions of a code mean equal settings
+--     NothingUndone         an accepted change alters just what its caller had read
+use Prim.Native.Nat.{ℕ, _+_, _≤_}
+use mathlib.Core.Bool.{Bool, true, false, not, _&&_}
+use mathlib.Core.List.{List, [], _∷_, _++_}
+use mathlib.Core.Path.{_≡_}
+use lib.Dec.{eqb}
+use lib.ListN.{length}
+use Rattle.lists.specs.Choice.{if_then_else_}
+use Rattle.lists.specs.Each.{Distinct}
+use Rattle.lists.specs.Fold.{fold}
+use Rattle.refusals.specs.Refusals.{accepted, notFound}
+use Rattle.rom.specs.Code.{codeRefusal}
+use Rattle.device.specs.declared.Settings.{Settings}
+use Rattle.settings.specs.Store.{emptyStore}
+use Rattle.settings.specs.Calls.{keptForm, settingsAdded, settingsRemoved, settingsRead, settingsAltered, settingsChanged}
+use Rattle.settings.specs.declared.Alterations.{Alterations}
+use Rattle.settings.specs.declared.Current.{Current}
+use Rattle.settings.specs.declared.Store.{Store}
+
+pub data StoreCall : Type 0 where
+  add : ℕ → Settings → StoreCall
+  remove : ℕ → StoreCall
+  read : ℕ → StoreCall
+  change : ℕ → ℕ → Alterations → StoreCall
+
+-- ## Accounts
+
+-- the version that an accepted change named, and what it asked
+pub record Accepted : Type 0 where
+  pub named : ℕ
+  pub asked : Alterations
+
+pub record Account : Type 0 where
+  -- whether the code was ever added, and whether it is there
+  pub known : Bool
+  pub present : Bool
+  pub first : Settings
+  pub changes : List Accepted
+
+abbrev pub noAccount : Account
+noAccount = record { known = false; present = false; first = record { high = 0; low = 0; configuration = 0 }; changes = [] }
+
+-- an accepted adding: the settings given count only the first time
+abbrev pub joining : Settings → Account → Account
+joining first a = record { known = true; present = true; first = if a .known then a .first else keptForm first; changes = a .changes }
+
+abbrev pub leaving : Account → Account
+leaving a = record { known = a .known; present = false; first = a .first; changes = a .changes }
+
+abbrev pub changing : ℕ → Alterations → Account → Account
+changing named asked a = record { known = a .known; present = a .present; first = a .first; changes = a .changes ++ (record { named = named; asked = asked } ∷ []) }
+
+-- ## The book
+
+pub record Book : Type 0 where
+  pub store : Store
+  pub codes : List ℕ
+  pub accounts : ℕ → Account
+
+-- the account of the call's code goes on, if the call was accepted
+abbrev pub onAccepted : ℕ → ℕ → (Account → Account) → (ℕ → Account) → ℕ → Account
+onAccepted refusal code f accounts k = if eqb refusal accepted && eqb k code then f (accounts k) else accounts k
+
+abbrev pub codesAfter : ℕ → ℕ → Book → List ℕ
+codesAfter refusal code b = if eqb refusal accepted && not (b .accounts code .known) then b .codes ++ (code ∷ []) else b .codes
+
+abbrev pub entered : Book → StoreCall → Book
+entered b (add code first) =
+    let r = settingsAdded (b .store) code first in
+    record { store = r .store; codes = codesAfter (r .refusal) code b; accounts = onAccepted (r .refusal) code (joining first) (b .accounts) }
+entered b (remove code) =
+    let r = settingsRemoved (b .store) code in
+    record { store = r .store; codes = b .codes; accounts = onAccepted (r .refusal) code leaving (b .accounts) }
+entered b (read code) = b
+entered b (change code version asked) =
+    let r = settingsChanged (b .store) code version asked in
+    record { store = r .store; codes = b .codes; accounts = onAccepted (r .refusal) code (changing version asked) (b .accounts) }
+
+unfoldable pub book : List StoreCall → Book
+book h = fold entered (record { store = emptyStore; codes = []; accounts = λ code. noAccount }) h
+
+abbrev pub after : List StoreCall → Store
+after h = book h .store
+
+-- ## What an account comes to
+
+abbrev pub settled : Account → Settings
+settled a = fold (λ s c. settingsAltered s (c .asked)) (a .first) (a .changes)
+
+abbrev pub noneShown : ℕ → Current
+noneShown n = record { refusal = n; settings = record { high = 0; low = 0; configuration = 0 }; version = 0 }
+
+abbrev pub shownOf : ℕ → Account → Current
+shownOf code a =
+    if not (eqb (codeRefusal code) accepted) then noneShown (codeRefusal code)
+    else if a .present then record { refusal = accepted; settings = settled a; version = length (a .changes) }
+    else noneShown notFound
+
+abbrev pub InTurn : ℕ → List Accepted → Type 0
+InTurn n [] = Unit
+InTurn n (c ∷ changes) = (c .named ≡ n) × InTurn (n + 1) changes
+
+-- ## The claims
+
+pub record Right (b : Book) : Type 0 where
+  pub read-is : (code : ℕ) → settingsRead (b .store) code ≡ shownOf code (b .accounts code)
+  pub in-turn : (code : ℕ) → InTurn 0 (b .accounts code .changes)
+  pub places-are : b .store .count ≡ length (b .codes)
+  pub places-few : length (b .codes) ≤ 32
+  pub codes-distinct : Distinct (b .codes)
+
+abbrev pub RunsRight : Type 0
+RunsRight = (h : List StoreCall) → Right (book h)
+
+-- however many calls came between, and whoever made them
+abbrev pub SameVersion : Type 0
+SameVersion = (h more : List StoreCall) (code : ℕ)
+    → settingsRead (after h) code .refusal ≡ accepted → settingsRead (after (h ++ more)) code .refusal ≡ accepted
+    → settingsRead (after (h ++ more)) code .version ≡ settingsRead (after h) code .version
+    → settingsRead (after (h ++ more)) code ≡ settingsRead (after h) code
+
+abbrev pub NothingUndone : Type 0
+NothingUndone = (h more : List StoreCall) (code : ℕ) (asked : Alterations)
+    → settingsRead (after h) code .refusal ≡ accepted
+    → let seen = settingsRead (after h) code in
+    let done = settingsChanged (after (h ++ more)) code (seen .version) asked in
+    done .refusal ≡ accepted
+    → settingsRead (done .store) code ≡ record { refusal = accepted; settings = settingsAltered (seen .settings) asked; version = seen .version + 1 }
