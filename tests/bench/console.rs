@@ -3,11 +3,59 @@
 use crate::bench::{Answer, Bench, Why};
 use crate::device::{Power, Work};
 use crate::master::{self, Found, Pin, ALARM, BYTES, PLACES, SEARCH};
+use crate::store::Store;
+
+/// What the calls of a console go to.
+#[derive(Default)]
+pub struct Desk {
+    pub bench: Bench,
+    pub store: Store,
+}
 
 /// The lines that answer a line, without their feeds.
-pub fn answer(bench: &mut Bench, line: &[u8]) -> Vec<String> {
+pub fn answer(desk: &mut Desk, line: &[u8]) -> Vec<String> {
     let text = std::str::from_utf8(line).unwrap_or("");
-    call(bench, text).unwrap_or_else(|| vec!["?".to_string()])
+    let answered = match text.strip_prefix("settings ") {
+        Some(rest) => settings_call(desk, rest).map(|line| vec![line]),
+        None => call(&mut desk.bench, text),
+    };
+    answered.unwrap_or_else(|| vec!["?".to_string()])
+}
+
+/// The answer to a call on the settings store, named behind the word `settings`.
+fn settings_call(desk: &mut Desk, text: &str) -> Option<String> {
+    let words: Vec<&str> = text.split(' ').collect();
+    let (name, code) = (*words.first()?, hex(words.get(1)?, 16)?);
+    let Desk { bench, store } = desk;
+    Some(match (name, &words[2..]) {
+        ("add", [high, low, configuration]) => refusal(store.add(code, settings(high, low, configuration)?)),
+        ("remove", []) => refusal(store.remove(code)),
+        ("read", []) => match store.read(code) {
+            Ok(([h, l, c], version)) => format!("0 {h:02X} {l:02X} {c:02X} {version}"),
+            Err(number) => format!("{number} 00 00 00 0"),
+        },
+        ("change", [version, high, low, configuration]) => {
+            let version = u16::try_from(decimal(version)?).ok()?;
+            let asked = [altered(high)?, altered(low)?, altered(configuration)?];
+            match store.change(code, version, asked) {
+                Ok(next) => format!("0 {next}"),
+                Err(number) => format!("{number} 0"),
+            }
+        }
+        ("write", []) => match store.read(code) {
+            Ok((bytes, _)) => access(code, master::write(bench, code, bytes)),
+            Err(number) => access(code, Err(number)),
+        },
+        _ => return None,
+    })
+}
+
+/// A byte, or a minus for one that stays.
+fn altered(word: &str) -> Option<Option<u8>> {
+    match word {
+        "-" => Some(None),
+        _ => Some(Some(hex(word, 2)? as u8)),
+    }
 }
 
 /// The answer, or nothing where the line is no call.

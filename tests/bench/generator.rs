@@ -2,6 +2,7 @@
 //! are there, at those that are busy, at counts near their limits.
 
 use crate::bench::Bench;
+use crate::console::Desk;
 use crate::code::{bit_of, code_of};
 use crate::device::{Device, Work};
 use crate::random::Random;
@@ -17,8 +18,9 @@ pub struct Generator {
     line_powered_in: usize,
     /// Address pins are mostly below this: with few numbers probes share them, with all many do not.
     pin_numbers: usize,
-    /// The devices that are added at the start.
+    /// The devices that are added at the start, and the codes whose settings are.
     first: usize,
+    first_settings: usize,
 }
 
 const SETTINGS: [u8; 10] = [0x00, 0x01, 0x10, 0x19, 0x1F, 0x60, 0x7F, 0x80, 0xF0, 0xFF];
@@ -32,19 +34,25 @@ impl Generator {
         let line_powered_in = random.of(&[1, 2, 4, 1000]);
         let pin_numbers = random.of(&[2, 5, 16]);
         let first = if random.once_in(6) { 0 } else { size };
-        Generator { random, codes, line_powered_in, pin_numbers, first }
+        let first_settings = if random.once_in(2) { 0 } else { size };
+        Generator { random, codes, line_powered_in, pin_numbers, first, first_settings }
     }
 
     /// The calls of the next move.
-    pub fn calls(&mut self, bench: &Bench) -> Vec<Line> {
+    pub fn calls(&mut self, desk: &Desk) -> Vec<Line> {
+        let bench = &desk.bench;
         if self.first > 0 {
             self.first -= 1;
             return vec![self.adding(self.codes[self.first])];
         }
+        if self.first_settings > 0 {
+            self.first_settings -= 1;
+            return vec![self.settings_of(self.codes[self.first_settings])];
+        }
         if bench.is_held() && self.random.once_in(3) {
             return vec![self.finish(bench)];
         }
-        match self.random.below(27) {
+        match self.random.below(31) {
             0 => vec![self.add()],
             1 => vec![self.cycle()],
             2..=4 => vec![self.finish(bench)],
@@ -52,12 +60,13 @@ impl Generator {
             6 => vec![self.search("alarm")],
             7..=8 => vec![self.read()],
             9..=11 => vec![self.write(bench)],
-            12 => vec![self.malformed(bench)],
+            12 => vec![self.malformed(desk)],
             13..=14 => vec![self.show()],
             15 => self.loose_slots(),
             16..=17 => vec![self.why()],
             18 => self.pins_and_slots(),
-            _ => self.command(bench),
+            19..=22 => vec![self.settings_call(desk)],
+            _ => self.command(desk),
         }
     }
 
@@ -68,6 +77,7 @@ impl Generator {
             lines.push(format!("show {code:016X}").into_bytes());
             lines.push(format!("read {code:016X}").into_bytes());
             lines.push(format!("why {code:016X}").into_bytes());
+            lines.push(format!("settings read {code:016X}").into_bytes());
         }
         lines.extend([b"alarm".to_vec(), b"search".to_vec(), b"pins".to_vec()]);
         lines
@@ -106,6 +116,35 @@ impl Generator {
             _ => format!(" {few}"),
         };
         format!("add {code:016X} {power} {}{pins}", self.settings()).into_bytes()
+    }
+
+    fn settings_of(&mut self, code: u64) -> Line {
+        format!("settings add {code:016X} {}", self.settings()).into_bytes()
+    }
+
+    /// A call on the settings store; a change mostly names the version that stands there, or the one before it.
+    fn settings_call(&mut self, desk: &Desk) -> Line {
+        let code = self.code();
+        match self.random.below(12) {
+            0..=1 => self.settings_of(code),
+            2 => format!("settings remove {code:016X}").into_bytes(),
+            3..=4 => format!("settings read {code:016X}").into_bytes(),
+            5..=6 => format!("settings write {code:016X}").into_bytes(),
+            _ => {
+                let version = desk.store.kept.iter().find(|kept| kept.code == code).map_or(0, |kept| kept.version);
+                let named = match self.random.below(8) {
+                    0 => version.wrapping_sub(1),
+                    1 => self.random.of(&[0, 1, 255, 65535]),
+                    _ => version,
+                };
+                let asked: Vec<String> = (0..3).map(|_| self.alteration()).collect();
+                format!("settings change {code:016X} {named} {}", asked.join(" ")).into_bytes()
+            }
+        }
+    }
+
+    fn alteration(&mut self) -> String {
+        if self.random.once_in(2) { "-".to_string() } else { format!("{:02X}", self.setting()) }
     }
 
     fn cycle(&mut self) -> Line {
@@ -192,17 +231,18 @@ impl Generator {
     }
 
     /// A line that is no call, or only just one: a call with one character changed, put in or left out.
-    fn malformed(&mut self, bench: &Bench) -> Line {
-        let mut line = match self.random.below(10) {
+    fn malformed(&mut self, desk: &Desk) -> Line {
+        let mut line = match self.random.below(12) {
             0 => self.add(),
             1 => self.show(),
-            2 => self.finish(bench),
-            3 => self.write(bench),
+            2 => self.finish(&desk.bench),
+            3 => self.write(&desk.bench),
             4 => self.search("alarm"),
             5 => b"reset".to_vec(),
             6 => slot(true),
             7 => self.why(),
             8 => self.pins(),
+            9..=10 => self.settings_call(desk),
             _ => vec![b'x'; self.random.below(200)],
         };
         let place = self.random.below(line.len() + 1);
@@ -218,7 +258,7 @@ impl Generator {
 
     /// A reset, a ROM command and a function command as bits, whole or cut, with a wrong bit or not,
     /// and with other calls between the slots.
-    fn command(&mut self, bench: &Bench) -> Vec<Line> {
+    fn command(&mut self, desk: &Desk) -> Vec<Line> {
         let mut bits = self.rom_command();
         bits.extend(self.function_command());
         if self.random.once_in(6) {
@@ -233,7 +273,7 @@ impl Generator {
         }
         let mut lines: Vec<Line> = bits.iter().map(|&bit| slot(bit)).collect();
         if self.random.once_in(2) {
-            self.interrupt(bench, &mut lines);
+            self.interrupt(desk, &mut lines);
         }
         if !self.random.once_in(12) {
             lines.insert(0, b"reset".to_vec());
@@ -282,7 +322,7 @@ impl Generator {
     }
 
     /// Puts calls that send nothing between the slots, near the ends of bytes more often than elsewhere.
-    fn interrupt(&mut self, bench: &Bench, lines: &mut Vec<Line>) {
+    fn interrupt(&mut self, desk: &Desk, lines: &mut Vec<Line>) {
         for _ in 0..1 + self.random.below(3) {
             let anywhere = self.random.below(lines.len() + 1);
             let near = anywhere / 8 * 8 + self.random.of(&[0, 7, 8]);
@@ -291,9 +331,9 @@ impl Generator {
                 0 => self.add(),
                 1 => self.cycle(),
                 2 => self.show(),
-                3 => self.malformed(bench),
+                3 => self.malformed(desk),
                 4 => b"pins 31".to_vec(),
-                _ => self.finish(bench),
+                _ => self.finish(&desk.bench),
             };
             lines.insert(place, line);
         }

@@ -13,6 +13,7 @@ mod device;
 mod generator;
 mod master;
 mod random;
+mod store;
 
 use std::collections::BTreeMap;
 use std::io::{self, Read, Write};
@@ -20,8 +21,9 @@ use std::process::{Command, Stdio};
 
 const CALLS: usize = 1000;
 
-/// The refusals that a console can give; 2, 3, 6, 14 and 20 are of recordings and of damaged replies.
-const REACHABLE: [u32; 12] = [0, 1, 4, 5, 7, 8, 9, 10, 11, 12, 13, 17];
+/// The refusals that a console can give; 2, 3, 6, 14 and 20 are of recordings and of damaged replies, and 19 takes
+/// more calls than a script has.
+const REACHABLE: [u32; 13] = [0, 1, 4, 5, 7, 8, 9, 10, 11, 12, 13, 17, 18];
 
 /// From so many scripts on each of these must have been seen; fewer are run by hand, for a look.
 const MANY: u64 = 100;
@@ -34,17 +36,17 @@ struct Exchange {
 
 /// The calls of a script, answered by the model.
 fn script(seed: u64) -> Vec<Exchange> {
-    let mut bench = bench::Bench::default();
+    let mut desk = console::Desk::default();
     let mut generator = generator::Generator::new(seed);
     let mut exchanges = Vec::new();
     while exchanges.len() < CALLS {
-        for call in generator.calls(&bench) {
-            let answer = console::answer(&mut bench, &call);
+        for call in generator.calls(&desk) {
+            let answer = console::answer(&mut desk, &call);
             exchanges.push(Exchange { call, answer });
         }
     }
     for call in generator.last_look() {
-        let answer = console::answer(&mut bench, &call);
+        let answer = console::answer(&mut desk, &call);
         exchanges.push(Exchange { call, answer });
     }
     exchanges
@@ -99,11 +101,13 @@ impl Tally {
     fn count(&mut self, exchange: &Exchange) {
         self.calls += 1;
         let refusal = exchange.answer[0].split(' ').next().and_then(|word| word.parse().ok());
-        let kind = match refusal {
-            Some(_) => exchange.call.split(|&c| c == b' ').next().unwrap_or(b""),
-            None => b"?",
+        let words: Vec<&[u8]> = exchange.call.split(|&c| c == b' ').collect();
+        let kind = match (refusal, &words[..]) {
+            (None, _) | (_, []) => b"?".to_vec(),
+            (_, [b"settings", name, ..]) => [b"settings ", *name].concat(),
+            (_, [name, ..]) => name.to_vec(),
         };
-        *self.kinds.entry(String::from_utf8_lossy(kind).into_owned()).or_default() += 1;
+        *self.kinds.entry(String::from_utf8_lossy(&kind).into_owned()).or_default() += 1;
         if let Some(number) = refusal {
             *self.refusals.entry(number).or_default() += 1;
         }

@@ -1,15 +1,18 @@
-// Drives a bench by lines: one call a line on standard input, its answer on standard output at once.
-// It only moves bytes: `console` says where a line ends, reads it, makes the call and forms the answer.
+// Drives a bench and a settings store by lines: one call a line on standard input, its answer on standard
+// output at once. It only moves bytes: `gathering` says where a line ends, and `settings_console` reads
+// it, makes the call and forms the answer.
 use bench::Bench;
 use gathering::MOST_HELD;
 use libc::STDIN_FILENO;
 use libc::STDOUT_FILENO;
 use search_answers::ROOM;
+use settings::Store;
 
-// A run so far: the bench, how many characters of the line not yet ended are held, and whether input
-// may follow.
+// A run so far: the bench, the store, how many characters of the line not yet ended are held, and whether
+// input may follow.
 struct Session {
     bench: Bench,
+    store: Store,
     held: usize,
     going: bool,
 }
@@ -21,30 +24,39 @@ fn write_front(bytes: &[u8], count: usize) {
     }
 }
 
-// The line that is held, answered; whether it has its feed.
-fn answer_line(bench: Bench, line: &[u8], held: usize, fed: bool, out: &mut [u8]) -> Bench {
-    if held <= line.len() {
-        let said = console::answer(bench, &line[..held], fed, out);
-        write_front(out, said.count);
-        return said.bench;
-    }
-    bench
-}
-
-fn take_byte(s: Session, line: &mut [u8], byte: u8, out: &mut [u8]) -> Session {
+// The line of so many characters, answered; whether it has its feed.
+fn answer_line(s: Session, line: &[u8], held: usize, fed: bool, out: &mut [u8]) -> Session {
     let bench = s.bench;
-    let gathered = gathering::take_byte(line, s.held, byte);
-    if gathered.whole {
+    let store = s.store;
+    if held <= line.len() {
+        let told = settings_console::answer(bench, store, &line[..held], fed, out);
+        let said = told.said;
+        write_front(out, said.count);
+        let bench_after = said.bench;
+        let store_after = told.store;
         return Session {
-            bench: answer_line(bench, line, gathered.held, true, out),
+            bench: bench_after,
+            store: store_after,
             held: 0,
             going: true,
         };
     }
     Session {
         bench,
-        held: gathered.held,
+        store,
+        held: 0,
         going: true,
+    }
+}
+
+fn take_byte(s: Session, line: &mut [u8], byte: u8, out: &mut [u8]) -> Session {
+    let gathered = gathering::take_byte(line, s.held, byte);
+    if gathered.whole {
+        return answer_line(s, line, gathered.held, true, out);
+    }
+    Session {
+        held: gathered.held,
+        ..s
     }
 }
 
@@ -63,12 +75,7 @@ fn read_some(s: Session, line: &mut [u8], out: &mut [u8]) -> Session {
     let mut chunk = io::buffer();
     let got = libc::read(STDIN_FILENO, &mut chunk);
     if got <= 0 {
-        let bench = s.bench;
-        return Session {
-            bench,
-            held: s.held,
-            going: false,
-        };
+        return Session { going: false, ..s };
     }
     let n = io::count(got, &chunk);
     take(s, line, &chunk[..n], out)
@@ -78,6 +85,7 @@ fn read_some(s: Session, line: &mut [u8], out: &mut [u8]) -> Session {
 fn run(line: &mut [u8], out: &mut [u8]) -> Session {
     let mut s = Session {
         bench: bench::new(),
+        store: settings::new(),
         held: 0,
         going: true,
     };
@@ -94,9 +102,9 @@ fn run(line: &mut [u8], out: &mut [u8]) -> Session {
 
 // A last line without a feed.
 fn finish(s: Session, line: &[u8], out: &mut [u8]) {
-    let bench = s.bench;
-    if s.held > 0 {
-        answer_line(bench, line, s.held, false, out);
+    let held = s.held;
+    if held > 0 {
+        answer_line(s, line, held, false, out);
     }
 }
 

@@ -23,8 +23,8 @@ pub struct Said {
 }
 
 // A line that was laid at the front, and the bench.
-fn say(w: Written, bench: Bench) -> Said
-    ensures { λ r. ⌜ r ≡ record { refusal = w .refusal; count = w .next; bench = bench } ⌝ }
+pub fn say(w: Written, bench: Bench) -> Said
+    ensures answer { λ r. ⌜ r ≡ record { refusal = w .refusal; count = w .next; bench = bench } ⌝ }
 {
     Said {
         refusal: w.refusal,

@@ -95,8 +95,9 @@ pub fn count_in(w: &[u8]) -> CountRead
     }
 }
 
-fn both(a: bool, b: bool) -> bool
-    ensures { λ r. ⌜ r ≡ (a && b) ⌝ }
+// Whether two fields are what they should be.
+pub fn both(a: bool, b: bool) -> bool
+    ensures answer { λ r. ⌜ r ≡ (a && b) ⌝ }
 {
     if a { b } else { false }
 }

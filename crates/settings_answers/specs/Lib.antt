@@ -1,0 +1,2 @@
+pub mod SettingsLines
+pub mod SettingsLinesLaws

@@ -1,0 +1,93 @@
+// The lines that answer a read and a change of settings, with the bench.
+ghost use mathlib.Core.Path.{_≡_};
+ghost use Prim.Native.Nat.{_+_, _≤_};
+ghost use lib.ListN.{length};
+ghost use Rattle.putting.specs.Putting.{Puts, lineRoom, lineAnswer, lineLeaves};
+ghost use Rattle.call_answers.specs.Said.{says, lineSaid, lineLeft};
+ghost use Rattle.settings_answers.specs.SettingsLines.{fieldsLine, currentLine, changeLine};
+use bench::Bench;
+use call_answers::Said;
+use laying::Written;
+use putting::LINE_ROOM;
+use settings::Current;
+use text::LINE_FEED;
+use text::SPACE;
+
+// The fields of settings that were read, each with the character behind it.
+fn put_current(
+    out: &mut [u8],
+    at: usize,
+    refusal: u8,
+    high: u8,
+    low: u8,
+    configuration: u8,
+    version: u16,
+) -> usize
+    ensures { λ r. ⌜ Puts (now (out .entry)) at (fieldsLine refusal high low configuration version) (now (out .exit)) r × (length (fieldsLine refusal high low configuration version) ≤ lineRoom) ⌝ }
+{
+    let behind_refusal = putting::put_number(out, at, refusal as u64, SPACE);
+    let behind_high = putting::put_digits(out, behind_refusal, 2, high as u64, SPACE);
+    let behind_low = putting::put_digits(out, behind_high, 2, low as u64, SPACE);
+    let behind_configuration = putting::put_digits(out, behind_low, 2, configuration as u64, SPACE);
+    putting::put_number(out, behind_configuration, version as u64, LINE_FEED)
+}
+
+fn current_line(out: &mut [u8], at: usize, current: Current) -> Written
+    ensures answer { λ r. ⌜ r ≡ lineAnswer (now (out .entry)) at (currentLine current) ⌝ }
+    ensures written { λ r. ⌜ now (out .exit) ≡ lineLeaves (now (out .entry)) at (currentLine current) ⌝ }
+    ensures fits { λ r. ⌜ r .next ≤ at + lineRoom ⌝ }
+{
+    let room = laying::has_room(out, at, LINE_ROOM);
+    if !room {
+        return putting::no_room();
+    }
+    let s = current.settings;
+    putting::behind(put_current(
+        out,
+        at,
+        current.refusal,
+        s.high,
+        s.low,
+        s.configuration,
+        current.version,
+    ))
+}
+
+// To a read of settings.
+pub fn current(bench: Bench, current: Current, out: &mut [u8]) -> Said
+    ensures answer { λ r. ⌜ r ≡ lineSaid (says (currentLine current) bench) (now (out .entry)) ⌝ }
+    ensures written { λ r. ⌜ now (out .exit) ≡ lineLeft (says (currentLine current) bench) (now (out .entry)) ⌝ }
+    ensures fits { λ r. ⌜ r .count ≤ lineRoom ⌝ }
+{
+    let w = current_line(out, 0, current);
+    call_answers::say(w, bench)
+}
+
+fn put_change(out: &mut [u8], at: usize, refusal: u8, version: u16) -> usize
+    ensures { λ r. ⌜ Puts (now (out .entry)) at (changeLine refusal version) (now (out .exit)) r × (length (changeLine refusal version) ≤ lineRoom) ⌝ }
+{
+    let behind_refusal = putting::put_number(out, at, refusal as u64, SPACE);
+    putting::put_number(out, behind_refusal, version as u64, LINE_FEED)
+}
+
+fn change_line(out: &mut [u8], at: usize, refusal: u8, version: u16) -> Written
+    ensures answer { λ r. ⌜ r ≡ lineAnswer (now (out .entry)) at (changeLine refusal version) ⌝ }
+    ensures written { λ r. ⌜ now (out .exit) ≡ lineLeaves (now (out .entry)) at (changeLine refusal version) ⌝ }
+    ensures fits { λ r. ⌜ r .next ≤ at + lineRoom ⌝ }
+{
+    let room = laying::has_room(out, at, LINE_ROOM);
+    if !room {
+        return putting::no_room();
+    }
+    putting::behind(put_change(out, at, refusal, version))
+}
+
+// To a change of settings.
+pub fn change(bench: Bench, refusal: u8, version: u16, out: &mut [u8]) -> Said
+    ensures answer { λ r. ⌜ r ≡ lineSaid (says (changeLine refusal version) bench) (now (out .entry)) ⌝ }
+    ensures written { λ r. ⌜ now (out .exit) ≡ lineLeft (says (changeLine refusal version) bench) (now (out .entry)) ⌝ }
+    ensures fits { λ r. ⌜ r .count ≤ lineRoom ⌝ }
+{
+    let w = change_line(out, 0, refusal, version);
+    call_answers::say(w, bench)
+}

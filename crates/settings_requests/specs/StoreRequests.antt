@@ -1,0 +1,69 @@
+-- What a line asks of the settings store: the table of its calls, by name, number of fields and request. Whatever matches no row, or has a field that is none, is `Other`.
+--     versionIn w            a version: a decimal number up to 65,535, of one to five digits
+--     alterIn w              what a change makes of one setting: a byte, or a minus to leave it
+--     asksStore name n ws    whether words are `settings`, this name and its fields, n in all
+--     storeRequestOf s       what a line, without its feed, asks for
+-- Assumes nothing.
+use Prim.Native.Nat.{ℕ}
+use mathlib.Core.Bool.{Bool, true, _&&_}
+use mathlib.Core.List.{List}
+use lib.Dec.{eqb}
+use lib.ListN.{length}
+use Rattle.lists.specs.Choice.{if_then_else_}
+use Rattle.lists.specs.Same.{same}
+use Rattle.text.specs.Ascii.{ascii}
+use Rattle.text.specs.Numbers.{decimalRead}
+use Rattle.text.specs.declared.NumberRead.{NumberRead}
+use Rattle.words.specs.Words.{wordOf, wordsOf}
+use Rattle.fields.specs.Fields.{codeIn, byteIn, threeBytesIn}
+use Rattle.fields.specs.declared.SettingsRead.{SettingsRead}
+use Rattle.settings.specs.declared.Alter.the-variants.{Leave, To}
+use Rattle.settings_requests.specs.declared.AlterRead.{AlterRead}
+use Rattle.settings_requests.specs.declared.AlterationsRead.{AlterationsRead}
+use Rattle.settings_requests.specs.declared.StoreRequest.{StoreRequest}
+use Rattle.settings_requests.specs.declared.StoreRequest.the-variants.{Other, Add, Remove, Read, Change, Write}
+
+-- ## Fields
+
+abbrev pub versionIn : List ℕ → NumberRead
+versionIn w = decimalRead 5 65535 w
+
+abbrev pub altering : NumberRead → AlterRead
+altering byte = record { valid = byte .valid; alter = To (byte .number) }
+
+unfoldable pub alterIn : List ℕ → AlterRead
+alterIn w = if same w (ascii "-") then record { valid = true; alter = Leave } else altering (byteIn w)
+
+unfoldable pub alterationsIn : List ℕ → List ℕ → List ℕ → AlterationsRead
+alterationsIn h l c = record {
+  valid = alterIn h .valid && alterIn l .valid && alterIn c .valid;
+  alterations = record { high = alterIn h .alter; low = alterIn l .alter; configuration = alterIn c .alter };
+}
+
+-- ## The requests, by what was read of their fields
+
+abbrev pub atCode : (ℕ → StoreRequest) → NumberRead → StoreRequest
+atCode request code = if code .valid then request (code .number) else Other
+
+abbrev pub addAsked : NumberRead → SettingsRead → StoreRequest
+addAsked code s = if code .valid && s .valid then Add (code .number) (s .settings) else Other
+
+abbrev pub changeAsked : NumberRead → NumberRead → AlterationsRead → StoreRequest
+changeAsked code version a = if code .valid && version .valid && a .valid then Change (code .number) (version .number) (a .alterations) else Other
+
+-- ## The table
+
+abbrev pub asksStore : List ℕ → ℕ → List (List ℕ) → Bool
+asksStore name n ws = same (wordOf ws 0) (ascii "settings") && same (wordOf ws 1) name && eqb (length ws) n
+
+-- SETTINGS and ADD CODE HIGH LOW CONFIGURATION; REMOVE, READ, WRITE CODE; CHANGE CODE VERSION HIGH LOW CONFIGURATION
+unfoldable pub storeRequestOf : List ℕ → StoreRequest
+storeRequestOf s =
+    let ws = wordsOf s in
+    let field = wordOf ws in
+    if asksStore (ascii "add") 6 ws then addAsked (codeIn (field 2)) (threeBytesIn (field 3) (field 4) (field 5))
+    else if asksStore (ascii "remove") 3 ws then atCode Remove (codeIn (field 2))
+    else if asksStore (ascii "read") 3 ws then atCode Read (codeIn (field 2))
+    else if asksStore (ascii "change") 7 ws then changeAsked (codeIn (field 2)) (versionIn (field 3)) (alterationsIn (field 4) (field 5) (field 6))
+    else if asksStore (ascii "write") 3 ws then atCode Write (codeIn (field 2))
+    else Other
