@@ -1,5 +1,5 @@
 -- Laws that the proofs of naming rest on: triples along a loop from the last to the first, and the number of bytes along such a loop; and that a
--- refusal is a small number.
+-- refusal is a small number; and that the name of what a reader answers is that of the line.
 -- Assumes nothing.
 use Prim.Native.Nat.{ℕ, zero, suc, _+_, _-_, _*_, _/_, _^_, _<_, _≤_}
 use mathlib.Core.Path.{_≡_, refl, ap, _∙_}
@@ -10,12 +10,12 @@ use native.Mathlib.Numerals.{add-one}
 use lib.Pow.{pow-mono}
 use lib.ListN.{length, take, drop, getD, length-take, length-drop, drop-of-length-le}
 use lib.Seq.{drop-cons, drop-nil, getD-drop, getD-take}
-use lib.Dec.{eqb, lit<}
+use lib.Dec.{eqb, ltb, lit<}
 use Rattle.lists.specs.Choice.{if_then_else_}
 use Rattle.bits.specs.Bits.{bitNumber, bitsOf, numberOf, bytesBits}
 use Rattle.bits.specs.BitsLaws.{number-lt, bytes-length}
 use Rattle.commands.specs.Commands.{searchRom, alarmSearch}
-use Rattle.refusals.specs.Refusals.{accepted, wrongCrc, allZero, wrongKind, outOfRange, badTriple, wrongCounts}
+use Rattle.refusals.specs.Refusals.{accepted, notHex, malformed, wrongCrc, allZero, wrongKind, outOfRange, badTriple, wrongCounts}
 use Rattle.family.specs.Families.{propertiesOf}
 use Rattle.family.specs.declared.Properties.{Properties}
 use Rattle.crc.specs.Crc.{crcBits}
@@ -23,11 +23,14 @@ use Rattle.rom.specs.Code.{crcByteOf, familyOf, codeRefusal}
 use Rattle.temperature.specs.Range.{inRange}
 use Rattle.scratchpad.specs.Judgement.{crcRight, allZeros, kindRight, countsBelieved, refusedPad, judged}
 use Rattle.scratchpad.specs.Stored.{readingIn, fineIn}
+use Rattle.text.specs.Digits.{spells}
+use Rattle.text.specs.Lines.{Line}
 use Rattle.frame.specs.declared.Frame.{Frame}
+use Rattle.frame_lines.specs.ReadLine.{longestLine, wellFormed, frameIn, carries, noFrame, readDigits, readLine, found, lineAnswerOf}
 use Rattle.naming.specs.declared.Name.{Name}
 use Rattle.naming.specs.declared.Name.the-variants.{Empty, Search, Alarm, Nobody, Pad, Other}
 use Rattle.naming.specs.declared.PassRead.{PassRead}
-use Rattle.naming.specs.Naming.{named, plain, refusedName, sends, tripleAllowed, triplesAllowed, thirds, passSlots, passRead, coded, namedPass, isNobody, isPad, lowFirst, codeMatched, padIn, rawOf, namedPad}
+use Rattle.naming.specs.Naming.{named, plain, refusedName, sends, tripleAllowed, triplesAllowed, thirds, passSlots, passRead, coded, namedPass, isNobody, isPad, lowFirst, codeMatched, padIn, rawOf, namedPad, readNamed, lineNamed, nameOfRead}
 
 pub one-at-most : (b : Bool) → bitNumber b ≤ 1
 one-at-most true = omega arith
@@ -222,3 +225,17 @@ named-small f = by-test (not (f .presence)) (sends f 200 searchRom) (sends f 200
     by-test false false false true x = lit< tt
     by-test false false false false true = scratchpad-small (codeMatched (f .bits)) (padIn (f .bits))
     by-test false false false false false = lit< tt
+
+-- ## A reader's answer, named
+
+pub line-read : (next : ℕ) (l : Line) → nameOfRead (lineAnswerOf (found (readLine l) next)) ≡ lineNamed l
+unfolding readLine readDigits
+line-read next l = by-test (ltb longestLine (length (l .chars))) (spells 16 (l .chars) && l .fed) (wellFormed (l .chars))
+  where
+    by-test : (t u v : Bool) →
+        let r = if t then noFrame malformed else if u then (if v then carries (frameIn (l .chars)) else noFrame malformed) else noFrame notHex in
+        nameOfRead (lineAnswerOf (found r next)) ≡ readNamed r
+    by-test true u v = refl
+    by-test false true true = refl
+    by-test false true false = refl
+    by-test false false v = refl

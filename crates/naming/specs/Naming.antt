@@ -22,6 +22,7 @@ use Rattle.frame.specs.declared.Frame.{Frame}
 use Rattle.frame.specs.Frames.{slotBit}
 use Rattle.text.specs.Lines.{Line}
 use Rattle.frame_lines.specs.ReadLine.{LineContent, carries, noFrame, readLine}
+use Rattle.frame_lines.specs.declared.LineRead.{LineRead}
 use Rattle.naming.specs.declared.Name.{Name}
 use Rattle.naming.specs.declared.Name.the-variants.{Empty, Search, Alarm, Nobody, Pad, Other}
 use Rattle.naming.specs.declared.Named.{Named}
@@ -150,3 +151,7 @@ readNamed (noFrame n) = refusedName n
 
 abbrev pub lineNamed : Line → Named
 lineNamed l = readNamed (readLine l)
+
+-- the name of a reader's answer
+abbrev pub nameOfRead : LineRead → Named
+nameOfRead r = if eqb (r .refusal) accepted then named (r .frame) else refusedName (r .refusal)

@@ -4,8 +4,9 @@ ghost use Prim.Native.Nat.{_+_, _*_, _<_};
 ghost use mathlib.Core.Bool.{false};
 ghost use lib.ListN.{length, getD};
 ghost use Rattle.bits.specs.Bits.{bytesBits, bitNumber};
-ghost use Rattle.naming.specs.Naming.{nameNumber, named, frameNumber, plain, refusedName, sends, coded, tripleAllowed, passRead, passSlots, namedPass, searches, isNobody, isPad, codeMatched, padIn, namedPad, believed};
+ghost use Rattle.naming.specs.Naming.{nameNumber, named, frameNumber, lineNamed, nameOfRead, plain, refusedName, sends, coded, tripleAllowed, passRead, passSlots, namedPass, searches, isNobody, isPad, codeMatched, padIn, namedPad, believed};
 use frame::Frame;
+use frame_lines::LineRead;
 use scratchpad::Judged;
 use scratchpad::NineBytes;
 
@@ -293,4 +294,23 @@ pub fn name_frame(f: Frame) -> Named
         return name_pad(code_in(bits), pad_in(bits));
     }
     plain_name(Name::Other)
+}
+
+// The name of what was read.
+fn name_read(read: LineRead) -> Named
+    ensures { λ r. ⌜ r ≡ nameOfRead read ⌝ }
+{
+    let refusal = read.refusal;
+    if refusal != refusals::ACCEPTED {
+        return refuse(refusal);
+    }
+    let frame = read.frame;
+    name_frame(frame)
+}
+
+// The name of a line, by its characters before the feed or the end and whether there is a feed.
+pub fn name_line(line: &[u8], fed: bool) -> Named
+    ensures answer { λ r. ⌜ r ≡ lineNamed record { chars = now (line .entry); fed = fed } ⌝ }
+{
+    name_read(frame_lines::read_line(line, fed, 0))
 }

@@ -2,31 +2,29 @@
 -- Assumes nothing.
 use Prim.Native.Nat.{ℕ, suc, _+_, _-_, _<_, _≤_}
 use mathlib.Core.Path.{_≡_, refl, sym, ap, _∙_}
-use mathlib.Core.Bool.{Bool, true, false, _&&_}
+use mathlib.Core.Bool.{Bool, true, false}
 use mathlib.Core.List.{List, [], _∷_, _++_}
 use native.Mathlib.Omega.{arith}
 use borrow.Author.Tests.{eq-eqb, ne-eqb}
-use lib.Dec.{eqb, ltb, lit≤}
+use lib.Dec.{eqb, lit≤}
 use lib.ListN.{length, set, take, drop, length-append}
 use Rattle.lists.specs.Choice.{if_then_else_}
 use Rattle.lists.specs.Laid.{laid}
 use Rattle.lists.specs.LaidLaws.{laid-length, laid-store, laid-read, laid-then}
-use Rattle.refusals.specs.Refusals.{accepted, notHex, malformed}
-use Rattle.text.specs.Digits.{spells, hexDigits}
+use Rattle.refusals.specs.Refusals.{accepted}
+use Rattle.text.specs.Digits.{hexDigits}
 use Rattle.text.specs.DigitsLaws.{digits-length}
 use Rattle.text.specs.Decimal.{decimal}
 use Rattle.text.specs.DecimalLaws.{decimal-length, decimal-most}
-use Rattle.text.specs.Lines.{Line, lineFeed}
+use Rattle.text.specs.Lines.{lineFeed}
 use Rattle.laying.specs.Laying.{layAnswer, layLeaves}
 use Rattle.laying.specs.LayingLaws.{lay-fits, lay-behind}
-use Rattle.frame_lines.specs.ReadLine.{longestLine, wellFormed, frameIn, carries, noFrame, readDigits, readLine, found, lineAnswerOf}
-use Rattle.naming.specs.Naming.{readNamed, lineNamed}
 use Rattle.naming.specs.declared.Name.{Name}
 use Rattle.naming.specs.declared.Name.the-variants.{Empty, Search, Alarm, Nobody, Pad, Other}
 use Rattle.naming.specs.declared.Named.{Named}
 use Rattle.printing.specs.declared.Text.{Text}
 use Rattle.text.specs.Lines.{space}
-use Rattle.printing.specs.Printing.{word, refusedWord, refusedText, detail, described, printedName, blankText, printedText, nameOfRead}
+use Rattle.printing.specs.Printing.{word, refusedWord, refusedText, detail, described, printedName, blankText, printedText}
 
 -- ## How long the details are
 
@@ -147,17 +145,3 @@ pub text-read : (n : Named) → take (printedText n .count - 0) (drop 0 (printed
 text-read n =
     let z : printedText n .count - 0 ≡ length (printedName n) = omega arith in
     ap (λ (k : ℕ). take k (laid blankText 0 (printedName n))) z ∙ laid-read blankText 0 (printedName n) (omega arith)
-
--- ## A reader's answer, named
-
-pub line-read : (next : ℕ) (l : Line) → nameOfRead (lineAnswerOf (found (readLine l) next)) ≡ lineNamed l
-unfolding readLine readDigits
-line-read next l = by-test (ltb longestLine (length (l .chars))) (spells 16 (l .chars) && l .fed) (wellFormed (l .chars))
-  where
-    by-test : (t u v : Bool) →
-        let r = if t then noFrame malformed else if u then (if v then carries (frameIn (l .chars)) else noFrame malformed) else noFrame notHex in
-        nameOfRead (lineAnswerOf (found r next)) ≡ readNamed r
-    by-test true u v = refl
-    by-test false true true = refl
-    by-test false true false = refl
-    by-test false false v = refl

@@ -18,8 +18,7 @@ use Rattle.refusals.specs.Refusals.{accepted}
 use Rattle.text.specs.Digits.{hexDigits, codeDigits}
 use Rattle.text.specs.Decimal.{decimal}
 use Rattle.text.specs.Lines.{Line, lineFeed, space}
-use Rattle.frame_lines.specs.declared.LineRead.{LineRead}
-use Rattle.naming.specs.Naming.{named, refusedName, lineNamed}
+use Rattle.naming.specs.Naming.{lineNamed}
 use Rattle.naming.specs.declared.Name.{Name}
 use Rattle.naming.specs.declared.Name.the-variants.{Empty, Search, Alarm, Nobody, Pad, Other}
 use Rattle.naming.specs.declared.Named.{Named}
@@ -72,7 +71,3 @@ blankText = replicate 32 0
 -- the printed line in the front of 32 bytes
 abbrev pub printedText : Named → Text
 printedText n = record { bytes = laid blankText 0 (printedName n); count = length (printedName n) }
-
--- the name of a reader's answer
-abbrev pub nameOfRead : LineRead → Named
-nameOfRead r = if eqb (r .refusal) accepted then named (r .frame) else refusedName (r .refusal)

@@ -7,8 +7,7 @@ ghost use Rattle.lists.specs.Laid.{laid};
 ghost use Rattle.text.specs.Digits.{hexDigits};
 ghost use Rattle.laying.specs.Laying.{layAnswer, layLeaves};
 ghost use Rattle.text.specs.Lines.{space};
-ghost use Rattle.printing.specs.Printing.{word, detail, refusedText, described, printedName, printedLine, printedText, nameOfRead};
-use frame_lines::LineRead;
+ghost use Rattle.printing.specs.Printing.{word, detail, refusedText, described, printedName, printedLine, printedText};
 use laying::Written;
 use naming::Name;
 use naming::Named;
@@ -119,24 +118,11 @@ pub fn print_named(out: &mut [u8], at: usize, named: Named) -> Written
     laying::lay(out, at, &bytes[0..count])
 }
 
-// The name of what was read.
-fn name_read(read: LineRead) -> Named
-    ensures { λ r. ⌜ r ≡ nameOfRead read ⌝ }
-{
-    let refusal = read.refusal;
-    if refusal != refusals::ACCEPTED {
-        return naming::refuse(refusal);
-    }
-    let frame = read.frame;
-    naming::name_frame(frame)
-}
-
 // What is printed for a line, by its characters before the feed or the end and whether there is a
 // feed, written at a place.
 pub fn print_line(out: &mut [u8], at: usize, line: &[u8], fed: bool) -> Written
     ensures answer { λ r. ⌜ r ≡ layAnswer (now (out .entry)) at (printedLine record { chars = now (line .entry); fed = fed }) ⌝ }
     ensures written { λ r. ⌜ now (out .exit) ≡ layLeaves (now (out .entry)) at (printedLine record { chars = now (line .entry); fed = fed }) ⌝ }
 {
-    let named = name_read(frame_lines::read_line(line, fed, 0));
-    print_named(out, at, named)
+    print_named(out, at, naming::name_line(line, fed))
 }

@@ -1,8 +1,8 @@
 -- A refusal is passed on; else the frame is named. Assumes nothing.
 use borrow.Author.Tests.{eq-eqb, ne-eqb}
 use borrow.Author.Needs.{needs}
-use Rattle.printing.proofs.name_read.Statement.{statement}
-use Rattle.printing.proofs.name_read.Tie as tie
+use Rattle.naming.proofs.name_read.Statement.{statement}
+use Rattle.naming.proofs.name_read.Tie as tie
 
 refuse-requires : tie.Need-refuse-requires
 refuse-requires c κs = search needs
