@@ -1,0 +1,4 @@
+pub mod HostNaming
+pub mod Hosts
+pub mod Laws
+pub mod HostsLaws
