@@ -1,7 +1,8 @@
-// The CRC of 64 MiB in one call, ten times, each result written into the bytes of the next time. With
-// `--cfg ours` it is that of our static library, to which this program lends its bytes.
-const TIMES: u32 = 10;
-
+// The CRC of bytes that this program lends, each result written into the first byte of the next time:
+//
+//     lent [BYTES TIMES]      64 MiB ten times where nothing is given
+//
+// With `--cfg ours` it is that of our library, else that of a table.
 #[cfg(not(ours))]
 mod table;
 #[cfg(not(ours))]
@@ -10,15 +11,17 @@ use table::crc_of;
 #[cfg(ours)]
 fn crc_of(bytes: &[u8]) -> u8 {
     extern "C" {
-        fn measure_lent_crc(start: *const u8, count: usize) -> u8;
+        fn skiffle_crc(start: *const u8, count: usize) -> u8;
     }
-    unsafe { measure_lent_crc(bytes.as_ptr(), bytes.len()) }
+    unsafe { skiffle_crc(bytes.as_ptr(), bytes.len()) }
 }
 
 fn main() {
-    let mut bytes: Vec<u8> = (0..64usize << 20).map(|i| (i % 4096 * 157 / 3 % 256) as u8).collect();
+    let words: Vec<usize> = std::env::args().skip(1).map(|word| word.parse().unwrap()).collect();
+    let (count, times) = if words.len() == 2 { (words[0], words[1]) } else { (64 << 20, 10) };
+    let mut bytes: Vec<u8> = (0..count).map(|i| (i % 4096 * 157 / 3 % 256) as u8).collect();
     let mut last = 0;
-    for _ in 0..TIMES {
+    for _ in 0..times {
         last = crc_of(&bytes);
         bytes[0] = last;
     }
