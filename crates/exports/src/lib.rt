@@ -1,8 +1,12 @@
-// What a host in C or Rust calls: include/skiffleshower.h has the same for C, with a word on each.
+// What a host in C or Rust calls. include/skiffleshower.h has the same for C, and says what each does.
 ghost use mathlib.Core.Path.{_≡_};
 ghost use Rattle.crc.specs.Crc.{crcOf};
 ghost use Rattle.host_naming.specs.HostNaming.{nextAnswer, nextLeaves};
 use host_naming::Answer;
+use host_naming::LONGEST_HELD;
+
+// Room for a line that is not finished yet.
+pub type Line = [u8; LONGEST_HELD];
 
 // The CRC of bytes; 0 of none.
 #[no_mangle]
@@ -15,7 +19,7 @@ pub extern "C" fn skiffle_crc(bytes: &[u8]) -> u8
 // The next of a recording that comes in pieces.
 #[no_mangle]
 pub extern "C" fn skiffle_next(
-    line: &mut [u8; 135],
+    line: &mut Line,
     held: usize,
     bytes: &[u8],
     at: usize,
