@@ -1,6 +1,5 @@
--- Whatever the pieces: what a host hears is what is told of the lines of the whole recording, each once and in order, in no more calls than the recording
--- has bytes and the host pieces.
---     hears-whole            the theorem
+-- What a host hears of a recording that it hands over in pieces: one call after another, by what is left of the recording.
+--     hears-whole            the theorem, of `HostClaim`
 -- Assumes nothing.
 use Prim.Native.Nat.{ℕ, zero, suc, _+_, _<_, _≤_}
 use mathlib.Core.Path.{_≡_, refl, sym, ap, _∙_}
@@ -30,7 +29,7 @@ use Rattle.naming.specs.declared.Name.the-variants.{Empty, Search, Alarm, Nobod
 use Rattle.naming.specs.declared.Named.{Named}
 use Rattle.host_naming.specs.declared.Answer.{Answer}
 use Rattle.host_naming.specs.HostNaming.{done, moreWanted, numberTold, longestHeld, lineInHand, toldName, openTold, placeBehind, nextAnswer, nextLeaves}
-use Rattle.host_naming.specs.Hosts.{lineNumbers, hearing, hears}
+use Rattle.host_naming.specs.Hosts.{lineNumbers, hearing, hears, HostClaim}
 
 -- ## A name is never taken for the end or for a wish
 
@@ -263,8 +262,7 @@ hears-on : (n : ℕ) → Hears n
 hears-on zero line held bytes at cs room plain enough = absurd (omega arith)
 hears-on (suc n) line held bytes at cs room plain enough = one-more n (hears-on n) line held bytes at cs room plain enough
 
-pub hears-whole : (line : List ℕ) → longestHeld ≤ length line → (c : List ℕ) (cs : List (List ℕ)) (n : ℕ) → length (together (c ∷ cs)) + length cs < n
-    → hears n line 0 c 0 cs ≡ said lineNumbers (together (c ∷ cs))
+pub hears-whole : HostClaim
 unfolding all together
 hears-whole line room c cs n enough =
     let l = length-append c (together cs) in
