@@ -1,8 +1,8 @@
 /*
- * The CRC of bytes that this program lends, each result written into the first
- * byte of the next time:
+ * The CRCs of rows of bytes that this program lends, so many times, each result
+ * written into its row:
  *
- *     lent BYTES TIMES
+ *     lent BYTES ROWS TIMES
  *
  * With -DOURS it is that of our library, else that of a table.
  */
@@ -38,20 +38,22 @@ static uint8_t crc_of(const uint8_t *bytes, size_t count)
 
 int main(int argc, char **argv)
 {
-    size_t count = argc > 2 ? strtoul(argv[1], NULL, 10) : 0;
-    unsigned long times = argc > 2 ? strtoul(argv[2], NULL, 10) : 0;
-    uint8_t *bytes = malloc(count + 1);
-    uint8_t last = 0;
+    size_t words[3] = {0};
+    uint8_t *bytes, last = 0;
 
-    if (count == 0 || bytes == NULL)
+    for (int i = 0; i < 3 && i + 1 < argc; i++)
+        words[i] = strtoul(argv[i + 1], NULL, 10);
+    size_t count = words[0], rows = words[1], times = words[2];
+    if (count == 0 || (bytes = malloc(count * rows)) == NULL)
         return 2;
     fill();
-    for (size_t i = 0; i < count; i++)
+    for (size_t i = 0; i < count * rows; i++)
         bytes[i] = (uint8_t)(i % 4096 * 157 / 3 % 256);
-    for (; times > 0; times--) {
-        last = crc_of(bytes, count);
-        bytes[0] = last;
-    }
+    for (; times > 0; times--)
+        for (uint8_t *row = bytes; row < bytes + count * rows; row += count) {
+            last = crc_of(row, count);
+            row[0] = last;
+        }
     printf("%02x\n", last);
     free(bytes);
     return 0;
