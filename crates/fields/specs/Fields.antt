@@ -11,13 +11,13 @@
 -- Decimal numbers have one to five digits; zeros in front are taken.
 -- Assumes nothing.
 use Prim.Native.Nat.{ℕ}
-use mathlib.Core.Bool.{Bool, _&&_, _||_}
+use mathlib.Core.Bool.{_&&_, _||_}
 use mathlib.Core.List.{List}
-use lib.Dec.{eqb}
 use lib.IntN.{pos, negℤ}
-use lib.ListN.{drop, getD}
+use lib.ListN.{drop}
 use Rattle.lists.specs.Choice.{if_then_else_}
 use Rattle.text.specs.Ascii.{ascii}
+use Rattle.text.specs.Decimal.{isNegative}
 use Rattle.text.specs.Numbers.{fixedRead, decimalRead}
 use Rattle.text.specs.declared.NumberRead.{NumberRead}
 use Rattle.device.specs.declared.Power.the-variants.{Line, External}
@@ -54,10 +54,6 @@ bytesIn w = decimalRead mostDigits mostBytes w
 
 abbrev pub pinsIn : List ℕ → NumberRead
 pinsIn w = decimalRead 3 255 w
-
--- whether a word starts with a minus
-abbrev pub isNegative : List ℕ → Bool
-isNegative w = eqb (getD w 0 0) 0x2D
 
 -- the count of a number without a minus
 abbrev pub above : NumberRead → CountRead

@@ -1,7 +1,7 @@
 // The fields of a call.
 ghost use mathlib.Core.Path.{_≡_};
 ghost use mathlib.Core.Bool.{_&&_};
-ghost use Rattle.fields.specs.Fields.{codeIn, byteIn, bitIn, placesIn, bytesIn, pinsIn, isNegative, countIn, threeBytesIn, powerIn};
+ghost use Rattle.fields.specs.Fields.{codeIn, byteIn, bitIn, placesIn, bytesIn, pinsIn, countIn, threeBytesIn, powerIn};
 use device::Power;
 use device::Settings;
 use temperature::Sixteenths;
@@ -68,19 +68,10 @@ pub fn pins_in(w: &[u8]) -> NumberRead
     text::read_decimal(w, 3, 255)
 }
 
-fn is_negative(w: &[u8]) -> bool
-    ensures { λ r. ⌜ r ≡ isNegative (now (w .entry)) ⌝ }
-{
-    if w.len() < 1 {
-        return false;
-    }
-    w[0] == text::MINUS
-}
-
 pub fn count_in(w: &[u8]) -> CountRead
     ensures answer { λ r. ⌜ r ≡ countIn (now (w .entry)) ⌝ }
 {
-    if is_negative(w) {
+    if text::is_negative(w) {
         let below = text::read_decimal(&w[1..], MOST_DIGITS, 32768);
         let size = below.number as i32;
         return CountRead {

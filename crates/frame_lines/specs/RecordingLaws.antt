@@ -7,22 +7,19 @@
 -- Assumes nothing.
 use Prim.Native.Nat.{ℕ, zero, suc, _+_, _-_, _<_, _≤_}
 use mathlib.Core.Path.{_≡_, refl, sym, ap, _∙_}
-use mathlib.Core.Bool.{Bool, true, false, not, false≢true}
+use mathlib.Core.Bool.{Bool, true, false}
 use mathlib.Core.List.{List, [], _∷_, _++_, map, append-assoc}
 use native.Mathlib.Omega.{arith}
-use borrow.Author.Tests.{eqb-true, lt-ltb, le-ltb, ltb-true, ltb-false}
-use lib.Dec.{eqb, ltb}
+use borrow.Author.Tests.{lt-ltb, le-ltb, ltb-true, ltb-false}
+use lib.Dec.{ltb, lit≤}
 use lib.ListN.{length, take, drop, length-append, length-drop}
 use lib.Seq.{drop-drop, drop-at, length-take-le}
 use Rattle.lists.specs.Choice.{if_then_else_}
-use Rattle.lists.specs.ChoiceLaws.{and-left, and-right}
 use Rattle.lists.specs.FirstLaws.{at-within}
-use Rattle.lists.specs.Fold.{all}
 use Rattle.lists.specs.Laid.{laid}
 use Rattle.lists.specs.LaidLaws.{laid-none, laid-more, laid-length, laid-read}
-use Rattle.text.specs.Digits.{isDigit, spells}
-use Rattle.text.specs.Lines.{Line, lineFeed, notFeed, linesOf, linesBytes, feedAt, firstLine, width}
-use Rattle.text.specs.LinesLaws.{lines-bytes, lines-cut, lines-next, lines-done}
+use Rattle.text.specs.Lines.{Line, lineFeed, linesOf, linesBytes, feedAt, firstLine, width}
+use Rattle.text.specs.LinesLaws.{lines-bytes, lines-cut, lines-next, lines-done, digits-no-feed}
 use Rattle.laying.specs.LayingLaws.{lay-fits}
 use Rattle.frame.specs.declared.Frame.{Frame}
 use Rattle.frame_lines.specs.ReadLine.{carries, readLine, lineReadAt, firstFound, found, done, lineAnswerOf}
@@ -38,27 +35,12 @@ write-append (f ∷ fs) gs = ap (λ (t : List ℕ). fedLine f ++ t) (write-appen
 
 -- ## Written, then read
 
-digit-no-feed : (c : ℕ) → isDigit 16 c ≡ true → notFeed c ≡ true
-digit-no-feed c h = by-test (eqb c lineFeed) refl
-  where
-    by-test : (t : Bool) → eqb c lineFeed ≡ t → not t ≡ true
-    by-test true e = let f = eqb-true c lineFeed e in absurd (false≢true (rw f at h))
-    by-test false e = refl
-
-pub digits-no-feed : (cs : List ℕ) → spells 16 cs ≡ true → all notFeed cs ≡ true
-unfolding all
-digits-no-feed [] h = refl
-digits-no-feed (c ∷ cs) h =
-    let e = digit-no-feed c (and-left (isDigit 16 c) (spells 16 cs) h) in
-    let i = digits-no-feed cs (and-right (isDigit 16 c) (spells 16 cs) h) in
-    rw (e, i)
-
 -- frames written one after another are read back as the same frames, and then there is nothing more
 pub read-back : {fs : List Frame} → Writable fs → readAll (writeAll fs) ≡ map carries fs
 unfolding writeAll linesOf
 read-back none = refl
 read-back (one {f} {fs} held sound rest) =
-    rw (lines-cut (charactersOf f) (writeAll fs) (digits-no-feed (charactersOf f) (line-digits f)), read-written f held sound, read-back rest)
+    rw (lines-cut (charactersOf f) (writeAll fs) (digits-no-feed 16 (charactersOf f) (lit≤ tt) (line-digits f)), read-written f held sound, read-back rest)
 
 -- ## Read, then written
 
@@ -128,7 +110,7 @@ write-calls (one {f} {fs} held sound rest) s at h =
 line-found : (f : Frame) (s more : List ℕ) (at : ℕ) → readLine record { chars = charactersOf f; fed = true } ≡ carries f → drop at s ≡ fedLine f ++ more
     → lineReadAt s at ≡ lineAnswerOf (found (carries f) (at + length (fedLine f)))
 line-found f s more at says here =
-    let plain = digits-no-feed (charactersOf f) (line-digits f) in
+    let plain = digits-no-feed 16 (charactersOf f) (lit≤ tt) (line-digits f) in
     let width-is : length (charactersOf f) + 1 ≡ length (fedLine f) = sym (length-append (charactersOf f) (lineFeed ∷ [])) in
     rw (here, lines-cut (charactersOf f) more plain, says, width-is)
 

@@ -92,6 +92,22 @@ pub fn lay_hex(out: &mut [u8], at: usize, count: usize, number: u64) -> Written
     }
 }
 
+// The lowest decimal digits of a number, laid at a place.
+pub fn lay_decimals(out: &mut [u8], at: usize, count: usize, number: u64) -> Written
+    ensures answer { λ r. ⌜ r ≡ layAnswer (now (out .entry)) at (digits 10 count number) ⌝ }
+    ensures written { λ r. ⌜ now (out .exit) ≡ layLeaves (now (out .entry)) at (digits 10 count number) ⌝ }
+{
+    let room = has_room(out, at, count);
+    if !room {
+        return refuse(refusals::NO_ROOM);
+    }
+    put_digits(out, at, 10, count, number);
+    Written {
+        refusal: refusals::ACCEPTED,
+        next: at + count,
+    }
+}
+
 // A number in plain decimal, laid at a place.
 pub fn lay_decimal(out: &mut [u8], at: usize, number: u64) -> Written
     ensures answer { λ r. ⌜ r ≡ layAnswer (now (out .entry)) at (decimal number) ⌝ }
@@ -110,8 +126,8 @@ pub fn lay_decimal(out: &mut [u8], at: usize, number: u64) -> Written
 }
 
 // How far a number is from zero.
-fn size_of(number: i32) -> u64
-    ensures { λ r. ⌜ r ≡ natAbs number ⌝ }
+pub fn size_of(number: i32) -> u64
+    ensures answer { λ r. ⌜ r ≡ natAbs number ⌝ }
 {
     let wide = number as i64;
     if 0 <= wide {

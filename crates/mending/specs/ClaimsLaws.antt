@@ -8,18 +8,17 @@ use mathlib.Core.Bool.{Bool, true, false, not}
 use mathlib.Core.List.{List, [], _∷_, _++_, map, append-nil}
 use native.Mathlib.Omega.{arith}
 use borrow.Author.Tests.{eqb-true}
-use lib.Dec.{eqb, ltb, lit<}
+use lib.Dec.{eqb, ltb, lit<, lit≤}
 use lib.ListN.{length, replicate, length-append}
 use Rattle.lists.specs.Choice.{if_then_else_}
 use Rattle.lists.specs.Each.{Each}
 use Rattle.lists.specs.EachLaws.{each-append}
 use Rattle.refusals.specs.Refusals.{accepted, notHex, malformed}
 use Rattle.text.specs.Lines.{Line, lineFeed, linesOf, linesBytes, lineBytes, width}
-use Rattle.text.specs.LinesLaws.{lines-bytes, lines-cut, bytes-append}
+use Rattle.text.specs.LinesLaws.{lines-bytes, lines-cut, bytes-append, digits-no-feed}
 use Rattle.pieces.specs.Pieces.{sayAll, together, Enough}
 use Rattle.pieces.specs.Cuts.{any-cuts}
 use Rattle.pieces.specs.Walk.{Short}
-use Rattle.frame_lines.specs.RecordingLaws.{digits-no-feed}
 use Rattle.mending.specs.Mending.{mendedChars, alteredBy, lineRefusal, mendedLine, longestMended, Fate, kept, mended, dropped, fateOf, reportByte, left, linesLeft, mendedBytes, mendedText}
 use Rattle.mending.specs.Repair.{mended-fewer}
 use Rattle.mending.specs.LineLaws.{reading, fate-kept, fate-long}
@@ -62,7 +61,7 @@ cut-back (m ∷ ms) e =
     let r = reading m (e .0) in
     let whole : lineBytes m ++ linesBytes ms ≡ (m .chars ++ (lineFeed ∷ [])) ++ linesBytes ms = rw (r .ended) in
     let fed : record { chars = m .chars; fed = true } ≡ m = ap (λ (t : Bool). record { chars = m .chars; fed = t }) (sym (r .ended)) in
-    ap linesOf whole ∙ lines-cut (m .chars) (linesBytes ms) (digits-no-feed (m .chars) (r .digital)) ∙ ap (λ (ls : List Line). record { chars = m .chars; fed = true } ∷ ls) (cut-back ms (e .1))
+    ap linesOf whole ∙ lines-cut (m .chars) (linesBytes ms) (digits-no-feed 16 (m .chars) (lit≤ tt) (r .digital)) ∙ ap (λ (ls : List Line). record { chars = m .chars; fed = true } ∷ ls) (cut-back ms (e .1))
     ∙ ap (λ (x : Line). x ∷ ms) fed
 
 -- and are kept

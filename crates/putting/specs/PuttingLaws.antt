@@ -1,14 +1,14 @@
 -- Part behind part: where the whole fits, what two parts put is what they are together.
 -- Assumes nothing.
-use Prim.Native.Nat.{ℕ, _+_, _≤_}
+use Prim.Native.Nat.{ℕ, _+_, _-_, _≤_}
 use mathlib.Core.Path.{_≡_, refl, sym, ap, _∙_}
 use mathlib.Core.Bool.{true, false}
 use mathlib.Core.List.{List, [], _∷_, _++_, append-assoc}
 use native.Mathlib.Omega.{arith}
 use borrow.Author.Tests.{leb-true}
-use lib.ListN.{length, length-append}
+use lib.ListN.{length, take, drop, length-append}
 use Rattle.lists.specs.Laid.{laid}
-use Rattle.lists.specs.LaidLaws.{laid-length, laid-then}
+use Rattle.lists.specs.LaidLaws.{laid-length, laid-read, laid-then}
 use Rattle.refusals.specs.Refusals.{accepted, noRoom}
 use Rattle.laying.specs.Laying.{hasRoom, layAnswer, layLeaves}
 use Rattle.laying.specs.LayingLaws.{lay-fits}
@@ -71,3 +71,18 @@ module _ (out : List ℕ) (at : ℕ) (x : List ℕ) where
       let room = leb-true (at + lineRoom) (length out) e in
       let done = p .puts (omega arith) in
       rw e (ap (λ (n : ℕ). record { refusal = accepted; next = n }) (done .1), done .0)
+
+-- ## One character, and what stands in front
+
+-- a character that is laid where it fits
+pub char-puts : (d : List ℕ) (at c : ℕ) (d' : List ℕ) (r : ℕ) → (r ≡ layAnswer d at (c ∷ []) .next) × (d' ≡ layLeaves d at (c ∷ [])) → Puts d at (c ∷ []) d' r
+char-puts d at c d' r e = rw (e .0) (puts-laid d at (c ∷ []) d' (layAnswer d at (c ∷ [])) refl (e .1))
+
+-- what is put at the front of a buffer that holds it, as code takes it from there
+pub puts-front : (d x d' : List ℕ) (r : ℕ) → Puts d 0 x d' r → length x ≤ length d → (r ≤ length d') × (take (r - 0) (drop 0 d') ≡ x)
+puts-front d x d' r p short =
+    let done = p .puts (omega arith) in
+    let same = ap length (done .0) ∙ laid-length d 0 x (omega arith) in
+    let place = done .1 in
+    let size : r - 0 ≡ length x = omega arith in
+    (omega arith, ap (λ (l : List ℕ). take (r - 0) (drop 0 l)) (done .0) ∙ ap (λ (k : ℕ). take k (laid d 0 x)) size ∙ laid-read d 0 x (omega arith))

@@ -84,3 +84,7 @@ versionsSpent = 19
 -- the count bytes of a scratchpad in half degrees cannot be: byte 7 is zero, or byte 6 above it
 abbrev pub wrongCounts : ℕ
 wrongCounts = 20
+
+-- a row of comma-separated text has not the form of one, or its reading is none that the family has
+abbrev pub badRow : ℕ
+badRow = 21

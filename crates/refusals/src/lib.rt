@@ -62,3 +62,6 @@ pub const VERSIONS_SPENT: u8 = 19;
 
 // The count bytes of a scratchpad in half degrees cannot be: byte 7 is zero, or byte 6 above it.
 pub const WRONG_COUNTS: u8 = 20;
+
+// A row of comma-separated text has not the form of one, or its reading is none that the family has.
+pub const BAD_ROW: u8 = 21;

@@ -1,6 +1,7 @@
 -- A number of any size in plain decimal: as many digits as it needs, so that no zero stands in front of another digit; 0 is one digit.
 --     decimal x              the number in plain decimal
 --     signedDecimal z        a number with a sign: how far it is from zero, with a minus in front where it is negative
+--     isNegative cs          whether some characters start with a minus
 --     decimalIn cs           the number that decimal digits stand for
 --     plainDecimal cs        whether some characters are a number in plain decimal
 -- Assumes nothing.
@@ -31,6 +32,10 @@ decimal x = digits 10 (decimalLength x) x
 -- a number with a sign: a minus in front where it is negative
 unfoldable pub signedDecimal : ℤ → List ℕ
 signedDecimal z = if ltZ z (pos 0) then ascii "-" ++ decimal (natAbs z) else decimal (natAbs z)
+
+-- whether some characters start with a minus
+abbrev pub isNegative : List ℕ → Bool
+isNegative cs = eqb (getD cs 0 0) 0x2D
 
 -- the number that decimal digits stand for
 abbrev pub decimalIn : List ℕ → ℕ

@@ -1,25 +1,27 @@
 -- Plain decimal: how many digits a number has, as a loop counts them, and the two round trips.
 --     decimal-read           the number of the digits of a number
 --     decimal-written        plain decimal read and written again is the same
+--     decimal-plain          a number in plain decimal is one
 -- Assumes nothing.
-use Prim.Native.Nat.{ℕ, zero, suc, _+_, _/_, _^_, _<_, _≤_}
+use Prim.Native.Nat.{ℕ, zero, suc, _+_, _-_, _/_, _^_, _<_, _≤_}
 use mathlib.Core.Path.{_≡_, refl, sym, ap, _∙_}
 use mathlib.Core.Bool.{Bool, true, false, not, _&&_, _||_, false≢true}
 use mathlib.Core.List.{List, [], _∷_, _++_}
 use native.Mathlib.Omega.{arith}
 use native.Mathlib.Nat.{pow-suc, pow-le-pow-right}
-use borrow.Author.Tests.{lt-ltb, le-ltb, ltb-true, ltb-false, eqb-true, eqb-false, ne-eqb, not-true}
+use borrow.Author.Tests.{lt-ltb, le-ltb, le-leb, lt-leb, ltb-true, ltb-false, eq-eqb, ne-eqb, eqb-true, eqb-false, not-true}
 use lib.Dec.{eqb, leb, ltb, lit<}
 use lib.IntN.{ℤ, pos, natAbs}
-use lib.ListN.{length}
+use lib.ListN.{length, take, drop, getD, length-drop}
+use lib.Seq.{take-all}
 use lib.Signed.{ltZ}
 use Rattle.lists.specs.Choice.{if_then_else_}
 use Rattle.lists.specs.ChoiceLaws.{and-left, and-right}
 use Rattle.lists.specs.Fold.{fold, all}
 use Rattle.text.specs.Ascii.{ascii}
 use Rattle.text.specs.Digits.{digits, digitOf, valueOf, isDigit, spells, numberIn, thenDigit}
-use Rattle.text.specs.DigitsLaws.{digits-length, number-digits, digits-number, number-below, digit-value}
-use Rattle.text.specs.Decimal.{lengthWithin, decimalLength, decimal, signedDecimal, decimalIn, plainDecimal}
+use Rattle.text.specs.DigitsLaws.{digits-length, digits-are, number-digits, digits-number, number-below, digit-value}
+use Rattle.text.specs.Decimal.{lengthWithin, decimalLength, decimal, signedDecimal, isNegative, decimalIn, plainDecimal}
 
 -- ## How many digits
 
@@ -173,3 +175,59 @@ module _ (z : ℤ) (n : ℕ) (size : n ≡ natAbs z) where
   pub signed-positive : ltZ z (pos 0) ≡ false → decimal n ≡ signedDecimal z
   unfolding signedDecimal
   signed-positive e = rw e (ap decimal size)
+
+-- ## Plain decimal, as code tests it
+
+module _ (cs : List ℕ) where
+  pub plain-empty : length cs < 1 → false ≡ plainDecimal cs
+  plain-empty h = rw (lt-leb 1 (length cs) h)
+
+  module _ (some : 1 ≤ length cs) where
+    pub plain-other : spells 10 cs ≡ false → false ≡ plainDecimal cs
+    plain-other e = rw (le-leb 1 (length cs) some, e)
+
+    module _ (spelt : spells 10 cs ≡ true) where
+      pub plain-single : length cs ≡ 1 → true ≡ plainDecimal cs
+      plain-single l = rw (le-leb 1 (length cs) some, spelt, eq-eqb (length cs) 1 l)
+
+      pub plain-several : (length cs ≡ 1 → ⊥) → not (eqb (getD cs 0 0) 0x30) ≡ plainDecimal cs
+      plain-several l = rw (le-leb 1 (length cs) some, spelt, ne-eqb (length cs) 1 l)
+
+-- a number that starts with a zero and has more digits is below the power that they reach
+zero-first : (cs : List ℕ) → spells 10 (0x30 ∷ cs) ≡ true → decimalIn (0x30 ∷ cs) < 10 ^ length cs
+unfolding numberIn fold all
+zero-first cs h = number-below 10 cs (and-right (isDigit 10 0x30) (spells 10 cs) h)
+
+-- so several digits that are as many as their number has do not start with a zero
+counted-plain : (cs : List ℕ) → spells 10 cs ≡ true → length cs ≡ decimalLength (decimalIn cs) → plainDecimal cs ≡ true
+counted-plain [] s l = absurd (let some = within-some (decimalIn []) (decimalIn []) in omega arith)
+counted-plain (c ∷ []) s l = sym (plain-single (c ∷ []) (omega arith) s refl)
+counted-plain (c ∷ d ∷ cs) s l = sym (plain-several (c ∷ d ∷ cs) (omega arith) s (λ one. omega arith)) ∙ by-test (eqb c 0x30) refl
+  where
+    by-test : (t : Bool) → eqb c 0x30 ≡ t → not t ≡ true
+    by-test true e =
+        let first = eqb-true c 0x30 e in
+        let low : decimalIn (c ∷ d ∷ cs) < 10 ^ suc (length cs) = rw first (zero-first (d ∷ cs) (rw first at s)) in
+        let few = decimal-most (decimalIn (c ∷ d ∷ cs)) (length cs) low in
+        absurd (omega arith)
+    by-test false e = refl
+
+pub decimal-plain : (x : ℕ) → plainDecimal (decimal x) ≡ true
+unfolding decimal
+decimal-plain x =
+    let same = ap decimalLength (sym (decimal-read x)) in
+    counted-plain (decimal x) (digits-are 10 (lit< tt) (omega arith) (decimalLength x) x) (digits-length 10 (decimalLength x) x ∙ same)
+
+-- ## Behind a minus
+
+pub positive-empty : (w : List ℕ) → length w < 1 → false ≡ isNegative w
+positive-empty [] h = refl
+positive-empty (c ∷ w) h = absurd (omega arith)
+
+pub negative-some : (w : List ℕ) → isNegative w ≡ true → 1 ≤ length w
+negative-some [] e = absurd (false≢true e)
+negative-some (c ∷ w) e = omega arith
+
+-- a part from the second character on is all but the first
+pub rest-whole : (w : List ℕ) (n : ℕ) → n ≡ length w - 1 → take n (drop 1 w) ≡ drop 1 w
+rest-whole w n e = take-all n (drop 1 w) (rw (length-drop 1 w) (omega arith))

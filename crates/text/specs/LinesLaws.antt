@@ -8,10 +8,11 @@
 --     line-by-end, behind-fed, behind-open       the line that starts at a place, and the place behind it, by where it ends
 --     lines-behind, bytes-parted                 the lines behind the first n, put back: their lines, and the bytes in front of them
 --     lines-from, lines-place, lines-within      where they begin
+--     digits-no-feed         none of some digits is a feed
 -- Assumes nothing.
 use Prim.Native.Nat.{ℕ, zero, suc, _+_, _-_, _<_, _≤_}
 use mathlib.Core.Path.{_≡_, refl, sym, ap, _∙_}
-use mathlib.Core.Bool.{Bool, true, false, Bool·beq, _&&_, false≢true}
+use mathlib.Core.Bool.{Bool, true, false, not, Bool·beq, _&&_, false≢true}
 use mathlib.Core.List.{List, [], _∷_, _++_, append-assoc}
 use native.Mathlib.Omega.{arith}
 use borrow.Author.Tests.{eqb-true, lt-ltb, le-ltb, leb-true, leb-false, ltb-true, ltb-false, not-true}
@@ -25,6 +26,7 @@ use Rattle.lists.specs.First.{firstAt}
 use Rattle.lists.specs.FirstLaws.{at-within}
 use Rattle.lists.specs.Same.{same}
 use Rattle.lists.specs.SameLaws.{same-equal, same-itself}
+use Rattle.text.specs.Digits.{isDigit, spells}
 use Rattle.text.specs.Lines.{lineFeed, Line, longer, linesOf, sameLine, feedAt, notFeed, width, firstLine, lineBytes, linesBytes}
 
 -- the first line, and those of what follows its feed
@@ -286,3 +288,24 @@ module _ (s : List ℕ) (n : ℕ) where
   lines-within =
       let whole = ap length bytes-parted ∙ length-append (linesBytes (take n (linesOf s))) (linesBytes (drop n (linesOf s))) in
       omega arith
+
+-- ## Digits
+
+digit-no-feed : (base c : ℕ) → base ≤ 16 → isDigit base c ≡ true → notFeed c ≡ true
+digit-no-feed base c small h = by-test (eqb c lineFeed) refl
+  where
+    by-test : (t : Bool) → eqb c lineFeed ≡ t → not t ≡ true
+    by-test true e =
+        let f = eqb-true c lineFeed e in
+        let below = ltb-true 16 base (rw f at h) in
+        absurd (omega arith)
+    by-test false e = refl
+
+-- none of some digits is a feed
+pub digits-no-feed : (base : ℕ) (cs : List ℕ) → base ≤ 16 → spells base cs ≡ true → all notFeed cs ≡ true
+unfolding all
+digits-no-feed base [] small h = refl
+digits-no-feed base (c ∷ cs) small h =
+    let e = digit-no-feed base c small (and-left (isDigit base c) (spells base cs) h) in
+    let i = digits-no-feed base cs small (and-right (isDigit base c) (spells base cs) h) in
+    rw (e, i)

@@ -3,19 +3,21 @@
 -- Assumes nothing.
 use Prim.Native.Nat.{ℕ, _+_, _-_, _*_, _/_, _^_, _<_, _≤_}
 use mathlib.Core.Path.{_≡_, refl, sym, ap, _∙_}
-use mathlib.Core.Bool.{Bool, true, false, _&&_, and-false}
+use mathlib.Core.Bool.{Bool, true, false, not, _&&_, _||_, and-false, false≢true}
 use mathlib.Core.List.{List, [], _∷_}
 use native.Mathlib.Omega.{arith}
-use native.Mathlib.Nat.{mul-comm, mul-le-mul-right, one-mul, le-div-iff-mul-le, div-lt-iff-lt-mul, one-le-pow, pow-le-pow-right}
-use borrow.Author.Tests.{le-leb, lt-leb, lt-ltb, le-ltb, eq-eqb, eqb-true, leb-true}
+use native.Mathlib.Nat.{le-of-lt, min-eq-left, min-eq-right, mul-comm, mul-le-mul-right, one-mul, le-div-iff-mul-le, div-lt-iff-lt-mul, one-le-pow, pow-le-pow-right}
+use borrow.Author.Tests.{le-leb, lt-leb, lt-ltb, le-ltb, eq-eqb, eqb-true, leb-true, leb-false}
 use lib.Dec.{eqb, leb, lit<}
 use lib.ListN.{length, take, drop, getD, take-append-drop}
 use Rattle.lists.specs.Choice.{if_then_else_}
+use Rattle.lists.specs.ChoiceLaws.{and-left, and-right}
 use Rattle.lists.specs.Fold.{fold}
 use Rattle.lists.specs.FoldLaws.{fold-append, all-from}
 use Rattle.text.specs.Digits.{valueOf, isDigit, spells, thenDigit, numberIn}
 use Rattle.text.specs.DigitsLaws.{number-next, number-below}
-use Rattle.text.specs.Numbers.{noNumber, numberRead, greatest, fixedRead, decimalRead}
+use Rattle.text.specs.Decimal.{decimalIn, plainDecimal}
+use Rattle.text.specs.Numbers.{noNumber, numberRead, greatest, fixedRead, decimalRead, plainRead}
 
 -- ## Along the loop
 
@@ -117,3 +119,32 @@ fixed-below base n cs some = by-length (eqb (length cs) n) refl
     by-length : (t : Bool) → eqb (length cs) n ≡ t → (if t then numberRead base greatest cs else noNumber) .number < base ^ n
     by-length true e = by-spelling (spells base cs) (leb (numberIn base cs) greatest) refl (eqb-true (length cs) n e)
     by-length false e = positive
+
+-- ## Plain decimal
+
+module _ (bound : ℕ) (cs : List ℕ) where
+  pub plain-none : plainDecimal cs ≡ false → noNumber ≡ plainRead bound cs
+  plain-none e = rw e
+
+  pub plain-within : plainDecimal cs ≡ true → numberRead 10 bound cs .valid ≡ true → numberRead 10 bound cs ≡ plainRead bound cs
+  plain-within e v =
+      let both = valid-both v in
+      let small = leb-true (decimalIn cs) bound (and-right (spells 10 cs) (leb (decimalIn cs) bound) both) in
+      rw (e, both, min-eq-left small)
+    where
+      valid-both : numberRead 10 bound cs .valid ≡ true → (spells 10 cs && leb (decimalIn cs) bound) ≡ true
+      valid-both = by-test (spells 10 cs && leb (decimalIn cs) bound)
+        where
+          by-test : (t : Bool) → (if t then record { valid = true; number = decimalIn cs } else noNumber) .valid ≡ true → t ≡ true
+          by-test true h = refl
+          by-test false h = h
+
+  pub plain-beyond : plainDecimal cs ≡ true → numberRead 10 bound cs .valid ≡ false → record { valid = true; number = bound } ≡ plainRead bound cs
+  plain-beyond e v = by-test (leb (decimalIn cs) bound) refl v
+    where
+      spelt : spells 10 cs ≡ true
+      spelt = and-right (leb 1 (length cs)) (spells 10 cs) (and-left (leb 1 (length cs) && spells 10 cs) (eqb (length cs) 1 || not (eqb (getD cs 0 0) 0x30)) e)
+
+      by-test : (t : Bool) → leb (decimalIn cs) bound ≡ t → numberRead 10 bound cs .valid ≡ false → record { valid = true; number = bound } ≡ plainRead bound cs
+      by-test true h v = absurd (false≢true (sym (rw (spelt, h) at v)))
+      by-test false h v = let k = leb-false (decimalIn cs) bound h in rw (e, min-eq-right (le-of-lt k))

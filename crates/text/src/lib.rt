@@ -9,9 +9,12 @@ pub use lines::same;
 pub use numbers::all_digits;
 pub use numbers::decimal_length;
 pub use numbers::digit;
+pub use numbers::is_negative;
+pub use numbers::is_plain;
 pub use numbers::read_decimal;
 pub use numbers::read_fixed;
 pub use numbers::read_number;
+pub use numbers::read_plain;
 pub use numbers::value;
 
 // The character that ends a line, the one that some editors put in front of it, that between two

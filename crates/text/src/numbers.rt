@@ -2,8 +2,9 @@
 ghost use mathlib.Core.Path.{_≡_};
 ghost use Prim.Native.Nat.{_%_};
 ghost use Rattle.text.specs.Digits.{digitOf, valueOf, spells};
-ghost use Rattle.text.specs.Decimal.{decimalLength};
-ghost use Rattle.text.specs.Numbers.{noNumber, numberRead, fixedRead, decimalRead};
+ghost use Rattle.text.specs.Decimal.{decimalLength, isNegative, plainDecimal};
+ghost use Rattle.text.specs.Numbers.{noNumber, numberRead, fixedRead, decimalRead, plainRead};
+use crate::MINUS;
 use crate::NumberRead;
 
 // The value of a character; 16 for one that is no digit.
@@ -118,4 +119,49 @@ pub fn decimal_length(number: u64) -> usize
         count += 1;
     }
     count
+}
+
+// Whether some characters start with a minus.
+pub fn is_negative(s: &[u8]) -> bool
+    ensures answer { λ r. ⌜ r ≡ isNegative (now (s .entry)) ⌝ }
+{
+    if s.len() < 1 {
+        return false;
+    }
+    s[0] == MINUS
+}
+
+// Whether some characters are a number in plain decimal: digits, the first of several no zero.
+pub fn is_plain(s: &[u8]) -> bool
+    ensures answer { λ r. ⌜ r ≡ plainDecimal (now (s .entry)) ⌝ }
+{
+    if s.len() < 1 {
+        return false;
+    }
+    let spelt = all_digits(s, 10);
+    if !spelt {
+        return false;
+    }
+    if s.len() == 1 {
+        return true;
+    }
+    s[0] != 0x30
+}
+
+// A number in plain decimal of any size, or the bound where it is greater.
+pub fn read_plain(s: &[u8], bound: u64) -> NumberRead
+    ensures answer { λ r. ⌜ r ≡ plainRead bound (now (s .entry)) ⌝ }
+{
+    let plain = is_plain(s);
+    if !plain {
+        return no_number();
+    }
+    let within = read_number(s, 10, bound);
+    if within.valid {
+        return within;
+    }
+    NumberRead {
+        valid: true,
+        number: bound,
+    }
 }

@@ -8,7 +8,7 @@ use native.Mathlib.Omega.{arith}
 use Rattle.signed.specs.ComplementLaws.{positive-code, negative-wide-fits, negative-code-fits, negative-code}
 use Rattle.text.specs.NumbersLaws.{decimal-at-most}
 use Rattle.fields.specs.Fields.{countIn}
-use Rattle.fields.specs.FieldsLaws.{negative-some, rest-whole}
+use Rattle.text.specs.DecimalLaws.{negative-some, rest-whole}
 use borrow.Author.Needs.{needs}
 use Rattle.fields.proofs.count_in.Statement.{statement}
 use Rattle.fields.proofs.count_in.Tie as tie

@@ -1,12 +1,12 @@
--- An empty word has no minus. Assumes nothing.
+-- Where there is no character there is no minus. Assumes nothing.
 use denote.Ref.{now}
-use Rattle.fields.specs.FieldsLaws.{positive-empty}
+use Rattle.text.specs.DecimalLaws.{positive-empty}
 use borrow.Author.Needs.{needs}
-use Rattle.fields.proofs.is_negative.Statement.{statement}
-use Rattle.fields.proofs.is_negative.Tie as tie
+use Rattle.text.proofs.numbers.is_negative.Statement.{statement}
+use Rattle.text.proofs.numbers.is_negative.Tie as tie
 
 returns : tie.Need-returns
-returns c = positive-empty (now (c .before .args .w)) (c .if1 .taken)
+returns c = positive-empty (now (c .before .args .s)) (c .if1 .taken)
 
 shared-slice-read-result : tie.Need-shared-slice-read-result
 shared-slice-read-result c = search needs
