@@ -1,0 +1,4 @@
+pub mod Csv
+pub mod RowLaws
+pub mod CsvLaws
+pub mod Theorem

@@ -1,0 +1,5 @@
+pub mod Rows
+pub mod RowsLaws
+pub mod Gathering
+pub mod GatheringLaws
+pub mod WalkLaws
