@@ -3,3 +3,5 @@ pub mod RowsLaws
 pub mod Gathering
 pub mod GatheringLaws
 pub mod WalkLaws
+pub mod Texts
+pub mod TextsLaws
