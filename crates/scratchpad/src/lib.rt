@@ -138,7 +138,7 @@ pub fn judge(family: u8, pad: NineBytes) -> Judged
 }
 
 // A reading in sixteenths.
-fn sixteenths_of(reading: Reading) -> Sixteenths
+pub fn sixteenths_of(reading: Reading) -> Sixteenths
     ensures answer { λ r. ⌜ r ≡ sixteenthsOf reading ⌝ }
 {
     match reading {

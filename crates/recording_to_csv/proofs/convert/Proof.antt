@@ -1,0 +1,73 @@
+-- What is printed is within its buffer. Assumes nothing.
+use Prim.Native.Nat.{_≤_}
+use mathlib.Core.Path.{sym}
+use lib.ListN.{length}
+use lib.Seq.{length-take-le}
+use borrow.Author.Needs.{needs}
+use Rattle.recording_to_csv.proofs.convert.Statement.{statement}
+use Rattle.recording_to_csv.proofs.convert.Tie as tie
+
+read-full-requires : tie.Need-read-full-requires
+read-full-requires c κs = search needs
+
+slice-aggregate-write-all : tie.Need-slice-aggregate-write-all
+slice-aggregate-write-all c = search needs
+
+write-all-requires : tie.Need-write-all-requires
+write-all-requires c κs = search needs
+
+same-length : tie.Need-same-length
+same-length c = search needs
+
+returns : tie.Need-returns
+returns c = search needs
+
+slice-reshare-prefix-to-csv : tie.Need-slice-reshare-prefix-to-csv
+slice-reshare-prefix-to-csv c = search needs
+
+slice-aggregate-to-csv : tie.Need-slice-aggregate-to-csv
+slice-aggregate-to-csv c = search needs
+
+to-csv-requires : tie.Need-to-csv-requires
+to-csv-requires c κs = search needs
+
+slice-reshare-prefix-write-all : tie.Need-slice-reshare-prefix-write-all
+slice-reshare-prefix-write-all c = search needs
+
+slice-aggregate-write-all-2 : tie.Need-slice-aggregate-write-all-2
+slice-aggregate-write-all-2 c =
+    let made = c .before .before .before in
+    let fits = made .to-csv .ensures .1 .1 in
+    let within : made .to-csv .result .next ≤ length (made .to-csv .last .1 .0) = search (needs, fits) in
+    sym (length-take-le (made .to-csv .result .next) (made .to-csv .last .1 .0) within)
+
+write-all-requires-2 : tie.Need-write-all-requires-2
+write-all-requires-2 c κs = search needs
+
+same-length-2 : tie.Need-same-length-2
+same-length-2 c = search needs
+
+same-length-3 : tie.Need-same-length-3
+same-length-3 c = search needs
+
+returns-2 : tie.Need-returns-2
+returns-2 c = search needs
+
+pub convert-spec : {M : Type 1} → statement M
+convert-spec =
+    tie.close
+    (tie.spec
+    read-full-requires
+    slice-aggregate-write-all
+    write-all-requires
+    same-length
+    returns
+    slice-reshare-prefix-to-csv
+    slice-aggregate-to-csv
+    to-csv-requires
+    slice-reshare-prefix-write-all
+    slice-aggregate-write-all-2
+    write-all-requires-2
+    same-length-2
+    same-length-3
+    returns-2)
