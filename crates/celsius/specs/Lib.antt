@@ -1,2 +1,3 @@
 pub mod Celsius
 pub mod CelsiusLaws
+pub mod Cases
