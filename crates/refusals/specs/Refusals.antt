@@ -88,3 +88,7 @@ wrongCounts = 20
 -- a row of comma-separated text has not the form of one, or its reading is none that the family has
 abbrev pub badRow : ℕ
 badRow = 21
+
+-- the bytes of a table are not those that the records of a bench pack to
+abbrev pub notATable : ℕ
+notATable = 22

@@ -65,3 +65,6 @@ pub const WRONG_COUNTS: u8 = 20;
 
 // A row of comma-separated text has not the form of one, or its reading is none that the family has.
 pub const BAD_ROW: u8 = 21;
+
+// The bytes of a table are not those that the records of a bench pack to.
+pub const NOT_A_TABLE: u8 = 22;
