@@ -1,5 +1,6 @@
 // A bench of up to 32 thermometers on one wire. The bench goes in by value and comes back in the
-// answer; its fields are private, so that only these calls make or change one.
+// answer; its fields are private, so that only these calls make or change one, and a table that a
+// host lends: `of_records`.
 ghost use Prim.Native.Nat.{_<_};
 ghost use mathlib.Core.Path.{_≡_};
 ghost use Rattle.bench.specs.Bench.{vacant, emptyBench, placeOf, free};
@@ -286,4 +287,27 @@ pub fn look(bench: Bench, code: u64) -> Looked
             device: vacant_place(),
         },
     }
+}
+
+// ---- The records themselves, for those who keep them elsewhere
+
+// The places of the table; devices stand in the first ones.
+pub fn records_of(bench: Bench) -> [Device; 32]
+    ensures answer { λ r. ⌜ r ≡ bench .devices ⌝ }
+{
+    bench.devices
+}
+
+// How many of the places are taken.
+pub fn count_of(bench: Bench) -> u8
+    ensures answer { λ r. ⌜ r ≡ bench .count ⌝ }
+{
+    bench.count
+}
+
+// The bench that has these records. It need not be one that calls have made.
+pub fn of_records(devices: [Device; 32], count: u8) -> Bench
+    ensures answer { λ r. ⌜ r ≡ record { devices = devices; count = count } ⌝ }
+{
+    Bench { devices, count }
 }

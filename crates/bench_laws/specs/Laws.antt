@@ -16,12 +16,12 @@ use native.Mathlib.Omega.{arith}
 use native.Mathlib.Numerals.{add-one}
 use borrow.Author.Tests.{eqb-true, eqb-false, ltb-true, ne-eqb}
 use lib.Dec.{eqb, ltb}
-use lib.ListN.{length, getD, set, length-set, length-take}
-use lib.Seq.{take-suc-set, take-set-lt, getD-take}
+use lib.ListN.{length, getD, set, drop, length-set, length-take}
+use lib.Seq.{take-suc-set, take-set-lt, drop-set-lt, getD-take}
 use Rattle.lists.specs.Choice.{if_then_else_}
 use Rattle.lists.specs.FirstLaws.{first-cases}
 use Rattle.lists.specs.Fold.{all}
-use Rattle.lists.specs.FrontLaws.{front-taken, front-length}
+use Rattle.lists.specs.FrontLaws.{front-taken, front-length, front-dropped}
 use Rattle.lists.specs.Each.{Each}
 use Rattle.lists.specs.EachLaws.{each-implies}
 use Rattle.refusals.specs.Refusals.{accepted, wireBusy, duplicate, benchFull, notFound, wrongPins}
@@ -68,6 +68,11 @@ pub heard-places : (b : Bench) (l : Bool) → length (heard b l .devices) ≡ le
 unfolding heard
 heard-places b l = front-length (λ d. hearOf d l) (b .count) (b .devices)
 
+-- the places behind the devices
+pub heard-rest : (b : Bench) (l : Bool) → drop (b .count) (heard b l .devices) ≡ drop (b .count) (b .devices)
+unfolding heard
+heard-rest b l = front-dropped (λ d. hearOf d l) (b .count) (b .devices)
+
 pub restarted-live : (b : Bench) → live (restarted b) ≡ map resetOf (live b)
 unfolding restarted
 restarted-live b = front-taken resetOf (b .count) (b .devices)
@@ -79,6 +84,10 @@ restarted-count b = refl
 pub restarted-places : (b : Bench) → length (restarted b .devices) ≡ length (b .devices)
 unfolding restarted
 restarted-places b = front-length resetOf (b .count) (b .devices)
+
+pub restarted-rest : (b : Bench) → drop (b .count) (restarted b .devices) ≡ drop (b .count) (b .devices)
+unfolding restarted
+restarted-rest b = front-dropped resetOf (b .count) (b .devices)
 
 pub free-live : (b : Bench) → free b ≡ all (λ d. not (holdsWire d)) (live b)
 unfolding free
@@ -160,6 +169,7 @@ pub record Added (b : Bench) (new : Joining) (after : Bench) : Type 0 where
   pub live-is : live after ≡ live b ++ (joined new ∷ [])
   pub count-is : after .count ≡ b .count + 1
   pub places-are : length (after .devices) ≡ length (b .devices)
+  pub rest-is : drop (b .count + 1) (after .devices) ≡ drop (b .count + 1) (b .devices)
 
 -- what holds of every refusal and of every adding holds of the call
 pub added-cases : (b : Bench) (new : Joining) (P : Changed → Type 0) → length (b .devices) ≡ 32
@@ -181,6 +191,7 @@ added-cases b new P long refusal adding = by-code (eqb (codeRefusal (new .code))
           live-is = rw add-one (take-suc-set (b .devices) (b .count) (joined new) k);
           count-is = refl;
           places-are = length-set (b .devices) (b .count) (joined new);
+          rest-is = drop-set-lt (b .count + 1) (b .devices) (b .count) (joined new) (omega arith);
         })
 
     by-room : (t : Bool) → ltb (b .count) 32 ≡ t → sound (new .code) ≡ true → placeOf b (new .code) ≡ Nowhere
@@ -213,6 +224,7 @@ pub record OneChanged (b : Bench) (code : ℕ) (f : Device → Device) (after : 
   pub live-is : live after ≡ set (live b) place (f (getD (live b) place vacant))
   pub count-is : after .count ≡ b .count
   pub places-are : length (after .devices) ≡ length (b .devices)
+  pub rest-is : drop (b .count) (after .devices) ≡ drop (b .count) (b .devices)
 
 module _ (b : Bench) (code i : ℕ) (e : placeOf b code ≡ At i) where
   at-count : i < b .count
@@ -231,6 +243,7 @@ module _ (b : Bench) (code i : ℕ) (e : placeOf b code ≡ At i) where
     live-is = rw device-live (take-set-lt (b .count) (b .devices) i (f (deviceAt b i)) at-count);
     count-is = refl;
     places-are = length-set (b .devices) i (f (deviceAt b i));
+    rest-is = drop-set-lt (b .count) (b .devices) i (f (deviceAt b i)) at-count;
   }
 
 module _ (b : Bench) (code : ℕ) (P : Changed → Type 0) (refusal : (n : ℕ) → n ≢ accepted → P (refused n b)) where
