@@ -1,0 +1,52 @@
+-- A record comes back from its bytes.
+--     InTypes d          what the types of the record hold, as far as the bytes depend on it
+--     fields-back        a record of the types is read from the bytes that it packs to
+--     packed-one         no two records have the same bytes
+--     fields-in-types    what is read from bytes is a record of the types
+-- Assumes nothing.
+use Prim.Native.Nat.{ℕ, _^_, _<_}
+use mathlib.Core.Path.{_≡_, refl, sym, ap, _∙_}
+use mathlib.Core.List.{List}
+use lib.ListN.{length, getD}
+use Rattle.signed.specs.Complement.{Fits16}
+use Rattle.temperature.specs.Register.{countOf}
+use Rattle.device.specs.declared.Device.{Device}
+use Rattle.record_parts.specs.Bytes.{bytesOf}
+use Rattle.record_parts.specs.BytesLaws.{code-back, code-below, eight-whole}
+use Rattle.record_parts.specs.PartsLaws.{truth-back, power-back, reading-back, reading-in, stage-back, activity-back}
+use Rattle.packing.specs.Packed.{packed, fieldsOf}
+
+-- 64 bits, eight bytes, sixteen bits with a sign. (A byte goes to a byte as it is.)
+pub record InTypes (d : Device) : Type 0 where
+  pub code-fits : d .code < 256 ^ 8
+  pub pad-length : length (d .scratchpad) ≡ 8
+  pub reading-fits : Fits16 (countOf (d .page .reading))
+
+pub packed-length : (d : Device) → length (packed d) ≡ 48
+unfolding packed bytesOf
+packed-length d = refl
+
+pub fields-back : (d : Device) → InTypes d → fieldsOf (packed d) ≡ d
+unfolding packed fieldsOf bytesOf
+fields-back d f =
+    simp (
+      code-back 8 (d .code) (f .code-fits),
+      eight-whole (d .scratchpad) (f .pad-length),
+      stage-back (d .stage),
+      activity-back (d .activity),
+      power-back (d .power),
+      truth-back (d .alarm),
+      truth-back (d .page .taken),
+      reading-back (d .page .reading) (f .reading-fits),
+    )
+
+pub packed-one : (d e : Device) → InTypes d → InTypes e → packed d ≡ packed e → d ≡ e
+packed-one d e f g h = sym (fields-back d f) ∙ ap fieldsOf h ∙ fields-back e g
+
+pub fields-in-types : (t : List ℕ) → ((i : ℕ) → getD t i 0 < 256) → InTypes (fieldsOf t)
+unfolding fieldsOf
+fields-in-types t h = record {
+  code-fits = code-below _ _ _ _ _ _ _ _ (h 0) (h 1) (h 2) (h 3) (h 4) (h 5) (h 6) (h 7);
+  pad-length = refl;
+  reading-fits = reading-in (getD t 30 0) (getD t 31 0) (getD t 32 0) (h 31) (h 32);
+}

@@ -1,0 +1,4 @@
+pub mod Table
+pub mod Tabled
+pub mod TableLaws
+pub mod LoopLaws
