@@ -42,7 +42,7 @@ codes-snoc : (l : List Device) (d : Device) → map (λ e. e .code) (l ++ (d ∷
 codes-snoc [] d = refl
 codes-snoc (x ∷ l) d = let i = codes-snoc l d in rw i
 
-codes-new : (l : List Device) (code : ℕ) → Each (λ d. d .code ≢ code) l → Each (λ c. c ≢ code) (map (λ d. d .code) l)
+pub codes-new : (l : List Device) (code : ℕ) → Each (λ d. d .code ≢ code) l → Each (λ c. c ≢ code) (map (λ d. d .code) l)
 codes-new [] code e = tt
 codes-new (d ∷ l) code e = (e .0, codes-new l code (e .1))
 
