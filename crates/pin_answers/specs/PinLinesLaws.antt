@@ -10,7 +10,7 @@ use mathlib.Core.Bool.{Bool, true, false}
 use mathlib.Core.List.{List, [], _∷_, _++_, append-assoc, append-nil}
 use native.Mathlib.Omega.{arith}
 use native.Mathlib.Numerals.{add-one}
-use lib.Dec.{ltb, lit≤}
+use lib.Dec.{ltb, lit<, lit≤}
 use lib.ListN.{length, take, getD, replicate, length-append, length-take}
 use lib.Seq.{take-all}
 use Rattle.lists.specs.Choice.{if_then_else_}
@@ -23,7 +23,7 @@ use Rattle.putting.specs.FieldsLaws.{byte-digits}
 use Rattle.bench.specs.declared.Bench.{Bench}
 use Rattle.master_rules.specs.Pins.{havePin, sharedFrom, sharedPin, pinsOutcome, pinnedOf, pinsListAfter}
 use Rattle.master_rules.specs.declared.Pinned.{Pinned}
-use Rattle.master_rules.specs.declared.SharedPin.the-variants.{Pin}
+use Rattle.master_rules.specs.declared.SharedPin.the-variants.{NoPin, Pin}
 use Rattle.pins.specs.OutcomeLaws.{enough-places, found-few}
 use Rattle.call_answers.specs.Said.{says}
 use Rattle.call_answers.specs.declared.Said.{Said}
@@ -52,6 +52,13 @@ counts-short refusal codes pins h k =
     let a = byte-digits refusal h in
     let b = byte-digits codes k in
     let c = shared-digits 16 0 pins (lit≤ tt) in
+    simp length-append (omega arith)
+
+pub refusal-short : (refusal : ℕ) → refusal < 256 → length (pinsLine refusal 0 NoPin) ≤ lineRoom
+unfolding pinsLine
+refusal-short refusal h =
+    let a = byte-digits refusal h in
+    let b = byte-digits 0 (lit< tt) in
     simp length-append (omega arith)
 
 -- ## Probe by probe

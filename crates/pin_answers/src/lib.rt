@@ -5,14 +5,17 @@ ghost use Prim.Native.Nat.{_≤_, _+_, _*_, min};
 ghost use lib.ListN.{length};
 ghost use Rattle.lists.specs.Laid.{laid};
 ghost use Rattle.master_rules.specs.Pins.{pinsOutcome};
-ghost use Rattle.putting.specs.Putting.{Puts, lineRoom, fieldNext, fieldLeaves};
+ghost use Rattle.master_rules.specs.declared.SharedPin.the-variants.{NoPin};
+ghost use Rattle.putting.specs.Putting.{Puts, lineRoom, lineAnswer, lineLeaves, fieldNext, fieldLeaves};
 ghost use Rattle.call_answers.specs.Said.{says};
 ghost use Rattle.search_answers.specs.Whole.{room, Says, wholeSaid, wholeLeft};
 ghost use Rattle.pin_answers.specs.PinLines.{sharedText, pinsLine, pinLine, pinLines, ofPins};
 use bench::Bench;
 use call_answers::Said;
+use laying::Written;
 use master::FEWEST_PLACES;
 use master_rules::SharedPin;
+use putting::LINE_ROOM;
 use search_answers::ROOM;
 use text::LINE_FEED;
 use text::SPACE;
@@ -40,6 +43,18 @@ fn put_counts(out: &mut [u8], at: usize, refusal: u8, codes: u8, shared: SharedP
     let behind_refusal = putting::put_number(out, at, refusal as u64, SPACE);
     let behind_codes = putting::put_number(out, behind_refusal, codes as u64, SPACE);
     put_shared(out, behind_codes, shared, LINE_FEED)
+}
+
+// The answer to a call that is refused before it is made.
+pub fn refusal_line(out: &mut [u8], at: usize, refusal: u8) -> Written
+    ensures answer { λ r. ⌜ r ≡ lineAnswer (now (out .entry)) at (pinsLine refusal 0 NoPin) ⌝ }
+    ensures written { λ r. ⌜ now (out .exit) ≡ lineLeaves (now (out .entry)) at (pinsLine refusal 0 NoPin) ⌝ }
+{
+    let room = laying::has_room(out, at, LINE_ROOM);
+    if !room {
+        return putting::no_room();
+    }
+    putting::behind(put_counts(out, at, refusal, 0, SharedPin::NoPin))
 }
 
 // The line of a probe.

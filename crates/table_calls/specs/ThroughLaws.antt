@@ -87,7 +87,7 @@ stays f t same = by-test (eqb (unpacked t .refusal) accepted) refl
 
 -- ## Looking
 
-empty-unseen : (code : ℕ) → looked emptyBench code .device ≡ vacant
+pub empty-unseen : (code : ℕ) → looked emptyBench code .device ≡ vacant
 unfolding looked placeOf firstWith
 empty-unseen code = refl
 

@@ -1,0 +1,3 @@
+pub mod TableConsole
+pub mod TellsLaws
+pub mod KeptLaws
