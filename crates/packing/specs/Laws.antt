@@ -1,26 +1,18 @@
 -- A record comes back from its bytes.
---     InTypes d          what the types of the record hold, as far as the bytes depend on it
 --     fields-back        a record of the types is read from the bytes that it packs to
 --     packed-one         no two records have the same bytes
 --     fields-in-types    what is read from bytes is a record of the types
 -- Assumes nothing.
-use Prim.Native.Nat.{ℕ, _^_, _<_}
+use Prim.Native.Nat.{ℕ, _<_}
 use mathlib.Core.Path.{_≡_, refl, sym, ap, _∙_}
 use mathlib.Core.List.{List}
 use lib.ListN.{length, getD}
-use Rattle.signed.specs.Complement.{Fits16}
-use Rattle.temperature.specs.Register.{countOf}
 use Rattle.device.specs.declared.Device.{Device}
 use Rattle.record_parts.specs.Bytes.{bytesOf}
 use Rattle.record_parts.specs.BytesLaws.{code-back, code-below, eight-whole}
 use Rattle.record_parts.specs.PartsLaws.{truth-back, power-back, reading-back, reading-in, stage-back, activity-back}
 use Rattle.packing.specs.Packed.{packed, fieldsOf}
-
--- 64 bits, eight bytes, sixteen bits with a sign. (A byte goes to a byte as it is.)
-pub record InTypes (d : Device) : Type 0 where
-  pub code-fits : d .code < 256 ^ 8
-  pub pad-length : length (d .scratchpad) ≡ 8
-  pub reading-fits : Fits16 (countOf (d .page .reading))
+use Rattle.packing.specs.Types.{InTypes}
 
 pub packed-length : (d : Device) → length (packed d) ≡ 48
 unfolding packed bytesOf

@@ -3,14 +3,17 @@
 ghost use Prim.Native.Nat.{_≤_};
 ghost use mathlib.Core.Path.{_≡_};
 ghost use Rattle.record_parts.specs.Bytes.{eightAt};
-ghost use Rattle.packing.specs.Laws.{InTypes};
+ghost use Rattle.packing.specs.Types.{InTypes};
 ghost use Rattle.packing.specs.Packed.{caseAt, packed, fieldsOf};
 use device::Device;
 use device::Page;
 use device::Settings;
 use record_parts::Case;
 
-fn eight_at(t: [u8; 48], i: usize) -> [u8; 8]
+// The bytes of one device.
+pub type Entry = [u8; 48];
+
+fn eight_at(t: Entry, i: usize) -> [u8; 8]
     requires { ⌜ i ≤ 40 ⌝ }
     ensures answer { λ r. ⌜ r ≡ eightAt t i ⌝ }
 {
@@ -26,7 +29,7 @@ fn eight_at(t: [u8; 48], i: usize) -> [u8; 8]
     ]
 }
 
-fn case_at(t: [u8; 48], i: usize) -> Case
+fn case_at(t: Entry, i: usize) -> Case
     requires { ⌜ i ≤ 44 ⌝ }
     ensures answer { λ r. ⌜ r ≡ caseAt t i ⌝ }
 {
@@ -34,7 +37,7 @@ fn case_at(t: [u8; 48], i: usize) -> Case
 }
 
 // The bytes of a device. Whatever the device, they unpack to it.
-pub fn pack(d: Device) -> [u8; 48]
+pub fn pack(d: Device) -> Entry
     ensures answer { λ r. ⌜ r ≡ packed d ⌝ }
     ensures typed { λ r. ⌜ InTypes d ⌝ }
 {
@@ -102,7 +105,7 @@ pub fn pack(d: Device) -> [u8; 48]
 }
 
 // The record that is read from bytes, whatever they are.
-pub fn fields(t: [u8; 48]) -> Device
+pub fn fields(t: Entry) -> Device
     ensures answer { λ r. ⌜ r ≡ fieldsOf t ⌝ }
 {
     let code = record_parts::code_of(eight_at(t, 0));

@@ -18,6 +18,9 @@ use temperature::Reading;
 // A configuration of twelve bits, at which no bit of a register is undefined.
 const TWELVE_BITS: u8 = 0x60;
 
+// The eight bytes of a code, lowest first.
+pub type CodeBytes = [u8; 8];
+
 // The case of an enum by its number, and up to three numbers that the case holds.
 pub struct Case(pub u8, pub u8, pub u8, pub u8);
 
@@ -178,8 +181,7 @@ pub fn activity_of(x: Case) -> Activity
     }
 }
 
-// The eight bytes of a code, lowest first.
-pub fn code_bytes(code: u64) -> [u8; 8]
+pub fn code_bytes(code: u64) -> CodeBytes
     ensures answer { λ r. ⌜ r ≡ codeBytes code ⌝ }
 {
     let c1 = code / 256;
@@ -210,7 +212,7 @@ fn below(low: u8, high: u64) -> u64
     low as u64 + 256 * high
 }
 
-pub fn code_of(b: [u8; 8]) -> u64
+pub fn code_of(b: CodeBytes) -> u64
     ensures answer { λ r. ⌜ r ≡ codeOf (eightAt b 0) ⌝ }
 {
     let c7 = below(b[7], 0);

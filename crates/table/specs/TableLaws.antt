@@ -28,12 +28,24 @@ use Rattle.rom.specs.Code.{codeRefusal, sound}
 use Rattle.device.specs.declared.Device.{Device}
 use Rattle.record_parts.specs.Bytes.{codeOf}
 use Rattle.packing.specs.Packed.{packed, fieldsOf}
-use Rattle.packing.specs.Laws.{InTypes, packed-length, fields-back, fields-in-types}
+use Rattle.packing.specs.Types.{InTypes}
+use Rattle.packing.specs.Laws.{packed-length, fields-back, fields-in-types}
 use Rattle.bench.specs.Bench.{live, vacant}
 use Rattle.bench.specs.declared.Bench.{Bench}
 use Rattle.table.specs.declared.Unpacked.{Unpacked}
 use Rattle.table.specs.Table.{tableBytes, entryOf, tableOf, inUse, devicesIn, absent, codesFit, isTable, benchOf, refused, held, unpacked, packedInto}
 use Rattle.table.specs.Tabled.{Tabled}
+
+-- what holds of both ways of a choice holds of the choice
+either-way : {A : Type 0} (P : A → Type 0) (u : Bool) (x y : A) → P x → P y → P (if u then x else y)
+either-way P true x y p q = p
+either-way P false x y p q = q
+
+-- ## An unused entry: nothing is read from it on
+
+vacant-none : (ds : List Device) → inUse (fieldsOf (replicate 48 0)) ds ≡ []
+unfolding fieldsOf codeOf
+vacant-none ds = refl
 
 -- ## Lengths
 
@@ -52,11 +64,9 @@ table-length (suc n) ds =
 pub devices-few : (n : ℕ) (t : List ℕ) → length (devicesIn n t) ≤ n
 unfolding devicesIn
 devices-few zero t = omega arith
-devices-few (suc n) t = by-test (eqb (fieldsOf (take 48 t) .code) 0) (devices-few n (drop 48 t))
-  where
-    by-test : (u : Bool) → length (devicesIn n (drop 48 t)) ≤ n → length (if u then [] else fieldsOf (take 48 t) ∷ devicesIn n (drop 48 t)) ≤ suc n
-    by-test true h = omega arith
-    by-test false h = omega arith
+devices-few (suc n) t =
+    let i = devices-few n (drop 48 t) in
+    either-way (λ l. length l ≤ suc n) (eqb (fieldsOf (take 48 t) .code) 0) [] (fieldsOf (take 48 t) ∷ devicesIn n (drop 48 t)) (omega arith) (omega arith)
 
 -- ## The codes
 
@@ -113,10 +123,6 @@ codes-tell (d ∷ ds) f =
 
 -- ## Devices, their table, the devices
 
-vacant-none : (ds : List Device) → inUse (fieldsOf (replicate 48 0)) ds ≡ []
-unfolding fieldsOf codeOf
-vacant-none ds = refl
-
 -- whatever stands behind the table
 pub devices-back : (n : ℕ) (ds : List Device) (rest : List ℕ) → length ds ≤ n → Each InTypes ds → Each (λ c. sound c ≡ true) (map (λ d. d .code) ds)
     → devicesIn n (tableOf n ds ++ rest) ≡ ds
@@ -147,7 +153,7 @@ live-length b t = let h : b .count ≤ length (b .devices) = omega (arith, t .fe
 pub bench-back : (b : Bench) → Tabled b → benchOf (live b) ≡ b
 bench-back b t = rw (live-length b t, ← t .rest-vacant, take-append-drop (b .count) (b .devices))
 
-tabled-fits : (b : Bench) → Tabled b → Fits (live b)
+pub tabled-fits : (b : Bench) → Tabled b → Fits (live b)
 tabled-fits b t = record { each-sound = t .codes-sound; each-own = t .codes-distinct }
 
 pub bench-tabled : (ds : List Device) → length ds ≤ 32 → Fits ds → Tabled (benchOf ds)
@@ -240,17 +246,15 @@ refused-none t = unpacked-cases t (λ u. u .refusal ≡ notATable → (ds : List
 devices-typed : (n : ℕ) (t : List ℕ) → ((i : ℕ) → getD t i 0 < 256) → Each InTypes (devicesIn n t)
 unfolding devicesIn
 devices-typed zero t h = tt
-devices-typed (suc n) t h = by-test (eqb (fieldsOf (take 48 t) .code) 0) (devices-typed n (drop 48 t) (λ i. rw (getD-drop 48 t i 0) (h (48 + i))))
+devices-typed (suc n) t h =
+    let later = devices-typed n (drop 48 t) (λ i. rw (getD-drop 48 t i 0) (h (48 + i))) in
+    either-way (Each InTypes) (eqb (fieldsOf (take 48 t) .code) 0) [] (fieldsOf (take 48 t) ∷ devicesIn n (drop 48 t)) tt (fields-in-types (take 48 t) (front t 48 h), later)
   where
     front : (l : List ℕ) (k : ℕ) → ((i : ℕ) → getD l i 0 < 256) → (i : ℕ) → getD (take k l) i 0 < 256
     front l zero b i = lit< tt
     front [] (suc k) b i = lit< tt
     front (x ∷ l) (suc k) b zero = b 0
     front (x ∷ l) (suc k) b (suc i) = front l k (λ j. b (suc j)) i
-
-    by-test : (u : Bool) → Each InTypes (devicesIn n (drop 48 t)) → Each InTypes (if u then [] else fieldsOf (take 48 t) ∷ devicesIn n (drop 48 t))
-    by-test true e = tt
-    by-test false e = (fields-in-types (take 48 t) (front t 48 h), e)
 
 pub unpacked-typed : (t : List ℕ) → ((i : ℕ) → getD t i 0 < 256) → Each InTypes (live (unpacked t .bench))
 unpacked-typed t bytes = unpacked-cases t (λ u. Each InTypes (live (u .bench))) (λ h. tt) (λ h n. tt) (λ h y. rw (bench-live (devicesIn 32 t)) (devices-typed 32 t bytes))

@@ -7,7 +7,7 @@ ghost use mathlib.Core.Path.{_≡_};
 ghost use lib.ListN.{length, getD, take, drop};
 ghost use Rattle.lists.specs.Each.{Each};
 ghost use Rattle.lists.specs.Laid.{laid};
-ghost use Rattle.packing.specs.Laws.{InTypes};
+ghost use Rattle.packing.specs.Types.{InTypes};
 ghost use Rattle.bench.specs.Bench.{live, vacant};
 ghost use Rattle.table.specs.Table.{tableBytes, entryOf, tableOf, devicesIn, absent, codesFit, holds, benchOf, held, unpacked, packRefusal, packedInto};
 ghost use Rattle.table.specs.Tabled.{Tabled};

@@ -1,6 +1,5 @@
 -- One law for every call on lent bytes: they then hold the bench that the call on the records leaves.
---     After f t t'       what is promised of the bytes t' that a call leaves of t: t' holds f of the bench that t held
---     through            it holds of each f that leaves a bench that a table can hold
+--     through            `After` holds of each f that leaves a bench that a table can hold
 --     refused-done, accepted-done        the two ways of a call that unpacks, calls and packs
 --     stays              a call that leaves the bench leaves the bytes, so that a refused one does
 --     slot-keeps, reset-keeps, added-keeps, conversion-keeps, copy-keeps, cycle-keeps
@@ -38,12 +37,9 @@ use Rattle.table.specs.Table.{tableBytes, held, unpacked, packedInto}
 use Rattle.table.specs.Tabled.{Tabled}
 use Rattle.table.specs.TableLaws.{unpacked-cases, unpacked-tabled, pack-unpack}
 use Rattle.table.specs.declared.Unpacked.{Unpacked}
-use Rattle.table_calls.specs.Through.{answeredOn, leftBy}
+use Rattle.table_calls.specs.Through.{answeredOn, leftBy, After}
 
 -- ## The law
-
-abbrev pub After : (Bench → Bench) → List ℕ → List ℕ → Type 0
-After f t t' = unpacked t .refusal ≡ accepted → unpacked t' ≡ held (f (unpacked t .bench))
 
 -- accepted bytes are as many as a table has
 pub accepted-long : (t : List ℕ) → unpacked t .refusal ≡ accepted → tableBytes ≤ length t

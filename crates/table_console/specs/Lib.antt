@@ -1,3 +1,4 @@
 pub mod TableConsole
 pub mod TellsLaws
 pub mod KeptLaws
+pub mod OnBenchLaws

@@ -5,7 +5,7 @@ use native.Mathlib.Omega.{arith}
 use borrow.Author.Needs.{needs}
 use lib.ListN.{length}
 use Rattle.lists.specs.Places.{getD-within}
-use Rattle.packing.specs.Laws.{InTypes}
+use Rattle.packing.specs.Types.{InTypes}
 use Rattle.table.specs.LoopLaws.{entry-there, entry-none}
 use Rattle.table.proofs.entry_of.Statement.{statement}
 use Rattle.table.proofs.entry_of.Tie as tie

@@ -9,7 +9,7 @@ use lib.Seq.{take-all, getD-take}
 use Rattle.lists.specs.Each.{Each}
 use Rattle.lists.specs.Laid.{laid}
 use Rattle.lists.specs.LaidLaws.{laid-length}
-use Rattle.packing.specs.Laws.{InTypes}
+use Rattle.packing.specs.Types.{InTypes}
 use Rattle.bench.specs.Bench.{live, vacant}
 use Rattle.table.specs.Table.{entryOf, tableOf}
 use Rattle.table.specs.TableLaws.{entry-length}
