@@ -2,3 +2,4 @@ pub mod TableConsole
 pub mod TellsLaws
 pub mod KeptLaws
 pub mod OnBenchLaws
+pub mod HistoryLaws
