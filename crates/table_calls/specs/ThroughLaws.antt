@@ -2,6 +2,7 @@
 --     through            `After` holds of each f that leaves a bench that a table can hold
 --     refused-done, accepted-done        the two ways of a call that unpacks, calls and packs
 --     stays              a call that leaves the bench leaves the bytes, so that a refused one does
+--     behind-stays       the bytes behind the table stay, whatever the call
 --     slot-keeps, reset-keeps, added-keeps, conversion-keeps, copy-keeps, cycle-keeps
 --                        each call leaves a bench that a table can hold, refused or not
 -- Assumes nothing.
@@ -11,12 +12,13 @@ use mathlib.Core.List.{List}
 use mathlib.Core.Path.{_≡_, refl, sym, ap, _∙_}
 use native.Mathlib.Omega.{arith}
 use borrow.Author.Tests.{eq-eqb, ne-eqb, eqb-true}
-use lib.Dec.{eqb}
+use lib.Dec.{eqb, ltb}
 use lib.ListN.{length, drop}
-use lib.Seq.{drop-drop}
+use lib.Seq.{drop-at, drop-drop}
 use Rattle.lists.specs.Choice.{if_then_else_}
 use Rattle.lists.specs.EachLaws.{each-snoc, distinct-snoc}
 use Rattle.lists.specs.First.{firstWith}
+use Rattle.lists.specs.Laid.{laid}
 use Rattle.lists.specs.Places.{drop-replicate}
 use Rattle.refusals.specs.Refusals.{accepted}
 use Rattle.rom.specs.Code.{sound}
@@ -33,9 +35,9 @@ use Rattle.bench.specs.declared.Bench.{Bench}
 use Rattle.bench_laws.specs.Laws.{slot-cases, reset-cases, heard-count, heard-places, heard-rest, restarted-count, restarted-places, restarted-rest, Added, added-cases, OneChanged, conversion-cases, copy-cases, cycle-cases}
 use Rattle.bench_laws.specs.Sound.{codesOf}
 use Rattle.bench_laws.specs.SoundLaws.{heard-codes, restarted-codes, added-codes, codes-new, one-changed-codes}
-use Rattle.table.specs.Table.{tableBytes, held, unpacked, packedInto}
+use Rattle.table.specs.Table.{tableBytes, tableOf, held, unpacked, packedInto}
 use Rattle.table.specs.Tabled.{Tabled}
-use Rattle.table.specs.TableLaws.{unpacked-cases, unpacked-tabled, pack-unpack}
+use Rattle.table.specs.TableLaws.{table-length, unpacked-cases, unpacked-tabled, pack-unpack}
 use Rattle.table.specs.declared.Unpacked.{Unpacked}
 use Rattle.table_calls.specs.Through.{answeredOn, leftBy, After}
 
@@ -80,6 +82,26 @@ stays f t same = by-test (eqb (unpacked t .refusal) accepted) refl
     by-test : (u : Bool) → eqb (unpacked t .refusal) accepted ≡ u → (if u then packedInto t (f (unpacked t .bench)) else t) ≡ t
     by-test true e = let ok = eqb-true (unpacked t .refusal) accepted e in rw (same ok) (pack-unpack t ok)
     by-test false e = refl
+
+-- what stands behind the table stays
+behind-packed : (t : List ℕ) (b : Bench) → drop tableBytes (packedInto t b) ≡ drop tableBytes t
+unfolding packedInto laid
+behind-packed t b = by-room (ltb (length t) tableBytes)
+  where
+    by-room : (u : Bool) → drop tableBytes (if u then t else laid t 0 (tableOf 32 (live b))) ≡ drop tableBytes t
+    by-room true = refl
+    by-room false =
+        let x = tableOf 32 (live b) in
+        let long : length x ≡ 1536 = table-length 32 (live b) in
+        let at : 0 + length x ≡ 1536 = omega arith in
+        drop-at x (drop (0 + length x) t) 1536 long ∙ ap (λ (n : ℕ). drop n t) at
+
+pub behind-stays : (f : Bench → Bench) (t : List ℕ) → drop tableBytes (leftBy f t) ≡ drop tableBytes t
+behind-stays f t = by-test (eqb (unpacked t .refusal) accepted)
+  where
+    by-test : (u : Bool) → drop tableBytes (if u then packedInto t (f (unpacked t .bench)) else t) ≡ drop tableBytes t
+    by-test true = behind-packed t (f (unpacked t .bench))
+    by-test false = refl
 
 -- ## Looking
 
