@@ -32,7 +32,8 @@ fn put_current(
     putting::put_number(out, behind_configuration, version as u64, LINE_FEED)
 }
 
-fn current_line(out: &mut [u8], at: usize, current: Current) -> Written
+// The line of a read of settings, at a place.
+pub fn current_line(out: &mut [u8], at: usize, current: Current) -> Written
     ensures answer { λ r. ⌜ r ≡ lineAnswer (now (out .entry)) at (currentLine current) ⌝ }
     ensures written { λ r. ⌜ now (out .exit) ≡ lineLeaves (now (out .entry)) at (currentLine current) ⌝ }
     ensures fits { λ r. ⌜ r .next ≤ at + lineRoom ⌝ }
@@ -70,7 +71,8 @@ fn put_change(out: &mut [u8], at: usize, refusal: u8, version: u16) -> usize
     putting::put_number(out, behind_refusal, version as u64, LINE_FEED)
 }
 
-fn change_line(out: &mut [u8], at: usize, refusal: u8, version: u16) -> Written
+// The line of a change of settings, at a place.
+pub fn change_line(out: &mut [u8], at: usize, refusal: u8, version: u16) -> Written
     ensures answer { λ r. ⌜ r ≡ lineAnswer (now (out .entry)) at (changeLine refusal version) ⌝ }
     ensures written { λ r. ⌜ now (out .exit) ≡ lineLeaves (now (out .entry)) at (changeLine refusal version) ⌝ }
     ensures fits { λ r. ⌜ r .next ≤ at + lineRoom ⌝ }

@@ -6,10 +6,13 @@ use Rattle.packed_console.proofs.run.Statement.{statement}
 use Rattle.packed_console.proofs.run.Tie as tie
 
 abbrev Inv-loop : tie.InvT-loop
-Inv-loop t₀ line₀ out₀ held₀ reads₀ t line out held reads = (length t ≡ length t₀) × (length line ≡ length line₀) × (length out ≡ length out₀)
+Inv-loop t₀ line₀ out₀ s₀ reads₀ t line out s reads = (length t ≡ length t₀) × (length line ≡ length line₀) × (length out ≡ length out₀)
 
 abbrev μ-loop : tie.MeasureT-loop
-μ-loop t₀ line₀ out₀ held₀ reads₀ t line out held reads = reads
+μ-loop t₀ line₀ out₀ s₀ reads₀ t line out s reads = reads
+
+new-requires : tie.Need-new-requires Inv-loop μ-loop
+new-requires c κs = search needs
 
 loop-holds : tie.Need-loop-holds Inv-loop μ-loop
 loop-holds c = search needs
@@ -56,6 +59,7 @@ run-spec =
     (tie.spec
     Inv-loop
     μ-loop
+    new-requires
     loop-holds
     read-some-requires
     same-length

@@ -7,10 +7,10 @@ use Rattle.packed_console.proofs.take.Statement.{statement}
 use Rattle.packed_console.proofs.take.Tie as tie
 
 abbrev Inv-loop : tie.InvT-loop
-Inv-loop t₀ start line₀ chunk out₀ held₀ i₀ t line out held i = (i ≤ length chunk) × (length t ≡ length t₀) × (length line ≡ length line₀) × (length out ≡ length out₀)
+Inv-loop t₀ line₀ chunk out₀ s₀ i₀ t line out s i = (i ≤ length chunk) × (length t ≡ length t₀) × (length line ≡ length line₀) × (length out ≡ length out₀)
 
 abbrev μ-loop : tie.MeasureT-loop
-μ-loop t₀ start line₀ chunk out₀ held₀ i₀ t line out held i = length chunk - i
+μ-loop t₀ line₀ chunk out₀ s₀ i₀ t line out s i = length chunk - i
 
 loop-holds : tie.Need-loop-holds Inv-loop μ-loop
 loop-holds c = search needs

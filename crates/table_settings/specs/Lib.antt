@@ -1,0 +1,2 @@
+pub mod TableSettings
+pub mod TableSettingsLaws
