@@ -102,13 +102,7 @@ fn respond(
 
 // One line, without its feed, and whether it had one: the call that it asks for is made, and the text
 // of the answer is laid at the front of what is lent for it.
-pub fn answer(
-    t: &mut [u8],
-    store: Store,
-    line: &[u8],
-    fed: bool,
-    out: &mut [u8],
-) -> TableTold
+pub fn answer(t: &mut [u8], store: Store, line: &[u8], fed: bool, out: &mut [u8]) -> TableTold
     ensures answer { λ r. ⌜ r ≡ toldOf (now (t .entry)) store (record { chars = now (line .entry); fed = fed }) (now (out .entry)) ⌝ }
     ensures written { λ r. ⌜ now (out .exit) ≡ wrote (spokenOf (now (t .entry)) store (record { chars = now (line .entry); fed = fed }) (storeAsked (record { chars = now (line .entry); fed = fed }))) (now (out .entry)) ⌝ }
     ensures table { λ r. ⌜ now (t .exit) ≡ keeps (now (t .entry)) (spokenOf (now (t .entry)) store (record { chars = now (line .entry); fed = fed }) (storeAsked (record { chars = now (line .entry); fed = fed }))) (now (out .entry)) ⌝ }

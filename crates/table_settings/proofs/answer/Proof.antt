@@ -33,11 +33,11 @@ same-length-2 c = search needs
 returns-2 : tie.Need-returns-2
 returns-2 c =
     let q = c .before .before .before .before in
-    let p = q .before .before .before in
-    let e = p .before .before in
+    let p = q .before .before in
+    let e = p .before .before .before in
     let s = e .before .before .before .before in
     let l : Line = record { chars = now (s .args .line); fed = s .args .fed } in
-    let request : p .parse .result ≡ storeAsked l = rw (p .before .if2 .taken) (p .parse .ensures) in
+    let request : p .parse .result ≡ storeAsked l = rw (p .before .before .if2 .taken) (p .parse .ensures) in
     let done = rw request at (q .respond .ensures .0) in
     let left = q .respond .ensures .1 ∙ ap (storeLeft (s .args .store)) request in
     let wide = le-leb room (length (now (s .args .out))) (e .if1 .left) in

@@ -84,9 +84,6 @@ returns c =
 same-length-3 : tie.Need-same-length-3
 same-length-3 c = search needs
 
-same-length-4 : tie.Need-same-length-4
-same-length-4 c = search needs
-
 returns-2 : tie.Need-returns-2
 unfolding spokenOf storeLeft
 returns-2 c =
@@ -97,11 +94,8 @@ returns-2 c =
     let tells = line-tells (speaks (refusalLine (call .add .result .refusal)) (now (s .args .t))) (now (s .args .out)) (s .pre) (arm .refusal-line .last .0) _ (arm .refusal-line .result) (arm .refusal-line .ensures .0) (arm .refusal-line .ensures .1) refl in
     rw told (subst (λ (r : StoreAfter). Tells (speaks (refusalLine (r .refusal)) (now (s .args .t))) (now (s .args .out)) (arm .refusal-line .last .0) (now (s .args .t)) (arm .refusal-line .result)) (call .add .ensures) tells, ap (λ (r : StoreAfter). r .store) (call .add .ensures))
 
-same-length-5 : tie.Need-same-length-5
-same-length-5 c = search needs
-
-same-length-6 : tie.Need-same-length-6
-same-length-6 c = search needs
+same-length-4 : tie.Need-same-length-4
+same-length-4 c = search needs
 
 returns-3 : tie.Need-returns-3
 unfolding spokenOf storeLeft
@@ -113,27 +107,21 @@ returns-3 c =
     let tells = line-tells (speaks (refusalLine (call .remove .result .refusal)) (now (s .args .t))) (now (s .args .out)) (s .pre) (arm .refusal-line2 .last .0) _ (arm .refusal-line2 .result) (arm .refusal-line2 .ensures .0) (arm .refusal-line2 .ensures .1) refl in
     rw told (subst (λ (r : StoreAfter). Tells (speaks (refusalLine (r .refusal)) (now (s .args .t))) (now (s .args .out)) (arm .refusal-line2 .last .0) (now (s .args .t)) (arm .refusal-line2 .result)) (call .remove .ensures) tells, ap (λ (r : StoreAfter). r .store) (call .remove .ensures))
 
-same-length-7 : tie.Need-same-length-7
-same-length-7 c = search needs
-
-same-length-8 : tie.Need-same-length-8
-same-length-8 c = search needs
+same-length-5 : tie.Need-same-length-5
+same-length-5 c = search needs
 
 returns-4 : tie.Need-returns-4
 unfolding spokenOf storeLeft
 returns-4 c =
     let arm = c .before .before in
-    let call = arm .before .before in
-    let told = call .before .before .request3 .given .1 in
-    let s = call .before .before .before .before .before .before .before in
+    let call = arm .before in
+    let told = call .before .before .before .request3 .given .1 in
+    let s = call .before .before .before .before .before .before .before .before in
     let tells = line-tells (speaks (currentLine (call .read .result)) (now (s .args .t))) (now (s .args .out)) (s .pre) (arm .current-line .last .0) _ (arm .current-line .result) (arm .current-line .ensures .0) (arm .current-line .ensures .1 .0) refl in
     rw told (subst (λ (r : Current). Tells (speaks (currentLine r) (now (s .args .t))) (now (s .args .out)) (arm .current-line .last .0) (now (s .args .t)) (arm .current-line .result)) (call .read .ensures) tells, refl)
 
-same-length-9 : tie.Need-same-length-9
-same-length-9 c = search needs
-
-same-length-10 : tie.Need-same-length-10
-same-length-10 c = search needs
+same-length-6 : tie.Need-same-length-6
+same-length-6 c = search needs
 
 returns-5 : tie.Need-returns-5
 unfolding spokenOf storeLeft
@@ -145,11 +133,11 @@ returns-5 c =
     let tells = line-tells (speaks (changeLine (call .change .result .refusal) (call .change .result .version)) (now (s .args .t))) (now (s .args .out)) (s .pre) (arm .change-line .last .0) _ (arm .change-line .result) (arm .change-line .ensures .0) (arm .change-line .ensures .1 .0) refl in
     rw told (subst (λ (r : ChangeDone). Tells (speaks (changeLine (r .refusal) (r .version)) (now (s .args .t))) (now (s .args .out)) (arm .change-line .last .0) (now (s .args .t)) (arm .change-line .result)) (call .change .ensures) tells, ap (λ (r : ChangeDone). r .store) (call .change .ensures))
 
-same-length-11 : tie.Need-same-length-11
-same-length-11 c = search needs
+same-length-7 : tie.Need-same-length-7
+same-length-7 c = search needs
 
-same-length-12 : tie.Need-same-length-12
-same-length-12 c = search needs
+same-length-8 : tie.Need-same-length-8
+same-length-8 c = search needs
 
 returns-6 : tie.Need-returns-6
 unfolding spokenOf storeLeft
@@ -183,17 +171,13 @@ respond-spec =
     same-length-2
     returns
     same-length-3
-    same-length-4
     returns-2
-    same-length-5
-    same-length-6
+    same-length-4
     returns-3
+    same-length-5
+    returns-4
+    same-length-6
+    returns-5
     same-length-7
     same-length-8
-    returns-4
-    same-length-9
-    same-length-10
-    returns-5
-    same-length-11
-    same-length-12
     returns-6)
