@@ -33,11 +33,11 @@ allZero = 6
 abbrev pub wrongKind : ℕ
 wrongKind = 7
 
--- the code is already on the bench
+-- the code is already on the bench, in the store of settings or in the list of readings
 abbrev pub duplicate : ℕ
 duplicate = 8
 
--- the bench holds 32 devices already
+-- the bench, the store of settings or the list of readings has no place left
 abbrev pub benchFull : ℕ
 benchFull = 9
 
@@ -49,7 +49,7 @@ wireBusy = 10
 abbrev pub outOfRange : ℕ
 outOfRange = 11
 
--- the code is not on the bench
+-- the code is not on the bench, or not in the store of settings
 abbrev pub notFound : ℕ
 notFound = 12
 

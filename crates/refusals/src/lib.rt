@@ -24,10 +24,10 @@ pub const ALL_ZERO: u8 = 6;
 // The family is not one of ours, or a configuration is not in its stored form.
 pub const WRONG_KIND: u8 = 7;
 
-// The code is already on the bench.
+// The code is already on the bench, in the store of settings or in the list of readings.
 pub const DUPLICATE: u8 = 8;
 
-// The bench holds 32 devices already.
+// The bench, the store of settings or the list of readings has no place left.
 pub const BENCH_FULL: u8 = 9;
 
 // A line-powered device is busy and holds the wire.
@@ -36,7 +36,7 @@ pub const WIRE_BUSY: u8 = 10;
 // A temperature is outside -55 to +125 degrees.
 pub const OUT_OF_RANGE: u8 = 11;
 
-// The code is not on the bench.
+// The code is not on the bench, or not in the store of settings.
 pub const NOT_FOUND: u8 = 12;
 
 // The bytes read back differ, or the device is not busy with what is to be finished.
