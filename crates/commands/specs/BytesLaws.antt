@@ -1,15 +1,17 @@
--- What holds of each thing that a bit can make of a byte holds of what it makes: `shifted-cases`. Bits put in one after another make their number: `shifted-on`.
+-- What holds of each thing that a bit can make of a byte holds of what it makes: `shifted-cases`. Bits put in one after another make their number: `shifted-on`, and all eight
+-- `eight-in`.
 -- Assumes nothing.
 use Prim.Native.Nat.{ℕ, suc, _+_, _*_, _/_, _^_}
 use mathlib.Core.Path.{_≡_, refl, sym, ap, _∙_}
 use mathlib.Core.Bool.{Bool, true, false}
+use mathlib.Core.List.{[], _∷_}
 use native.Mathlib.Nat.{pow-suc, add-mul, mul-assoc}
 use native.Mathlib.Omega.{arith}
 use lib.Pow.{pow-add}
 use borrow.Author.Tests.{eqb-true}
 use lib.Dec.{ltb, eqb}
 use Rattle.lists.specs.Choice.{if_then_else_}
-use Rattle.bits.specs.Bits.{bitNumber}
+use Rattle.bits.specs.Bits.{bitNumber, numberOf}
 use Rattle.commands.specs.declared.Shifted.{Shifted}
 use Rattle.commands.specs.declared.Shifted.the-variants.{Partial, Whole, Beyond}
 use Rattle.commands.specs.Bytes.{shiftIn, shifted}
@@ -39,3 +41,11 @@ shifted-on i k n l e = rw low (by-bit l) ∙ sym (wide (bitNumber l))
     by-bit : (l : Bool) → n * 2 ^ k * 2 / 2 + (if l then 128 else 0) ≡ n * 2 ^ k + bitNumber l * 128
     by-bit true = let m = n * 2 ^ k in omega arith
     by-bit false = let m = n * 2 ^ k in omega arith
+
+-- eight bits put into an empty register
+pub eight-in : (a b c d e f g h : Bool)
+    → shiftIn (shiftIn (shiftIn (shiftIn (shiftIn (shiftIn (shiftIn (shiftIn 0 a) b) c) d) e) f) g) h ≡ numberOf (a ∷ b ∷ c ∷ d ∷ e ∷ f ∷ g ∷ h ∷ [])
+unfolding numberOf
+eight-in a b c d e f g h =
+    rw (shifted-on 0 7 0 a refl, shifted-on 1 6 _ b refl, shifted-on 2 5 _ c refl, shifted-on 3 4 _ d refl, shifted-on 4 3 _ e refl, shifted-on 5 2 _ f refl, shifted-on 6 1 _ g refl, shifted-on 7 0 _ h refl)
+    (omega arith)
