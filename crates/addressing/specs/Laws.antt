@@ -14,6 +14,7 @@ use Rattle.lists.specs.EachLaws.{each-implies}
 use Rattle.lists.specs.Fold.{fold, all}
 use Rattle.bits.specs.Bits.{bitsOf}
 use Rattle.refusals.specs.Refusals.{accepted, wireBusy, mismatch}
+use Rattle.search_law.specs.Reads.{readSlots}
 use Rattle.search_law.specs.Issued.{slots-append}
 use Rattle.search_law.specs.Wire.{slots}
 use Rattle.device.specs.Hear.{hearOf}
@@ -36,7 +37,7 @@ use Rattle.scratchpad.specs.Judgement.{judged}
 use Rattle.device.specs.declared.Settings.{Settings}
 use Rattle.master_rules.specs.declared.Access.{Access as Answer}
 use Rattle.master_rules.specs.Wire.{sent}
-use Rattle.master_rules.specs.Access.{refusedAt, addressed, afterSlots, bytesShown, readSlots, fetched, onPresence, readBack, admission, readAt, settingsSent, asAsked, writtenAndRead, writeAt}
+use Rattle.master_rules.specs.Access.{refusedAt, addressed, afterSlots, bytesShown, fetched, onPresence, readBack, admission, readAt, settingsSent, asAsked, writtenAndRead, writeAt}
 use Rattle.master_rules.specs.Issued.{issued, Granted}
 use Rattle.master_rules.specs.IssuedLaws.{slots-presence, granted-run}
 use Rattle.addressing.specs.Unrefused.{addressBits, readBits, settingsBits, writeBits, Unrefused, ReadClaim, WriteClaim}

@@ -23,6 +23,7 @@ use Rattle.lists.specs.Fold.{all}
 use Rattle.bits.specs.Bits.{bitAt, bitsOf, numberOf}
 use Rattle.bits.specs.BitsLaws.{bits-at, number-bits}
 use Rattle.bits.specs.Bytes.{Bytes}
+use Rattle.search_law.specs.Reads.{readSlots}
 use Rattle.search_law.specs.Wire.{slots}
 use Rattle.device.specs.Hear.{afterScratchpad, hearOf}
 use Rattle.device.specs.Laws.{onlyMoves, hear-only-stage, quiet-stays, quiet-offers}
@@ -38,7 +39,7 @@ use Rattle.bench_laws.specs.Laws.{line-live, heard-live, slot-accepted}
 use Rattle.searching.specs.OnTheBench.{Free, free-heard}
 use Rattle.searching.specs.Thermometers.{unstaged, Moving}
 use Rattle.master_rules.specs.Wire.{shown}
-use Rattle.master_rules.specs.Access.{readSlots, afterSlots, bytesShown}
+use Rattle.master_rules.specs.Access.{afterSlots, bytesShown}
 use Rattle.addressing.specs.OneAmong.{OneAmong, one-each, one-mapped}
 use Rattle.addressing.specs.Picked.{half-then}
 

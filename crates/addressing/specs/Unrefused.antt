@@ -17,8 +17,9 @@ use Rattle.rom.specs.Code.{familyOf, codeBits}
 use Rattle.device.specs.declared.Settings.{Settings}
 use Rattle.bench.specs.Slot.{presenceOf}
 use Rattle.bench.specs.declared.Bench.{Bench}
+use Rattle.search_law.specs.Reads.{readSlots}
 use Rattle.master_rules.specs.declared.Access.{Access}
-use Rattle.master_rules.specs.Access.{readSlots, admission, readAt, writeAt}
+use Rattle.master_rules.specs.Access.{admission, readAt, writeAt}
 use Rattle.master_rules.specs.Issued.{issued, Granted}
 
 -- 55h, the code, and a function command

@@ -1,54 +1,24 @@
--- The slots of a number as a loop of halvings makes them, and read slots and the bytes they show as the loops make them.
+-- The bytes that read slots show, as the loop over them makes them.
 -- Assumes nothing.
-use Prim.Native.Nat.{ℕ, suc, _+_, _-_, _/_, _<_, _≤_, zero, _*_, _^_}
+use Prim.Native.Nat.{ℕ, suc, _+_, _-_, _<_, zero, _*_}
 use mathlib.Core.Path.{_≡_, refl, ap, _∙_, sym}
 use native.Mathlib.Omega.{arith}
-use Rattle.bits.specs.Bits.{odd, bitsOf, bitNumber, numberOf}
-use Rattle.search_law.specs.Wire.{slots, run}
-use Rattle.bench.specs.Slot.{slotted}
+use Rattle.search_law.specs.Wire.{slots}
 use Rattle.bench.specs.declared.Bench.{Bench}
 use Rattle.commands.specs.Commands.{readScratchpad}
 use Rattle.rom.specs.Code.{familyOf}
 use Rattle.scratchpad.specs.Judgement.{judged}
 use Rattle.at_code.specs.Replies.{replied}
 use Rattle.searching.specs.Buses.{calls}
-use Rattle.master_rules.specs.Wire.{sent, shown}
 use mathlib.Core.Bool.{Bool, true}
 use mathlib.Core.List.{List, [], _∷_, _++_}
 use native.Mathlib.Numerals.{add-one}
-use lib.ListN.{length, set, replicate, replicate-append-replicate, length-replicate}
+use lib.ListN.{length, set, replicate, replicate-append-replicate}
 use Rattle.lists.specs.Laid.{laid}
 use Rattle.lists.specs.LaidLaws.{laid-store}
-use Rattle.bits.specs.BitsLaws.{number-snoc}
-use Rattle.search_law.specs.Issued.{slots-append, slots-length}
-use Rattle.master_rules.specs.Access.{readSlots, byteShown, afterSlots, bytesShown, addressed, judgedReply, fetched}
-
--- ## The slots of a number, as a loop of halvings makes them
-
-pub sent-turn : (n i x : ℕ) (b : Bench) → i < n → sent (n - i) x b ≡ sent (n - (i + 1)) (x / 2) (slotted b (odd x) .bench)
-unfolding bitsOf slots
-sent-turn n i x b h = let e : n - i ≡ suc (n - (i + 1)) = omega arith in rw e
-
-pub sent-end : (n i x : ℕ) (b : Bench) → n ≤ i → sent (n - i) x b ≡ b
-unfolding bitsOf slots
-sent-end n i x b h = let e : n - i ≡ 0 = omega arith in rw e
-
--- ## Read slots, as the loops make them
-
-reads-more : (n : ℕ) (b : Bench) → slots calls (readSlots (n + 1)) b
-    ≡ run (shown (readSlots n) b ++ (slotted (afterSlots n b) true .line ∷ [])) (slotted (afterSlots n b) true .bench)
-unfolding slots
-reads-more n b =
-    rw (← replicate-append-replicate n 1 true) (slots-append calls (readSlots n) (true ∷ []) b)
-
-pub byte-more : (n : ℕ) (b : Bench) → numberOf (shown (readSlots n) b) + bitNumber (slotted (afterSlots n b) true .line) * 2 ^ n ≡ numberOf (shown (readSlots (n + 1)) b)
-byte-more n b =
-    let long : length (shown (readSlots n) b) ≡ n = slots-length calls (readSlots n) b ∙ length-replicate n true in
-    let line = slotted (afterSlots n b) true .line in
-    sym (ap (λ r. numberOf (r .lines)) (reads-more n b) ∙ number-snoc (shown (readSlots n) b) line ∙ ap (λ (k : ℕ). numberOf (shown (readSlots n) b) + bitNumber line * 2 ^ k) long)
-
-pub slots-more : (n : ℕ) (b : Bench) → slotted (afterSlots n b) true .bench ≡ afterSlots (n + 1) b
-slots-more n b = sym (ap (λ r. r .devices) (reads-more n b))
+use Rattle.search_law.specs.Reads.{readSlots}
+use Rattle.search_law.specs.Issued.{slots-append}
+use Rattle.master_rules.specs.Access.{byteShown, afterSlots, bytesShown, addressed, judgedReply, fetched}
 
 -- ## Bytes, as the loop over them makes them
 

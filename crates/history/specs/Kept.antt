@@ -15,6 +15,7 @@ use Rattle.family.specs.Families.{propertiesOf}
 use Rattle.family.specs.declared.Properties.{Properties}
 use Rattle.rom.specs.Code.{familyOf}
 use Rattle.scratchpad.specs.Judgement.{judged}
+use Rattle.search_law.specs.Reads.{readSlots}
 use Rattle.search_law.specs.Holds.{slots-hold, search-holds}
 use Rattle.device.specs.declared.Settings.{Settings}
 use Rattle.bench.specs.Bench.{free}
@@ -23,7 +24,7 @@ use Rattle.bench.specs.declared.Bench.{Bench}
 use Rattle.master_rules.specs.declared.Access.{Access}
 use Rattle.searching.specs.Buses.{calls}
 use Rattle.master_rules.specs.Wire.{sent}
-use Rattle.master_rules.specs.Access.{addressed, readSlots, bytesShown, afterSlots, fetched, onPresence, readBack, admission, readAt, settingsSent, asAsked, writtenAndRead, writeAt}
+use Rattle.master_rules.specs.Access.{addressed, bytesShown, afterSlots, fetched, onPresence, readBack, admission, readAt, settingsSent, asAsked, writtenAndRead, writeAt}
 use Rattle.master_rules.specs.Pins.{isPinned, PinsFound, nobodyRead, pinsStep, PinsOutcome, pinsOutcome}
 use Rattle.master_rules.specs.Search.{fewestPlaces, fewestBytes, codeLength, mostPasses, refusedOutcome, lonelyOutcome, foundOutcome, searchRun, searchOutcome}
 

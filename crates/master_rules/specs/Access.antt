@@ -7,7 +7,7 @@
 --     settingsSent row code s b    4Eh and the settings s: high limit, low limit and, where the family has one, configuration
 --     writeAt b code s             a write of the settings s, then a read at the code
 use Prim.Native.Nat.{ℕ, zero, suc}
-use mathlib.Core.Bool.{Bool, true, not, _&&_}
+use mathlib.Core.Bool.{Bool, not, _&&_}
 use mathlib.Core.List.{List, [], _∷_}
 use lib.Dec.{eqb}
 use lib.IntN.{pos}
@@ -25,7 +25,7 @@ use Rattle.temperature.specs.declared.Reading.the-variants.{InSixteenths}
 use Rattle.fine.specs.Fine.{noFine}
 use Rattle.scratchpad.specs.Judgement.{judged}
 use Rattle.scratchpad.specs.declared.Judged.{Judged}
-use Rattle.search_law.specs.Wire.{slots}
+use Rattle.search_law.specs.Reads.{bitsShown, afterReads}
 use Rattle.device.specs.declared.Settings.{Settings}
 use Rattle.bench.specs.Bench.{free}
 use Rattle.bench.specs.Slot.{resetDone}
@@ -33,7 +33,7 @@ use Rattle.bench.specs.declared.Bench.{Bench}
 use Rattle.bench.specs.declared.ResetDone.{ResetDone}
 use Rattle.master_rules.specs.declared.Access.{Access}
 use Rattle.searching.specs.Buses.{calls}
-use Rattle.master_rules.specs.Wire.{sent, shown}
+use Rattle.master_rules.specs.Wire.{sent}
 
 -- an answer that refuses: nine zero bytes, a zero reading, no fine one, and the bench as it then is
 abbrev pub refusedAt : ℕ → Bench → Access
@@ -50,14 +50,11 @@ unfoldable pub addressed : ℕ → ℕ → Bench → Bench
 addressed code command b = sent 8 command (sent 64 code (sent 8 matchRom b))
 
 -- one byte of eight read slots, in which the master offers 1: what the line showed, first bit lowest, and the bench after them
-abbrev pub readSlots : ℕ → List Bool
-readSlots n = replicate n true
-
 abbrev pub byteShown : Bench → ℕ
-byteShown b = numberOf (shown (readSlots 8) b)
+byteShown b = numberOf (bitsShown calls 8 b)
 
 abbrev pub afterSlots : ℕ → Bench → Bench
-afterSlots n b = slots calls (readSlots n) b .devices
+afterSlots n b = afterReads calls n b
 
 -- n bytes, one after another
 unfoldable pub bytesShown : ℕ → Bench → List ℕ

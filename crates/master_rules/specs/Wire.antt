@@ -4,13 +4,13 @@
 use Prim.Native.Nat.{ℕ}
 use mathlib.Core.Bool.{Bool}
 use mathlib.Core.List.{List}
-use Rattle.bits.specs.Bits.{bitsOf}
+use Rattle.search_law.specs.Reads.{afterBits}
 use Rattle.search_law.specs.Wire.{slots}
 use Rattle.searching.specs.Buses.{calls}
 use Rattle.bench.specs.declared.Bench.{Bench}
 
 abbrev pub sent : ℕ → ℕ → Bench → Bench
-sent n x b = slots calls (bitsOf n x) b .devices
+sent n x b = afterBits calls n x b
 
 abbrev pub shown : List Bool → Bench → List Bool
 shown offers b = slots calls offers b .lines

@@ -6,6 +6,8 @@ pub mod ListingLaws
 pub mod Lists
 pub mod Wire
 pub mod Issued
+pub mod Reads
+pub mod ReadsLaws
 pub mod Holds
 pub mod Paths
 pub mod Searchers

@@ -10,14 +10,15 @@ use Rattle.commands.specs.BytesLaws.{shifted-on}
 use Rattle.search_law.specs.Wire.{slots}
 use Rattle.bench.specs.Slot.{slotted}
 use Rattle.at_code.specs.Replies.{byteReadOf}
-use Rattle.master_rules.specs.Access.{readSlots, afterSlots, byteShown}
-use Rattle.at_code.specs.Laws.{byte-more, slots-more}
-use Rattle.master_rules.specs.Wire.{shown}
+use Rattle.master_rules.specs.Access.{afterSlots, byteShown}
+use Rattle.search_law.specs.Reads.{bitsShown}
+use Rattle.search_law.specs.ReadsLaws.{reads-more, shown-more}
+use Rattle.searching.specs.Buses.{calls}
 use Rattle.at_code.proofs.read_byte.Statement.{statement}
 use Rattle.at_code.proofs.read_byte.Tie as tie
 
 abbrev Inv-loop : tie.InvT-loop
-Inv-loop b₀ byte₀ i₀ b byte i = (i ≤ 8) × (b ≡ afterSlots i b₀) × (byte ≡ numberOf (shown (readSlots i) b₀) * 2 ^ (8 - i))
+Inv-loop b₀ byte₀ i₀ b byte i = (i ≤ 8) × (b ≡ afterSlots i b₀) × (byte ≡ numberOf (bitsShown calls i b₀) * 2 ^ (8 - i))
 
 abbrev μ-loop : tie.MeasureT-loop
 μ-loop b₀ byte₀ i₀ b byte i = 8 - i
@@ -46,10 +47,10 @@ loop-again c =
     let left : 8 - i ≡ suc (8 - (i + 1)) = omega arith in
     let seven : i + (8 - (i + 1)) ≡ 7 = omega arith in (
       omega arith,
-      rw (c .before .before .slot .ensures, p .loop .inv .1) (slots-more i b),
+      rw (c .before .before .slot .ensures, p .loop .inv .1) (reads-more calls i b),
       c .push .ensures
-          ∙ rw (c .before .before .slot .ensures, p .loop .inv .1, p .loop .inv .2, left) (shifted-on i (8 - (i + 1)) (numberOf (shown (readSlots i) b)) (slotted (afterSlots i b) true .line) seven)
-          ∙ ap (λ (n : ℕ). n * 2 ^ (8 - (i + 1))) (byte-more i b),
+          ∙ rw (c .before .before .slot .ensures, p .loop .inv .1, p .loop .inv .2, left) (shifted-on i (8 - (i + 1)) (numberOf (bitsShown calls i b)) (slotted (afterSlots i b) true .line) seven)
+          ∙ ap (λ (n : ℕ). n * 2 ^ (8 - (i + 1))) (shown-more calls i b),
     )
 
 returns : tie.Need-returns Inv-loop μ-loop

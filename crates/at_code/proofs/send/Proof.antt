@@ -3,8 +3,9 @@ use Prim.Native.Nat.{_≤_, _-_}
 use mathlib.Core.Path.{_≡_, _∙_, sym}
 use native.Mathlib.Omega.{arith}
 use borrow.Author.Needs.{needs}
+use Rattle.search_law.specs.ReadsLaws.{bits-turn, bits-end}
+use Rattle.searching.specs.Buses.{calls}
 use Rattle.master_rules.specs.Wire.{sent}
-use Rattle.at_code.specs.Laws.{sent-turn, sent-end}
 use Rattle.at_code.proofs.send.Statement.{statement}
 use Rattle.at_code.proofs.send.Tie as tie
 
@@ -30,12 +31,12 @@ loop-again : tie.Need-loop-again Inv-loop μ-loop
 loop-again c =
     let at-loop = c .before .before .before in
     let count = at-loop .before .args .count in
-    (omega arith, rw (c .before .slot .ensures, ← sent-turn count (at-loop .loop .i) _ _ (c .before .before .loop-test .taken)) (at-loop .loop .inv .1))
+    (omega arith, rw (c .before .slot .ensures, ← bits-turn calls count (at-loop .loop .i) _ _ (c .before .before .loop-test .taken)) (at-loop .loop .inv .1))
 
 returns : tie.Need-returns Inv-loop μ-loop
 returns c =
     let count = c .before .before .args .count in
-    sym (sent-end count (c .before .loop .i) _ _ (c .loop-test .left)) ∙ c .before .loop .inv .1
+    sym (bits-end calls count (c .before .loop .i) _ _ (c .loop-test .left)) ∙ c .before .loop .inv .1
 
 pub send-spec : {M : Type 1} → statement M
 send-spec =
