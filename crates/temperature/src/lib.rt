@@ -142,7 +142,8 @@ pub fn in_range(r: Reading) -> bool
     }
 }
 
-fn whole_in_range(w: WholeDegrees) -> bool
+// Whether a temperature is from -55 to +125 whole degrees, both included.
+pub fn whole_in_range(w: WholeDegrees) -> bool
     ensures answer { λ r. ⌜ r ≡ wholeInRange w ⌝ }
 {
     between(LOWEST_WHOLE, HIGHEST_WHOLE, w.0)
