@@ -1,0 +1,4 @@
+pub mod Record
+pub mod Status
+pub mod Finish
+pub mod Power
