@@ -1,0 +1,2 @@
+pub mod ProbeRequests
+pub mod ProbeRequestsLaws
