@@ -100,13 +100,13 @@ returns-9 c =
     let row2 = row3 .before .before .before in
     let row1 = row2 .before .before .before in
     no-row _ (sym (row1 .before .asks .ensures) ∙ row1 .if1 .left)
-        (sym (row2 .before .asks2 .ensures) ∙ row2 .if2 .left)
-        (sym (row3 .before .asks3 .ensures) ∙ row3 .if3 .left)
-        (sym (row4 .before .asks4 .ensures) ∙ row4 .if4 .left)
-        (sym (row5 .before .asks5 .ensures) ∙ row5 .if5 .left)
-        (sym (row6 .before .asks6 .ensures) ∙ row6 .if6 .left)
-        (sym (row7 .before .asks7 .ensures) ∙ row7 .if7 .left)
-        (sym (row8 .before .asks8 .ensures) ∙ row8 .if8 .left)
+    (sym (row2 .before .asks2 .ensures) ∙ row2 .if2 .left)
+    (sym (row3 .before .asks3 .ensures) ∙ row3 .if3 .left)
+    (sym (row4 .before .asks4 .ensures) ∙ row4 .if4 .left)
+    (sym (row5 .before .asks5 .ensures) ∙ row5 .if5 .left)
+    (sym (row6 .before .asks6 .ensures) ∙ row6 .if6 .left)
+    (sym (row7 .before .asks7 .ensures) ∙ row7 .if7 .left)
+    (sym (row8 .before .asks8 .ensures) ∙ row8 .if8 .left)
 
 pub of-words-spec : {M : Type 1} → statement M
 of-words-spec =

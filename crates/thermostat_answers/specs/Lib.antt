@@ -1,0 +1,2 @@
+pub mod ProbeLines
+pub mod ProbeLinesLaws

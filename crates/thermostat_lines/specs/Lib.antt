@@ -1,0 +1,2 @@
+pub mod ProbeConsole
+pub mod ProbeConsoleLaws
