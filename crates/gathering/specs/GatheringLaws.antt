@@ -10,21 +10,33 @@ use borrow.Author.Tests.{leb-true, leb-false, lt-leb, le-ltb, lt-ltb, ne-eqb}
 use lib.Dec.{leb}
 use lib.ListN.{length, take, length-take, length-append}
 use lib.Seq.{take-all, take-append-le, take-suc-set, length-take-le}
+use Rattle.lists.specs.Choice.{if_then_else_}
 use Rattle.text.specs.Lines.{lineFeed}
-use Rattle.requests.specs.Requests.{requestOf, longestRequest}
+use Rattle.words.specs.Words.{wordsOf}
+use Rattle.requests.specs.Requests.{ofBench, requestOf, longestRequest}
+use Rattle.requests.specs.declared.Request.the-variants.{Bad}
 use Rattle.gathering.specs.Gathering.{mostHeld, gathered, taken, takenLeaves}
 
--- a line that is cut at 81 characters asks for what the whole line asks for
-pub held-tells : (s : List ℕ) → requestOf (take mostHeld s) ≡ requestOf s
-unfolding requestOf
-held-tells s = by-test (leb (length s) longestRequest) refl
+-- whatever reads lines of up to 80 characters and takes all others for one thing: of a line that is cut at 81 it reads what it reads of the whole line
+pub held-reads : {A : Type 0} (reads : List ℕ → A) (other : A) (s : List ℕ)
+    → (if leb (length (take mostHeld s)) longestRequest then reads (take mostHeld s) else other) ≡ (if leb (length s) longestRequest then reads s else other)
+held-reads reads other s = by-test (leb (length s) longestRequest) refl
   where
-    by-test : (t : Bool) → leb (length s) longestRequest ≡ t → requestOf (take mostHeld s) ≡ requestOf s
-    by-test true e = let h = leb-true (length s) longestRequest e in ap requestOf (take-all mostHeld s (omega arith))
+    by-test : (t : Bool) → leb (length s) longestRequest ≡ t
+        → (if leb (length (take mostHeld s)) longestRequest then reads (take mostHeld s) else other) ≡ (if leb (length s) longestRequest then reads s else other)
+    by-test true e =
+        let h = leb-true (length s) longestRequest e in
+        let whole = take-all mostHeld s (omega arith) in
+        rw whole
     by-test false e =
         let h = leb-false (length s) longestRequest e in
         let cut : length (take mostHeld s) ≡ 81 = length-take mostHeld s ∙ omega arith in
         rw (e, lt-leb (length (take mostHeld s)) longestRequest (omega arith))
+
+-- a line that is cut at 81 characters asks for what the whole line asks for
+pub held-tells : (s : List ℕ) → requestOf (take mostHeld s) ≡ requestOf s
+unfolding requestOf
+held-tells s = held-reads (λ (t : List ℕ). ofBench (wordsOf t)) Bad s
 
 -- the buffer of 81 bytes after a character that is no feed
 module _ (line : List ℕ) (held c : ℕ) (size : length line ≡ mostHeld) (within : held ≤ mostHeld) (other : c ≡ lineFeed → ⊥) where

@@ -2,21 +2,20 @@
 -- Assumes nothing.
 use Prim.Native.Nat.{ℕ, _+_, _<_, _≤_}
 use mathlib.Core.Path.{_≡_, refl, ap, _∙_}
-use mathlib.Core.Bool.{Bool, true, false}
 use mathlib.Core.List.{List}
 use native.Mathlib.Omega.{arith}
-use borrow.Author.Tests.{leb-true, leb-false, le-leb, lt-leb}
-use lib.Dec.{leb}
-use lib.ListN.{length, take, length-take}
-use lib.Seq.{take-all}
+use borrow.Author.Tests.{le-leb, lt-leb}
+use lib.ListN.{length, take}
 use Rattle.refusals.specs.Refusals.{noRoom}
 use Rattle.text.specs.Lines.{Line}
 use Rattle.laying.specs.declared.Written.{Written}
 use Rattle.putting.specs.Putting.{lineRoom, lineAnswer, lineLeaves}
-use Rattle.requests.specs.Requests.{longestRequest}
+use Rattle.words.specs.Words.{wordsOf}
 use Rattle.gathering.specs.Gathering.{mostHeld}
+use Rattle.gathering.specs.GatheringLaws.{held-reads}
 use Rattle.thermostat.specs.declared.Thermostat.{Thermostat}
-use Rattle.thermostat_requests.specs.ProbeRequests.{probeRequestOf}
+use Rattle.thermostat_requests.specs.ProbeRequests.{ofProbe, probeRequestOf}
+use Rattle.thermostat_requests.specs.declared.ProbeRequest.the-variants.{Bad}
 use Rattle.thermostat_answers.specs.ProbeLines.{replyLine}
 use Rattle.thermostat_lines.specs.ProbeConsole.{responded, probeAsked, probeSaid, probeLeaves}
 use Rattle.thermostat_lines.specs.declared.Responded.{Responded}
@@ -42,11 +41,4 @@ module _ (p : Thermostat) (l : Line) (out : List ℕ) where
 -- a line that is cut at 81 characters asks for what the whole line asks for
 pub held-asks : (s : List ℕ) → probeRequestOf (take mostHeld s) ≡ probeRequestOf s
 unfolding probeRequestOf
-held-asks s = by-test (leb (length s) longestRequest) refl
-  where
-    by-test : (t : Bool) → leb (length s) longestRequest ≡ t → probeRequestOf (take mostHeld s) ≡ probeRequestOf s
-    by-test true e = let h = leb-true (length s) longestRequest e in ap probeRequestOf (take-all mostHeld s (omega arith))
-    by-test false e =
-        let h = leb-false (length s) longestRequest e in
-        let cut : length (take mostHeld s) ≡ 81 = length-take mostHeld s ∙ omega arith in
-        rw (e, lt-leb (length (take mostHeld s)) longestRequest (omega arith))
+held-asks s = held-reads (λ (t : List ℕ). ofProbe (wordsOf t)) Bad s
