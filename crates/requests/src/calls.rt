@@ -209,8 +209,8 @@ fn write(line: &[u8]) -> Request
 // ---- The table
 
 // Whether a line is this name and so many fields.
-fn asks(line: &[u8], name: &[u8], fields: usize) -> bool
-    ensures { λ r. ⌜ r ≡ asks (now (name .entry)) fields (wordsOf (now (line .entry))) ⌝ }
+pub fn asks(line: &[u8], name: &[u8], fields: usize) -> bool
+    ensures answer { λ r. ⌜ r ≡ asks (now (name .entry)) fields (wordsOf (now (line .entry))) ⌝ }
 {
     if same(word(line, 0), name) {
         return count(line) - 1 == fields;

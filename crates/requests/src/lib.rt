@@ -4,6 +4,7 @@ ghost use Rattle.requests.specs.Requests.{requestOf};
 
 mod calls;
 
+pub use calls::asks;
 use device::Joining;
 use device::Settings;
 use temperature::Sixteenths;

@@ -1,17 +1,15 @@
 // The lines of the thermostat console, read as requests.
 ghost use mathlib.Core.Path.{_≡_};
-ghost use Rattle.requests.specs.Requests.{asks};
 ghost use Rattle.words.specs.Words.{wordsOf, wordOf};
 ghost use Rattle.fields.specs.Fields.{byteIn, bitIn};
 ghost use Rattle.thermostat_requests.specs.ProbeRequests.{degreesIn, limitIn, askedIn, startAsked, slotAsked, finishAsked, changeAsked, ofProbe, probeRequestOf};
 use fields::bit_in;
 use fields::both;
 use requests::LONGEST;
+use requests::asks;
 use temperature::WholeDegrees;
-use text::same;
 use thermostat::Kept;
 use thermostat_rules::Asked;
-use words::count;
 use words::word;
 
 // What a line asks for.
@@ -148,16 +146,6 @@ fn change(line: &[u8]) -> ProbeRequest
 }
 
 // ---- The table
-
-// Whether a line is this name and so many fields.
-fn asks(line: &[u8], name: &[u8], fields: usize) -> bool
-    ensures { λ r. ⌜ r ≡ asks (now (name .entry)) fields (wordsOf (now (line .entry))) ⌝ }
-{
-    if same(word(line, 0), name) {
-        return count(line) - 1 == fields;
-    }
-    false
-}
 
 fn of_words(line: &[u8]) -> ProbeRequest
     ensures { λ r. ⌜ r ≡ ofProbe (wordsOf (now (line .entry))) ⌝ }
