@@ -1,6 +1,7 @@
 -- The console on a table: what it says to a line, and the bytes that the line leaves.
 --     tableAsked l           what a line asks of the bytes; one that has no feed asks for nothing there
---     onBench t l            a line of the bench: its answer on the bench that t holds, with the bench that it leaves packed again; else the refusal of the bytes in the line's own form
+--     onTable f refusal t    what f answers on the bench that t holds, with the bench that it leaves packed again; else the refusal of the bytes, 1 or 22, in a form of its own, and the bytes as they were
+--     onBench t l            the same of a line of the bench, with the refusal in the line's own form
 --     spoken t l             any line
 --     told s out             what the call for it answers: how many bytes of text there are, or refusal 1 where less than the room is lent
 --     wrote s out            the bytes lent for the text after it: the text from byte 0 on, or as they were
@@ -10,18 +11,19 @@
 use Prim.Native.Nat.{ℕ}
 use mathlib.Core.List.{List}
 use mathlib.Core.Path.{_≡_}
-use lib.Dec.{eqb, leb}
+use lib.Dec.{leb}
 use lib.ListN.{length, set}
 use Rattle.lists.specs.Choice.{if_then_else_}
 use Rattle.lists.specs.Laid.{laid}
 use Rattle.refusals.specs.Refusals.{accepted, noRoom}
 use Rattle.text.specs.Lines.{Line}
 use Rattle.laying.specs.declared.Written.{Written}
+use Rattle.bench.specs.declared.Bench.{Bench}
 use Rattle.answers.specs.Answers.{refusalLine}
 use Rattle.call_answers.specs.Said.{Answered}
 use Rattle.search_answers.specs.Whole.{room}
 use Rattle.console.specs.Console.{answered, asked}
-use Rattle.table.specs.Table.{held, unpacked, packedInto}
+use Rattle.table_calls.specs.Through.{answeredOn, leftBy, After as AfterCall}
 use Rattle.table_requests.specs.TableRequests.{tableRequestOf}
 use Rattle.table_requests.specs.declared.TableRequest.{TableRequest}
 use Rattle.table_requests.specs.declared.TableRequest.the-variants.{Poke, Dump, Other}
@@ -37,14 +39,11 @@ speaks text left = record { text = text; left = left }
 abbrev pub tableAsked : Line → TableRequest
 tableAsked l = if l .fed then tableRequestOf (l .chars) else Other
 
--- the answer of the bench's console, where the bytes hold a bench
-abbrev pub benchAnswered : List ℕ → Line → Answered
-benchAnswered t l = answered (unpacked t .bench) (asked l)
+unfoldable pub onTable : (Bench → Answered) → (ℕ → List ℕ) → List ℕ → Spoken
+onTable f refusal t = speaks (answeredOn refusal (λ b. f b .text) t) (leftBy (λ b. f b .bench) t)
 
-unfoldable pub onBench : List ℕ → Line → Spoken
-onBench t l =
-    if eqb (unpacked t .refusal) accepted then speaks (benchAnswered t l .text) (packedInto t (benchAnswered t l .bench))
-    else speaks (refusedText (unpacked t .refusal) (asked l)) t
+abbrev pub onBench : List ℕ → Line → Spoken
+onBench t l = onTable (λ b. answered b (asked l)) (λ n. refusedText n (asked l)) t
 
 unfoldable pub spokenTo : TableRequest → List ℕ → Line → Spoken
 spokenTo (Poke place byte) t l = speaks (refusalLine (pokeRefusal t place)) (set t place byte)
@@ -77,7 +76,7 @@ pub record Tells (s : Spoken) (out out' t' : List ℕ) (r : Written) : Type 0 wh
 -- ## The bench after a line
 
 abbrev pub AfterLine : List ℕ → Line → List ℕ → Type 0
-AfterLine t l t' = unpacked t .refusal ≡ accepted → unpacked t' ≡ held (benchAnswered t l .bench)
+AfterLine t l t' = AfterCall (λ b. answered b (asked l) .bench) t t'
 
 -- of a line of the bench
 abbrev pub After : TableRequest → List ℕ → Line → List ℕ → Type 0

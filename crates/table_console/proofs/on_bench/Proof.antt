@@ -1,7 +1,13 @@
 -- Refused bytes are told and stay; else what the console answered on the bench of the bytes is said, and the bench that it left is packed. Assumes nothing.
 use denote.Ref.{now}
+use borrow.Author.Tests.{le-leb}
+use lib.ListN.{length}
 use Rattle.text.specs.Lines.{Line}
-use Rattle.table_console.specs.OnBenchLaws.{refused-line, answered-line}
+use Rattle.search_answers.specs.Whole.{room}
+use Rattle.console.specs.Console.{answered, asked}
+use Rattle.table_answers.specs.TableAnswers.{refusedText}
+use Rattle.table_console.specs.KeptLaws.{answered-keeps}
+use Rattle.table_console.specs.OnBenchLaws.{refused-told, answered-told}
 use borrow.Author.Needs.{needs}
 use Rattle.table_console.proofs.on_bench.Statement.{statement}
 use Rattle.table_console.proofs.on_bench.Tie as tie
@@ -25,7 +31,7 @@ returns c =
     let u = k .before in
     let s = u .before .before .before .before .before in
     let l : Line = record { chars = now (s .args .line); fed = s .args .fed } in
-    refused-line (now (s .args .t)) (now (s .args .out)) l (s .pre) (u .unpack .result) (u .unpack .ensures) (k .if1 .taken) (q .refuse .result) (q .refuse .last .1 .1 .1 .0) (q .refuse .ensures .0) (q .refuse .ensures .1)
+    refused-told (λ b. answered b (asked l)) (λ n. refusedText n (asked l)) (now (s .args .t)) (now (s .args .out)) (s .pre) (u .unpack .result) (u .unpack .ensures) (k .if1 .taken) (q .refuse .result) (q .refuse .last .1 .1 .1 .0) (q .refuse .ensures .0) (q .refuse .ensures .1)
 
 answer-requires : tie.Need-answer-requires
 answer-requires c κs = search needs
@@ -47,7 +53,8 @@ returns-2 c =
     let u = e .before in
     let s = u .before .before .before .before .before in
     let l : Line = record { chars = now (s .args .line); fed = s .args .fed } in
-    answered-line (now (s .args .t)) (now (s .args .out)) l (s .pre) (u .unpack .result) (u .unpack .ensures) (e .if1 .left) (n .answer .result) _ _ (n .answer .ensures .0) (n .answer .ensures .1 .0) (k .pack .ensures .1 .0) (k .pack .ensures .1 .1)
+    let enough = le-leb room (length (now (s .args .out))) (s .pre) in
+    answered-told (λ b. answered b (asked l)) (λ n. refusedText n (asked l)) (now (s .args .t)) (now (s .args .out)) (s .pre) (u .unpack .result) (u .unpack .ensures) (answered-keeps (asked l)) (e .if1 .left) (n .answer .result) _ _ (rw enough at (n .answer .ensures .0)) (rw enough at (n .answer .ensures .1 .0)) (k .pack .ensures .1 .0) (k .pack .ensures .1 .1)
 
 pub on-bench-spec : {M : Type 1} → statement M
 on-bench-spec =

@@ -4,10 +4,12 @@ use lib.ListN.{length}
 use mathlib.Core.Path.{_≡_, ap, _∙_}
 use borrow.Author.Tests.{lt-leb, le-leb}
 use Rattle.text.specs.Lines.{Line}
-use Rattle.laying.specs.declared.Written.{Written}
 use Rattle.search_answers.specs.Whole.{room}
 use Rattle.settings_requests.specs.declared.StoreRequest.the-variants.{Other}
 use Rattle.settings_console.specs.SettingsConsole.{storeAsked, storeLeft}
+use Rattle.table_console.specs.TableConsole.{telling}
+use Rattle.table_settings.specs.TableSettings.{spokenOf}
+use Rattle.table_settings.specs.TableSettingsLaws.{told-parts}
 use borrow.Author.Needs.{needs}
 use Rattle.table_settings.proofs.answer.Statement.{statement}
 use Rattle.table_settings.proofs.answer.Tie as tie
@@ -41,7 +43,7 @@ returns-2 c =
     let done = rw request at (q .respond .ensures .0) in
     let left = q .respond .ensures .1 ∙ ap (storeLeft (s .args .store)) request in
     let wide = le-leb room (length (now (s .args .out))) (e .if1 .left) in
-    (rw (wide, ← left) (ap (λ (w : Written). record { written = w; store = q .respond .result .store }) (done .told-is)), (rw wide (done .wrote-is), rw wide (done .left-is)))
+    (rw wide (told-parts _ (telling (spokenOf (now (s .args .t)) (s .args .store) l (storeAsked l) .text)) _ _ (done .told-is) left), (rw wide (done .wrote-is), rw wide (done .left-is)))
 
 respond-requires-2 : tie.Need-respond-requires-2
 respond-requires-2 c κs = search needs
@@ -63,7 +65,7 @@ returns-3 c =
     let done = rw request at (q .respond2 .ensures .0) in
     let left = q .respond2 .ensures .1 ∙ ap (storeLeft (s .args .store)) request in
     let wide = le-leb room (length (now (s .args .out))) (e .if1 .left) in
-    (rw (wide, ← left) (ap (λ (w : Written). record { written = w; store = q .respond2 .result .store }) (done .told-is)), (rw wide (done .wrote-is), rw wide (done .left-is)))
+    (rw wide (told-parts _ (telling (spokenOf (now (s .args .t)) (s .args .store) l (storeAsked l) .text)) _ _ (done .told-is) left), (rw wide (done .wrote-is), rw wide (done .left-is)))
 
 pub answer-spec : {M : Type 1} → statement M
 answer-spec =

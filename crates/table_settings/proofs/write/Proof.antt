@@ -1,8 +1,16 @@
 -- Refused bytes are told and stay; else what the write came to on the bench of the bytes is said, and the bench that it left is packed. Assumes nothing.
 use denote.Ref.{now}
+use mathlib.Core.Path.{ap, _∙_}
+use Rattle.lists.specs.Laid.{laid}
+use Rattle.requests.specs.declared.Request.the-variants.{Read}
+use Rattle.master_rules.specs.declared.Access.{Access}
 use Rattle.call_answers.specs.Said.{ofAccess}
+use Rattle.search_answers.specs.Whole.{saying}
 use Rattle.search_answers.specs.WholeLaws.{line-says}
-use Rattle.table_settings.specs.TableSettingsLaws.{refused-write, answered-write}
+use Rattle.settings_write.specs.Written.{settingsWritten}
+use Rattle.table_answers.specs.TableAnswers.{refusedText}
+use Rattle.table_console.specs.OnBenchLaws.{refused-told, answered-told}
+use Rattle.table_settings.specs.TableSettingsLaws.{settings-keep}
 use borrow.Author.Needs.{needs}
 use Rattle.table_settings.proofs.write.Statement.{statement}
 use Rattle.table_settings.proofs.write.Tie as tie
@@ -25,7 +33,7 @@ returns c =
     let k = q .before .before in
     let u = k .before in
     let s = u .before .before .before .before in
-    refused-write (now (s .args .t)) (now (s .args .out)) (s .args .store) (s .args .code) (s .pre) (u .unpack .result) (u .unpack .ensures) (k .if1 .taken) _ _ (q .refuse .ensures .0) (q .refuse .ensures .1)
+    refused-told (λ b. ofAccess (settingsWritten (s .args .store) b (s .args .code))) (λ n. refusedText n (Read (s .args .code))) (now (s .args .t)) (now (s .args .out)) (s .pre) (u .unpack .result) (u .unpack .ensures) (k .if1 .taken) _ _ (q .refuse .ensures .0) (q .refuse .ensures .1)
 
 write-requires : tie.Need-write-requires
 write-requires c κs = search needs
@@ -51,7 +59,10 @@ returns-2 c =
     let u = e .before in
     let s = u .before .before .before .before in
     let says = line-says (now (s .args .out)) (s .pre) (ofAccess (w .write .result)) _ (n .access .result) (n .access .ensures .0) (n .access .ensures .1 .0) (n .access .ensures .1 .1) in
-    answered-write (now (s .args .t)) (now (s .args .out)) (s .args .store) (s .args .code) (s .pre) (u .unpack .result) (u .unpack .ensures) (e .if1 .left) (w .write .result) (w .write .ensures) (n .access .result) _ _ says (k .pack .ensures .1 .0) (k .pack .ensures .1 .1)
+    let told = says .said ∙ ap (λ (a : Access). saying (ofAccess a)) (w .write .ensures) in
+    let left = says .laid-is ∙ ap (λ (a : Access). laid (now (s .args .out)) 0 (ofAccess a .text)) (w .write .ensures) in
+    answered-told (λ b. ofAccess (settingsWritten (s .args .store) b (s .args .code))) (λ n. refusedText n (Read (s .args .code))) (now (s .args .t)) (now (s .args .out)) (s .pre) (u .unpack .result) (u .unpack .ensures)
+    (settings-keep (s .args .store) (s .args .code)) (e .if1 .left) (n .access .result) _ _ told left (k .pack .ensures .1 .0) (k .pack .ensures .1 .1)
 
 pub write-spec : {M : Type 1} → statement M
 write-spec =
