@@ -1,13 +1,20 @@
 -- By the tests of the three fields; a version that was read is at most 65,535. Assumes nothing.
 use denote.Ref.{now}
-use mathlib.Core.Path.{ap, _∙_}
+use mathlib.Core.Path.{_≡_, ap, _∙_}
 use native.Mathlib.Omega.{arith}
 use Rattle.text.specs.NumbersLaws.{decimal-at-most}
+use Rattle.words.specs.Words.{wordsOf, wordOf}
 use Rattle.fields.specs.Fields.{codeIn}
-use Rattle.settings_requests.specs.StoreRequests.{versionIn}
+use Rattle.settings_requests.specs.StoreRequests.{versionIn, alterationsIn}
 use borrow.Author.Needs.{needs}
 use Rattle.settings_requests.proofs.change.Statement.{statement}
 use Rattle.settings_requests.proofs.change.Tie as tie
+
+-- the alterations are those of the last three fields
+alterations-are : (c : tie.After-alterations-in) →
+    let fields = wordsOf (now (c .before .before .before .before .before .before .before .before .before .args .line)) in
+    c .alterations-in .result ≡ alterationsIn (wordOf fields 4) (wordOf fields 5) (wordOf fields 6)
+alterations-are c = rw (c .before .before .before .word3 .ensures, c .before .before .word4 .ensures, c .before .word5 .ensures) at (c .alterations-in .ensures)
 
 word-requires : tie.Need-word-requires
 word-requires c κs = search needs
@@ -49,7 +56,7 @@ returns c =
     let code = version .before .before in
     let code-is = code .code-in .ensures ∙ ap codeIn (code .before .word .ensures) in
     let version-is = version .version-in .ensures ∙ ap versionIn (version .before .word2 .ensures) in
-    rw (← code-is, ← version-is, ← a .before .before .before .word3 .ensures, ← a .before .before .word4 .ensures, ← a .before .word5 .ensures, ← a .alterations-in .ensures, first .if1 .taken, second .if2 .taken, third .if3 .taken)
+    rw (← code-is, ← version-is, ← alterations-are a, first .if1 .taken, second .if2 .taken, third .if3 .taken)
 
 returns-2 : tie.Need-returns-2
 returns-2 c =
@@ -60,7 +67,7 @@ returns-2 c =
     let code = version .before .before in
     let code-is = code .code-in .ensures ∙ ap codeIn (code .before .word .ensures) in
     let version-is = version .version-in .ensures ∙ ap versionIn (version .before .word2 .ensures) in
-    rw (← code-is, ← version-is, ← a .before .before .before .word3 .ensures, ← a .before .before .word4 .ensures, ← a .before .word5 .ensures, ← a .alterations-in .ensures, first .if1 .taken, second .if2 .taken, c .if3 .left)
+    rw (← code-is, ← version-is, ← alterations-are a, first .if1 .taken, second .if2 .taken, c .if3 .left)
 
 returns-3 : tie.Need-returns-3
 returns-3 c =
