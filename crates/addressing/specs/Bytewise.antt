@@ -1,5 +1,6 @@
 -- A device that calls reach holds bytes wherever it keeps a byte: in its scratchpad, in the limits of its EEPROM and of a copy under way, and in the part of a byte of 4Eh
 -- that it has taken. And byte 7 of its scratchpad is what it was at power-up, which is never 0: so no scratchpad is all zeros.
+--     StoredBytes d        its part on what is stored, whatever the stage
 --     Bytewise d           the claim
 --     Readable b           the bench is sound, its codes have 64 bits, and each device is bytewise: law `readable-after`, after every history
 -- Assumes nothing.
@@ -93,14 +94,14 @@ TakenByte SendPower = Unit
 TakenByte Quiet = Unit
 
 -- what is stored, whatever the stage
-pub record Stored (d : Device) : Type 0 where
+pub record StoredBytes (d : Device) : Type 0 where
   pub pad-bytes : Bytes (d .scratchpad)
   pub seventh : getD (d .scratchpad) 7 0 ≡ getD (rowOf (d .code) (d .pins) .initial) 7 0
   pub eeprom-bytes : LimitBytes (d .eeprom)
   pub copy-bytes : CopyBytes (d .activity)
 
 pub record Bytewise (d : Device) : Type 0 where
-  pub stored : Stored d
+  pub stored : StoredBytes d
   pub taken : TakenByte (d .stage)
 
 -- ## Bytes
@@ -201,7 +202,7 @@ initial-bytes code pins = all-bytes (rowOf code pins .initial) (every-row (λ ro
 -- ## Power, and the ends of a conversion and of a copy
 
 -- the stage is nothing of it
-restaged : (d : Device) (t : Stage) → Stored d → Stored (withStage d t)
+restaged : (d : Device) (t : Stage) → StoredBytes d → StoredBytes (withStage d t)
 restaged d t s = record { pad-bytes = s .pad-bytes; seventh = s .seventh; eeprom-bytes = s .eeprom-bytes; copy-bytes = s .copy-bytes }
 
 powered-bytewise : (code : ℕ) (power : Power) (pins : ℕ) (s : Settings) → LimitBytes s → Bytewise (poweredUp code power pins s)
@@ -249,10 +250,10 @@ reset-bytewise d b = record { stored = restaged d _ (b .stored); taken = tt }
 
 -- ## A slot: what is stored
 
-hear-stored : (d : Device) (l : Bool) → Bytewise d → Stored (hearOf d l)
+hear-stored : (d : Device) (l : Bool) → Bytewise d → StoredBytes (hearOf d l)
 unfolding settingsIn
 hear-stored d l b =
-    hear-outcome d l Stored
+    hear-outcome d l StoredBytes
     (record {
       moved = λ t. restaged d t s;
       converts = λ t e i. record { pad-bytes = s .pad-bytes; seventh = s .seventh; eeprom-bytes = s .eeprom-bytes; copy-bytes = tt };
@@ -267,7 +268,7 @@ hear-stored d l b =
       setting-stored = λ k t e h n. set-one k t n (rw e at (b .taken)) h;
     })
   where
-    s : Stored d
+    s : StoredBytes d
     s = b .stored
 
     row : Properties
@@ -277,7 +278,7 @@ hear-stored d l b =
     latched = (b .stored .pad-bytes 2, b .stored .pad-bytes 3)
 
     set-one : (k t : ℕ) (n : Stage) → t < 256 → k < settingsCount (rowOf (d .code) (d .pins))
-        → Stored (withStage (withScratchpad d (set (d .scratchpad) (2 + k) (settingByte (rowOf (d .code) (d .pins)) k (shiftIn t l)))) n)
+        → StoredBytes (withStage (withScratchpad d (set (d .scratchpad) (2 + k) (settingByte (rowOf (d .code) (d .pins)) k (shiftIn t l)))) n)
     set-one k t n h few =
         let third : k < 3 = omega (arith, settings-few (rowOf (d .code) (d .pins))) in
         let v = settingByte (rowOf (d .code) (d .pins)) k (shiftIn t l) in
