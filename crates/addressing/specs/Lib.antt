@@ -2,7 +2,6 @@ pub mod Unrefused
 pub mod Course
 pub mod Laws
 pub mod Picked
-pub mod OneAmong
 pub mod Reply
 pub mod Shown
 pub mod ShownLaws

@@ -20,6 +20,8 @@ use Rattle.lists.specs.Choice.{if_then_else_}
 use Rattle.lists.specs.Each.{Each}
 use Rattle.lists.specs.EachLaws.{each-implies, each-mapped}
 use Rattle.lists.specs.Fold.{all}
+use Rattle.lists.specs.OneAmong.{OneAmong}
+use Rattle.lists.specs.OneAmongLaws.{one-each, one-mapped}
 use Rattle.bits.specs.Bits.{bitAt, bitsOf, numberOf}
 use Rattle.bits.specs.BitsLaws.{bits-at, number-bits}
 use Rattle.bits.specs.Bytes.{Bytes}
@@ -40,7 +42,6 @@ use Rattle.searching.specs.OnTheBench.{Free, free-heard}
 use Rattle.searching.specs.Thermometers.{unstaged, Moving}
 use Rattle.master_rules.specs.Wire.{shown}
 use Rattle.master_rules.specs.Access.{afterSlots, bytesShown}
-use Rattle.addressing.specs.OneAmong.{OneAmong, one-each, one-mapped}
 use Rattle.addressing.specs.Picked.{half-then}
 
 pub record Replies (R : List ℕ) (Inv : ℕ → ℕ → List Device → Type 0) : Type 0 where

@@ -13,6 +13,8 @@ use lib.ListN.{length, getD, replicate, length-replicate}
 use Rattle.lists.specs.Choice.{if_then_else_}
 use Rattle.lists.specs.Each.{Each, Distinct}
 use Rattle.lists.specs.Fold.{fold}
+use Rattle.lists.specs.OneAmong.{OneAmong}
+use Rattle.lists.specs.OneAmongLaws.{one-implies, one-mapped}
 use Rattle.bits.specs.Bytes.{Bytes}
 use Rattle.bits.specs.BytesLaws.{bytes-append-bytes}
 use Rattle.commands.specs.Commands.{readScratchpad}
@@ -41,7 +43,6 @@ use Rattle.master_rules.specs.Access.{refusedAt, addressed, afterSlots, readBac
 use Rattle.addressing.specs.Unrefused.{addressBits}
 use Rattle.addressing.specs.Course.{Hears, hears-end, Settled, reading, addressed as address-heard}
 use Rattle.addressing.specs.Laws.{Ends, heard-runs, heard-live-all, calls-rule, addressed-run, fetched-bench, admitted-free}
-use Rattle.addressing.specs.OneAmong.{OneAmong, one-implies, one-mapped}
 use Rattle.addressing.specs.Picked.{picked, read-picks}
 use Rattle.addressing.specs.Reply.{IsQuiet, Sends, reply-shown, sending, silence, Replying, sends, silent, slots-kept}
 use Rattle.addressing.specs.Shown.{shownAt, ShowsScratchpad, ShowsOnes, ReadKeeps}

@@ -14,3 +14,5 @@ pub mod Same
 pub mod SameLaws
 pub mod Each
 pub mod EachLaws
+pub mod OneAmong
+pub mod OneAmongLaws

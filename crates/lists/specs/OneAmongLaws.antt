@@ -1,14 +1,10 @@
--- A list in which one element is different from all others.
---     OneAmong P Q l     P holds of one of l, and Q of each other
+-- One element that is different from all others: kept by weaker claims and by a function on each, and what both claims imply holds of each.
 -- Assumes nothing.
 use mathlib.Core.List.{List, [], _∷_, map}
-use mathlib.Core.Logic.{_⊎_, inl, inr}
+use mathlib.Core.Logic.{inl, inr}
 use Rattle.lists.specs.Each.{Each}
 use Rattle.lists.specs.EachLaws.{each-implies}
-
-abbrev pub OneAmong : {A : Type 0} → (A → Type 0) → (A → Type 0) → List A → Type 0
-OneAmong P Q [] = ⊥
-OneAmong P Q (x ∷ l) = (P x × Each Q l) ⊎ (Q x × OneAmong P Q l)
+use Rattle.lists.specs.OneAmong.{OneAmong}
 
 -- what holds of the one and of the others holds of each
 pub one-each : {A : Type 0} {P Q R : A → Type 0} → ((x : A) → P x → R x) → ((x : A) → Q x → R x) → (l : List A) → OneAmong P Q l → Each R l
