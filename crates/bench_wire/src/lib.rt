@@ -1,5 +1,6 @@
 // The wire of a bench: a table of 32 places for devices, of which the first `count` are taken, and what
 // those devices do together.
+ghost use Prim.Native.Nat.{min};
 ghost use mathlib.Core.Bool.{_&&_};
 ghost use mathlib.Core.Path.{_≡_};
 ghost use lib.ListN.{take};
@@ -10,6 +11,14 @@ use device::Device;
 pub const PLACES: usize = 32;
 
 pub type Table = [Device; 32];
+
+// How many places are taken where so many are counted.
+pub fn places(count: u8) -> usize
+    ensures answer { λ r. ⌜ r ≡ min count 32 ⌝ }
+{
+    let taken = count as usize;
+    if taken < PLACES { taken } else { PLACES }
+}
 
 // Whether no line-powered device is busy, so that a reset or a slot can pass.
 pub fn is_free(table: Table, count: u8) -> bool

@@ -25,6 +25,8 @@ use Rattle.search_law.specs.PassLoop.{Walk as PassWalk, walk, walkOn, walkEnds,
 use Rattle.search_law.specs.Wire.{slots}
 use Rattle.bench.specs.Slot.{slotted}
 use Rattle.bench.specs.declared.Bench.{Bench}
+use Rattle.search_place.specs.Place.{chosen, placed}
+use Rattle.search_place.specs.declared.Placed.{Placed}
 use Rattle.search_pass.specs.declared.Shown.{Shown}
 use Rattle.search_pass.specs.declared.Walk.{Walk}
 use Rattle.master_rules.specs.Search.{codeLength, frameOf}
@@ -35,10 +37,6 @@ walkOf v = record { answered = v .answered; code = v .code; last = v .last; show
 
 unfoldable pub oneSlot : Frame → Bench → Bool → Shown
 oneSlot f b x = record { frame = pushed f (slotted b x .line); line = slotted b x .line; bench = slotted b x .bench }
-
--- the bit taken after reading a and b, where the plan has w; the two are not both 1
-abbrev pub chosen : Bool → Bool → Bool → Bool
-chosen a b w = if a then true else if b then false else w
 
 -- the last place at which 0 was taken at a conflict, after place j where the bit d was taken
 abbrev pub lastAfter : Bool → Bool → Bool → ℕ → ℕ → ℕ
@@ -71,17 +69,57 @@ passBegun command b = commandSent 8 command (blankFrame true) b
 -- ## Laws
 
 -- where somebody answers a bit is taken
-pub choice-some : (a b w : Bool) → (a && b) ≡ false → choice a b w ≡ some (chosen a b w)
+choice-some : (a b w : Bool) → (a && b) ≡ false → choice a b w ≡ some (chosen a b w)
 choice-some true true w e = absurd (true≢false e)
 choice-some true false w e = refl
 choice-some false true w e = refl
 choice-some false false w e = refl
 
-pub choice-none : (a b w : Bool) → (a && b) ≡ true → choice a b w ≡ none
+choice-none : (a b w : Bool) → (a && b) ≡ true → choice a b w ≡ none
 choice-none true true w e = refl
 choice-none true false w e = absurd (false≢true e)
 choice-none false true w e = absurd (false≢true e)
 choice-none false false w e = absurd (false≢true e)
+
+-- a place by its three slots: a walk that nobody has answered, and one that goes on
+module _ (prev D j : ℕ) (w : Walk) where
+  abbrev slotsThere : Placed
+  slotsThere = placed (w .bench) (takes prev D j)
+
+  abbrev readsShown : Frame
+  readsShown = pushed (pushed (w .shown) (slotsThere .first)) (slotsThere .second)
+
+  abbrev nobody : Bool
+  nobody = slotted (w .bench) true .line && slotted (slotted (w .bench) true .bench) true .line
+
+  abbrev walkedOver : Walk
+  walkedOver = record { answered = false; code = w .code; last = w .last; shown = readsShown; bench = slotsThere .bench }
+
+  abbrev walkedOn : Walk
+  walkedOn =
+      record {
+        answered = true;
+        code = w .code + bitNumber (slotsThere .taken) * 2 ^ j;
+        last = lastAfter (slotsThere .first) (slotsThere .second) (slotsThere .taken) j (w .last);
+        shown = pushed readsShown (slotsThere .third);
+        bench = slotsThere .bench;
+      }
+
+  pub place-over : (slotsThere .first && slotsThere .second) ≡ true → onePlace prev D j w ≡ walkedOver
+  unfolding onePlace oneSlot placed
+  place-over = by-test nobody refl
+    where
+      by-test : (t : Bool) → nobody ≡ t → (slotsThere .first && slotsThere .second) ≡ true → onePlace prev D j w ≡ walkedOver
+      by-test true e h = rw (choice-none _ _ (takes prev D j) e, e)
+      by-test false e h = absurd (false≢true (sym e ∙ (rw e at h)))
+
+  pub place-on : (slotsThere .first && slotsThere .second) ≡ false → onePlace prev D j w ≡ walkedOn
+  unfolding onePlace oneSlot placed
+  place-on = by-test nobody refl
+    where
+      by-test : (t : Bool) → nobody ≡ t → (slotsThere .first && slotsThere .second) ≡ false → onePlace prev D j w ≡ walkedOn
+      by-test true e h = absurd (true≢false (sym e ∙ (rw e at h)))
+      by-test false e h = rw (choice-some _ _ (takes prev D j) e, e)
 
 -- the place is kept where 0 was sent at a conflict
 last-kept : (a b d : Bool) (j last : ℕ) → (if tookZero (triple a b d) then j else last) ≡ lastAfter a b d j last

@@ -7,7 +7,7 @@ ghost use Rattle.search_law.specs.Departure.{takes};
 ghost use Rattle.search_law.specs.PassLoop.{startedPass};
 ghost use Rattle.searching.specs.Buses.{calls};
 ghost use Rattle.master_rules.specs.Search.{codeLength};
-ghost use Rattle.search_pass.specs.Pass.{oneSlot, chosen, lastAfter, onePlace, passBegun, walkOf};
+ghost use Rattle.search_pass.specs.Pass.{oneSlot, lastAfter, onePlace, passBegun, walkOf};
 use bench::Bench;
 use frame::Frame;
 
@@ -16,19 +16,19 @@ pub const CODE_BITS: u8 = 64;
 
 // What one slot of a pass gave: the frame with the line's bit in it, that bit, and the bench after it.
 struct Shown {
+    bench: Bench,
     frame: Frame,
     line: bool,
-    bench: Bench,
 }
 
 // A pass so far: whether somebody answered at every place, the bits taken, the last place at which 0
 // was taken at a conflict (64 for none), and what the line showed.
 pub struct Walk {
-    pub answered: bool,
+    pub bench: Bench,
+    pub shown: Frame,
     pub code: u64,
     pub last: u8,
-    pub shown: Frame,
-    pub bench: Bench,
+    pub answered: bool,
 }
 
 // One more bit of a number that comes first bit lowest.
@@ -69,19 +69,6 @@ fn planned(previous: u64, departure: u8, place: u8) -> bool
     place == departure
 }
 
-// The bit to take where the two reads showed a bit and its complement, not both 1.
-fn choose(bit: bool, complement: bool, plan: bool) -> bool
-    ensures answer { λ r. ⌜ r ≡ chosen bit complement plan ⌝ }
-{
-    if bit {
-        return true;
-    }
-    if complement {
-        return false;
-    }
-    plan
-}
-
 // The last place at which 0 was taken at a conflict, after one place more.
 fn last_after(bit: bool, complement: bool, taken: bool, here: u8, last: u8) -> u8
     ensures answer { λ r. ⌜ r ≡ lastAfter bit complement taken here last ⌝ }
@@ -110,33 +97,26 @@ fn take_bit(w: Walk, place: u8, previous: u64, departure: u8) -> Walk
     requires { ⌜ (place < codeLength) × (w .code < 2 ^ place) ⌝ }
     ensures answer { λ r. ⌜ r ≡ onePlace previous departure place w ⌝ }
 {
-    let shown = w.shown;
     let start = w.bench;
-    let first = show(shown, start, true);
-    let frame1 = first.frame;
-    let bench1 = first.bench;
-    let second = show(frame1, bench1, true);
-    let frame2 = second.frame;
-    let bench2 = second.bench;
-    if silent(first.line, second.line) {
+    let r = search_place::slots_at(start, place, planned(previous, departure, place));
+    let after = r.bench;
+    let shown = w.shown;
+    let reads = frame::push(frame::push(shown, r.first), r.second);
+    if silent(r.first, r.second) {
         return Walk {
-            answered: false,
+            bench: after,
+            shown: reads,
             code: w.code,
             last: w.last,
-            shown: frame2,
-            bench: bench2,
+            answered: false,
         };
     }
-    let bit = choose(first.line, second.line, planned(previous, departure, place));
-    let third = show(frame2, bench2, bit);
-    let frame3 = third.frame;
-    let bench3 = third.bench;
     Walk {
+        bench: after,
+        shown: frame::push(reads, r.third),
+        code: with_bit(w.code, place, r.taken),
+        last: last_after(r.first, r.second, r.taken, place, w.last),
         answered: true,
-        code: with_bit(w.code, place, bit),
-        last: last_after(first.line, second.line, bit, place, w.last),
-        shown: frame3,
-        bench: bench3,
     }
 }
 
