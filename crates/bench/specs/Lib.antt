@@ -2,3 +2,4 @@ pub mod Bench
 pub mod BenchLaws
 pub mod Slot
 pub mod Calls
+pub mod Still

@@ -2,15 +2,19 @@
 // answer; its fields are private, so that only these calls make or change one, and a table that a
 // host lends: `of_records`.
 ghost use Prim.Native.Nat.{_<_};
+ghost use mathlib.Core.Bool.{_&&_};
 ghost use mathlib.Core.Path.{_≡_};
+ghost use Rattle.device.specs.Offer.{offerOf};
 ghost use Rattle.bench.specs.Bench.{vacant, emptyBench, placeOf, free};
 ghost use Rattle.bench.specs.Slot.{slotted, resetDone};
+ghost use Rattle.bench.specs.Still.{stillAt};
 ghost use Rattle.bench.specs.Calls.{putLast, addedTo, deviceAt, putBack, conversionFinished, copyFinished, powerCycled, looked};
 use bench_wire::Table;
 use device::Device;
 use device::Ended;
 use device::Joining;
 use device::Power;
+use device::Stage;
 use temperature::Sixteenths;
 
 pub struct Bench {
@@ -36,16 +40,17 @@ pub struct Looked {
     pub device: Device,
 }
 
+// The bench stands first in an answer: a record that has it behind smaller fields is copied once more.
 pub struct ResetDone {
+    pub bench: Bench,
     pub refusal: u8,
     pub presence: bool,
-    pub bench: Bench,
 }
 
 pub struct Slotted {
+    pub bench: Bench,
     pub refusal: u8,
     pub line: bool,
-    pub bench: Bench,
 }
 
 fn vacant_place() -> Device
@@ -100,27 +105,75 @@ pub fn is_free(bench: Bench) -> bool
     bench_wire::is_free(devices, bench.count)
 }
 
-// One slot in which the master offers this bit; 1 to read.
+// Whether a slot leaves a device in this stage as it is.
+fn is_still(stage: Stage) -> bool
+    ensures answer { λ r. ⌜ r ≡ stillAt stage ⌝ }
+{
+    match stage {
+        Stage::AwaitRom { shift: _, count: _ } => false,
+        Stage::SendRom(_) => false,
+        Stage::Match(_) => false,
+        Stage::Search { bit: _, phase: _ } => false,
+        Stage::AwaitFunction { shift: _, count: _ } => false,
+        Stage::TakeSettings {
+            place: _,
+            shift: _,
+            count: _,
+        } => false,
+        Stage::SendScratchpad { byte: _, bit: _ } => false,
+        Stage::SendStatus => true,
+        Stage::SendPower => true,
+        Stage::Quiet => true,
+    }
+}
+
+// The line with one device more on it. A line that shows 0 stays at 0.
+fn line_with(line: bool, d: Device) -> bool
+    ensures answer { λ r. ⌜ r ≡ (line && offerOf d) ⌝ }
+{
+    if line {
+        return device_offer::offer(d);
+    }
+    false
+}
+
+// One slot in which the master offers this bit; 1 to read. Both rounds along the devices stand in one body, for a call
+// between them would copy the bench.
 pub fn slot(bench: Bench, bit: bool) -> Slotted
     ensures answer { λ r. ⌜ r ≡ slotted bench bit ⌝ }
 {
-    if is_free(bench) {
-        let devices = bench.devices;
-        let line = bench_wire::line_bit(devices, bench.count, bit);
-        let next = bench_wire::hear_all(devices, bench.count, line);
-        return Slotted {
-            refusal: refusals::ACCEPTED,
-            line,
-            bench: Bench {
-                devices: next,
-                ..bench
-            },
-        };
+    let mut next = bench.devices;
+    let taken = bench_wire::places(bench.count);
+    let mut line = bit;
+    let mut i: usize = 0;
+    while i < taken {
+        let d = next[i];
+        if device::holds_wire(d) {
+            return Slotted {
+                bench,
+                refusal: refusals::WIRE_BUSY,
+                line: false,
+            };
+        }
+        line = line_with(line, d);
+        i += 1;
+    }
+    let mut j: usize = 0;
+    while j < taken {
+        let d = next[j];
+        let stage = d.stage;
+        if !is_still(stage) {
+            next[j] = device_hear::hear(d, line);
+        }
+        j += 1;
     }
     Slotted {
-        refusal: refusals::WIRE_BUSY,
-        line: false,
-        bench,
+        bench: Bench {
+            devices: next,
+            ..bench
+        },
+        refusal: refusals::ACCEPTED,
+        line,
     }
 }
 

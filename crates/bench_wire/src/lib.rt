@@ -1,10 +1,9 @@
 // The wire of a bench: a table of 32 places for devices, of which the first `count` are taken, and what
 // those devices do together.
 ghost use Prim.Native.Nat.{min};
-ghost use mathlib.Core.Bool.{_&&_};
 ghost use mathlib.Core.Path.{_≡_};
 ghost use lib.ListN.{take};
-ghost use Rattle.bench_wire.specs.Wire.{freeWire, lineShown, allHeard, allRestarted};
+ghost use Rattle.bench_wire.specs.Wire.{freeWire, allRestarted};
 use device::Device;
 
 // How many devices a bench can hold.
@@ -35,45 +34,6 @@ pub fn is_free(table: Table, count: u8) -> bool
         i += 1;
     }
     true
-}
-
-fn both(a: bool, b: bool) -> bool
-    ensures answer { λ r. ⌜ r ≡ (a && b) ⌝ }
-{
-    a && b
-}
-
-// What the line shows when the master offers this bit.
-pub fn line_bit(table: Table, count: u8, bit: bool) -> bool
-    ensures answer { λ r. ⌜ r ≡ lineShown (take count table) bit ⌝ }
-{
-    let taken = count as usize;
-    let mut line = bit;
-    let mut i: usize = 0;
-    while i < PLACES {
-        if i < taken {
-            line = both(line, device_offer::offer(table[i]));
-        }
-        i += 1;
-    }
-    line
-}
-
-// Every device takes the line's bit.
-pub fn hear_all(table: Table, count: u8, line: bool) -> Table
-    ensures answer { λ r. ⌜ r ≡ allHeard count table line ⌝ }
-{
-    let mut next = table;
-    let taken = count as usize;
-    let mut i: usize = 0;
-    while i < PLACES {
-        if i < taken {
-            let d = next[i];
-            next[i] = device_hear::hear(d, line);
-        }
-        i += 1;
-    }
-    next
 }
 
 // Every device listens for a ROM command.
