@@ -1,5 +1,7 @@
 // The work of `measure_search`: an ordinary Rust model of the bench, changed in place, and a search on it.
-// It has what resets and slots need; nothing ends a conversion or a copy.
+// It has what resets and slots need: every command of the three families, the refusal while a line-powered
+// device is busy, and what a busy device obeys. Nothing ends a conversion or a copy, and so no device has
+// a page.
 use std::io::Read;
 
 mod table;
@@ -59,6 +61,7 @@ struct Device {
     scratchpad: [u8; 8],
     eeprom: Settings,
     alarm: bool,
+    pins: u8,
 }
 
 const LISTEN: Stage = Stage::AwaitFunction { shift: 0, count: 0 };
@@ -80,20 +83,26 @@ impl Device {
             },
             eeprom,
             alarm: false,
+            pins: 0,
         };
         d.recall();
         d
     }
 
     fn configurable(&self) -> bool {
-        self.code as u8 == 0x28
+        matches!(self.code as u8, 0x28 | 0x3B)
+    }
+
+    fn kept(&self, configuration: u8) -> u8 {
+        let low = if self.code as u8 == 0x28 { 0x0F } else { self.pins };
+        configuration & 0x60 | 0x10 | low
     }
 
     fn recall(&mut self) {
         self.scratchpad[2] = self.eeprom.high;
         self.scratchpad[3] = self.eeprom.low;
         if self.configurable() {
-            self.scratchpad[4] = self.eeprom.configuration & 0x60 | 0x1F;
+            self.scratchpad[4] = self.kept(self.eeprom.configuration);
         }
     }
 
@@ -206,7 +215,7 @@ impl Device {
 
     fn store_setting(&mut self, place: u8, byte: u8) -> Stage {
         let last = if self.configurable() { 2 } else { 1 };
-        self.scratchpad[2 + place as usize] = if place == 2 { byte & 0x60 | 0x1F } else { byte };
+        self.scratchpad[2 + place as usize] = if place == 2 { self.kept(byte) } else { byte };
         if place < last {
             Stage::TakeSettings { place: place + 1, shift: 0, count: 0 }
         } else {
@@ -333,9 +342,9 @@ fn code_of(serial: u64) -> u64 {
     low | (crc_of(&low.to_le_bytes()[..7]) as u64) << 56
 }
 
-fn full_bench() -> Bench {
+fn bench_of(devices: u8) -> Bench {
     let eeprom = Settings { high: 25, low: 0, configuration: 0x7F };
-    Bench { devices: (0..32).map(|n| Device::new(code_of(n), Power::External, eeprom)).collect() }
+    Bench { devices: (0..devices as u64).map(|n| Device::new(code_of(n), Power::External, eeprom)).collect() }
 }
 
 fn search_often(b: &mut Bench) {
@@ -348,6 +357,9 @@ fn search_often(b: &mut Bench) {
         slots += last.slots;
         bytes += last.recording.len();
     }
+    // as on our side, where the list and the recording are lent at their full length
+    last.codes.resize(32, 0);
+    last.recording.resize(1824, 0);
     println!("codes {codes}\npasses {passes}\nslots {slots}\nbytes {bytes}");
     println!("list {}", last.codes.iter().fold(0, |mixed, &c| mixed / 2 ^ c));
     println!("recording {}", crc_of(&last.recording));
@@ -377,11 +389,12 @@ fn read_often(b: &mut Bench) {
 fn main() {
     let mut asked = Vec::new();
     std::io::stdin().read_to_end(&mut asked).expect("standard input");
-    let mut b = full_bench();
+    let devices = *asked.get(1).unwrap_or(&32);
+    let mut b = bench_of(devices);
     match asked.first() {
         None => {
             search_often(&mut b);
-            read_often(&mut full_bench());
+            read_often(&mut bench_of(devices));
         }
         Some(b's') => search_often(&mut b),
         Some(_) => read_often(&mut b),

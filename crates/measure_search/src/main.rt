@@ -1,5 +1,6 @@
-// Fixed work on a bench of 32 devices: searches, and slots one by one. An `s` on standard input asks
-// for the searches alone, another byte for the slots alone, no input for both.
+// Fixed work on a bench: searches, and slots one by one. An `s` on standard input asks for the searches
+// alone, another byte for the slots alone, no input for both. A second byte says how many devices there
+// are; else there are 32.
 use bench::Bench;
 use device::Joining;
 use device::Power;
@@ -18,6 +19,8 @@ const ROUND: u32 = 152;
 const CODES: usize = 32;
 
 const BYTES: usize = 1824;
+
+const MOST: u8 = 32;
 
 struct Totals {
     codes: u64,
@@ -42,11 +45,11 @@ fn code_of(serial: u64) -> u64 {
     low + (crc::crc_of_code(low) as u64) * 0x100_0000_0000_0000
 }
 
-// Serial numbers 0 to 31.
-fn full_bench() -> Bench {
+// Serial numbers from 0 on.
+fn bench_of(devices: u8) -> Bench {
     let mut b = bench::new();
     let mut serial: u64 = 0;
-    while serial < 32 {
+    while serial < devices as u64 {
         let new = Joining {
             code: code_of(serial),
             power: Power::External,
@@ -149,9 +152,9 @@ fn read_often(bench: Bench) {
 }
 
 fn main() {
-    let mut asked = [0u8; 1];
+    let mut asked = [0u8, MOST];
     let got = io::read_full(STDIN_FILENO, &mut asked);
-    let b = full_bench();
+    let b = bench_of(asked[1]);
     if got == 0 {
         search_in_room(b);
         read_often(b);

@@ -1,14 +1,14 @@
 -- The loop ends after its last place. Assumes nothing.
 use Prim.Native.Nat.{_≤_, _-_}
 use borrow.Author.Needs.{needs}
-use Rattle.measure_search.proofs.full_bench.Statement.{statement}
-use Rattle.measure_search.proofs.full_bench.Tie as tie
+use Rattle.measure_search.proofs.bench_of.Statement.{statement}
+use Rattle.measure_search.proofs.bench_of.Tie as tie
 
 abbrev Inv-loop : tie.InvT-loop
-Inv-loop b₀ serial₀ b serial = serial ≤ 32
+Inv-loop devices b₀ serial₀ b serial = serial ≤ devices
 
 abbrev μ-loop : tie.MeasureT-loop
-μ-loop b₀ serial₀ b serial = 32 - serial
+μ-loop devices b₀ serial₀ b serial = devices - serial
 
 new-requires : tie.Need-new-requires Inv-loop μ-loop
 new-requires c κs = search needs
@@ -34,8 +34,8 @@ loop-again c = search needs
 returns : tie.Need-returns Inv-loop μ-loop
 returns c = search needs
 
-pub full-bench-spec : {M : Type 1} → statement M
-full-bench-spec =
+pub bench-of-spec : {M : Type 1} → statement M
+bench-of-spec =
     tie.close
     (tie.spec
     Inv-loop
