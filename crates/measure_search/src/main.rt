@@ -2,6 +2,7 @@
 // alone, another byte for the slots alone, no input for both. A second byte says how many devices there
 // are; else there are 32.
 use bench::Bench;
+use bench::Slotted;
 use device::Joining;
 use device::Power;
 use libc::STDIN_FILENO;
@@ -132,17 +133,25 @@ fn bit_at(place: u32) -> bool {
     true
 }
 
+// The answer of a slot is kept whole and its bench handed on, since a bench in a variable of its own is
+// copied once more.
 fn read_often(bench: Bench) {
-    let mut b = bench;
+    let mut s = Slotted {
+        bench,
+        refusal: 0,
+        line: false,
+    };
     let mut ones: u64 = 0;
     let mut i: u32 = 0;
     while i < SLOTS {
         let place = i % ROUND;
         if place == 0 {
-            b = bench::reset(b).bench;
+            let b = s.bench;
+            let started = bench::reset(b);
+            let fresh = started.bench;
+            s = Slotted { bench: fresh, ..s };
         }
-        let s = bench::slot(b, bit_at(place));
-        b = s.bench;
+        s = bench::slot(s.bench, bit_at(place));
         if s.line {
             ones = sum(ones, 1);
         }

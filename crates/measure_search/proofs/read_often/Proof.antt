@@ -5,10 +5,10 @@ use Rattle.measure_search.proofs.read_often.Statement.{statement}
 use Rattle.measure_search.proofs.read_often.Tie as tie
 
 abbrev Inv-loop : tie.InvT-loop
-Inv-loop b₀ ones₀ i₀ t7 b ones i = i ≤ 500000
+Inv-loop s₀ ones₀ i₀ t10 s ones i = i ≤ 500000
 
 abbrev μ-loop : tie.MeasureT-loop
-μ-loop b₀ ones₀ i₀ t7 b ones i = 500000 - i
+μ-loop s₀ ones₀ i₀ t10 s ones i = 500000 - i
 
 loop-holds : tie.Need-loop-holds Inv-loop μ-loop
 loop-holds c = search needs
