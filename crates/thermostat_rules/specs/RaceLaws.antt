@@ -1,5 +1,5 @@
 -- The race is never lost: `race`. A finish leaves alone where the probe stands in the protocol and what it keeps (`finish-keeps`), so that what the wire makes of these
--- can be followed without the finishes (`Course`); and a slot leaves the flags alone unless it is the last of a written status with a 0 for one of them (`spares`). Along
+-- can be followed without the finishes (`sparing`, `keptAfter`); and a slot leaves the flags alone unless it is the last of a written status with a 0 for one of them (`spares`). Along
 -- the two calls no slot is such a one, whatever stands in the upper bits of the byte read: `spared-reading`, `spared-writing`.
 --     still k s              a probe outside thermostat mode that keeps k, at stage s, and has measured nothing
 --     spares s m             whether a slot at stage s in which the line shows m leaves the flags alone

@@ -16,16 +16,16 @@ use Rattle.commands.specs.declared.Shifted.{Shifted}
 use Rattle.commands.specs.declared.Shifted.the-variants.{Partial, Whole, Beyond}
 use Rattle.thermostat.specs.declared.Readable.{Readable}
 use Rattle.thermostat.specs.declared.Readable.the-variants.{Temperature, HighLimit, LowLimit, Status}
-use Rattle.thermostat_wire.specs.declared.ResetDone.{ResetDone}
-use Rattle.thermostat_wire.specs.declared.Slotted.{Slotted}
 use Rattle.thermostat.specs.declared.Stage.{Stage}
 use Rattle.thermostat.specs.declared.Stage.the-variants.{AwaitCommand, Take, Send, Quiet}
 use Rattle.thermostat.specs.declared.Thermostat.{Thermostat}
 use Rattle.thermostat.specs.declared.Writable.{Writable}
 use Rattle.thermostat.specs.declared.Writable.the-variants.{NewHigh, NewLow, NewStatus}
-use Rattle.thermostat_wire.specs.Commands.{startConversion, stopConversion, readTemperature, writeHigh, writeLow, readHigh, readLow, writeStatus, readStatus}
 use Rattle.thermostat.specs.Record.{withStage, withConverting, withHigh, withLow}
 use Rattle.thermostat.specs.Status.{statusOf, statusWritten}
+use Rattle.thermostat_wire.specs.Commands.{startConversion, stopConversion, readTemperature, writeHigh, writeLow, readHigh, readLow, writeStatus, readStatus}
+use Rattle.thermostat_wire.specs.declared.ResetDone.{ResetDone}
+use Rattle.thermostat_wire.specs.declared.Slotted.{Slotted}
 
 -- ## What it offers
 
