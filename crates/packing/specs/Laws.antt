@@ -1,22 +1,35 @@
--- A record comes back from its bytes.
+-- A record as its parts are laid, and how it comes back from its bytes.
+--     packed-laid        the bytes of a record are those of its parts, laid over zeros
 --     fields-back        a record of the types is read from the bytes that it packs to
 --     packed-one         no two records have the same bytes
 --     fields-in-types    what is read from bytes is a record of the types
 -- Assumes nothing.
 use Prim.Native.Nat.{ℕ, _<_}
 use mathlib.Core.Path.{_≡_, refl, sym, ap, _∙_}
-use mathlib.Core.List.{List}
-use lib.ListN.{length, getD}
+use mathlib.Core.List.{List, [], _∷_, _++_}
+use lib.ListN.{length, getD, replicate}
+use Rattle.lists.specs.Laid.{laid}
 use Rattle.device.specs.declared.Device.{Device}
-use Rattle.record_parts.specs.Bytes.{bytesOf}
+use Rattle.record_parts.specs.Bytes.{bytesOf, codeBytes}
 use Rattle.record_parts.specs.BytesLaws.{code-back, code-below, eight-whole}
+use Rattle.record_parts.specs.Parts.{truthByte, powerByte, stageCase, activityCase}
 use Rattle.record_parts.specs.PartsLaws.{truth-back, power-back, reading-back, reading-in, stage-back, activity-back}
-use Rattle.packing.specs.Packed.{packed, fieldsOf}
+use Rattle.packing.specs.Packed.{caseBytes, settingsBytes, pageBytes, packed, fieldsOf}
 use Rattle.packing.specs.Types.{InTypes}
 
 pub packed-length : (d : Device) → length (packed d) ≡ 48
 unfolding packed bytesOf
 packed-length d = refl
+
+-- parts of eight bytes, laid one after another over zeros; the last begins where the zeros of the one before it do
+pub packed-laid : (d : Device) → length (d .scratchpad) ≡ 8 →
+    let coded = laid (replicate 48 0) 0 (codeBytes (d .code)) in
+    let padded = laid coded 8 (d .scratchpad) in
+    let staged = laid padded 16 (caseBytes (stageCase (d .stage)) ++ caseBytes (activityCase (d .activity))) in
+    let kept = laid staged 24 (settingsBytes (d .eeprom) ++ (powerByte (d .power) ∷ truthByte (d .alarm) ∷ 0 ∷ 0 ∷ 0 ∷ [])) in
+    laid kept 29 (pageBytes (d .page) ++ (d .pins ∷ 0 ∷ [])) ≡ packed d
+unfolding laid packed bytesOf
+packed-laid d whole = rw (← eight-whole (d .scratchpad) whole)
 
 pub fields-back : (d : Device) → InTypes d → fieldsOf (packed d) ≡ d
 unfolding packed fieldsOf bytesOf

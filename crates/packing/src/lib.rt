@@ -2,12 +2,20 @@
 // zero; docs/TABLE.md has the layout. Bytes are read whatever they are.
 ghost use Prim.Native.Nat.{_≤_};
 ghost use mathlib.Core.Path.{_≡_};
+ghost use mathlib.Core.List.{[], _∷_, _++_};
+ghost use Rattle.lists.specs.Laid.{laid};
+ghost use Rattle.signed.specs.Complement.{Fits16};
+ghost use Rattle.temperature.specs.Register.{countOf};
 ghost use Rattle.record_parts.specs.Bytes.{eightAt};
+ghost use Rattle.record_parts.specs.Parts.{truthByte, powerByte, stageCase, activityCase};
 ghost use Rattle.packing.specs.Types.{InTypes};
-ghost use Rattle.packing.specs.Packed.{caseAt, packed, fieldsOf};
+ghost use Rattle.packing.specs.Packed.{caseBytes, settingsBytes, pageBytes, caseAt, packed, fieldsOf};
+use device::Activity;
 use device::Device;
 use device::Page;
+use device::Power;
 use device::Settings;
+use device::Stage;
 use record_parts::Case;
 
 // The bytes of one device.
@@ -36,6 +44,64 @@ fn case_at(t: Entry, i: usize) -> Case
     Case(t[i], t[i + 1], t[i + 2], t[i + 3])
 }
 
+// Eight bytes over those from a place on.
+fn with_eight(t: Entry, at: usize, b: [u8; 8]) -> Entry
+    requires { ⌜ at ≤ 40 ⌝ }
+    ensures answer { λ r. ⌜ r ≡ laid t at b ⌝ }
+{
+    let mut e = t;
+    let mut i: usize = 0;
+    while i < 8 {
+        e[at + i] = b[i];
+        i += 1;
+    }
+    e
+}
+
+// The bytes of what a device is at: its stage and its activity.
+fn course_bytes(stage: Stage, activity: Activity) -> [u8; 8]
+    ensures answer { λ r. ⌜ r ≡ caseBytes (stageCase stage) ++ caseBytes (activityCase activity) ⌝ }
+{
+    let s = record_parts::stage_case(stage);
+    let a = record_parts::activity_case(activity);
+    [s.0, s.1, s.2, s.3, a.0, a.1, a.2, a.3]
+}
+
+// The bytes of the settings in EEPROM, the power and the alarm flag, and three zeros.
+fn kept_bytes(eeprom: Settings, power: Power, alarm: bool) -> [u8; 8]
+    ensures answer { λ r. ⌜ r ≡ settingsBytes eeprom ++ (powerByte power ∷ truthByte alarm ∷ 0 ∷ 0 ∷ 0 ∷ []) ⌝ }
+{
+    [
+        eeprom.high,
+        eeprom.low,
+        eeprom.configuration,
+        record_parts::power_byte(power),
+        record_parts::truth_byte(alarm),
+        0,
+        0,
+        0,
+    ]
+}
+
+// The bytes of the page and the pins, and a zero.
+fn page_bytes(page: Page, pins: u8) -> [u8; 8]
+    ensures answer { λ r. ⌜ r ≡ pageBytes page ++ (pins ∷ 0 ∷ []) ⌝ }
+    ensures typed { λ r. ⌜ Fits16 (countOf (page .reading)) ⌝ }
+{
+    let reading = page.reading;
+    let register = temperature::register_of(reading);
+    [
+        record_parts::truth_byte(page.taken),
+        record_parts::unit_byte(reading),
+        register.low,
+        register.high,
+        page.high,
+        page.low,
+        pins,
+        0,
+    ]
+}
+
 // The bytes of a device. Whatever the device, they unpack to it.
 pub fn pack(d: Device) -> Entry
     ensures answer { λ r. ⌜ r ≡ packed d ⌝ }
@@ -44,64 +110,17 @@ pub fn pack(d: Device) -> Entry
     let code = record_parts::code_bytes(d.code);
     let pad = d.scratchpad;
     let stage = d.stage;
-    let s = record_parts::stage_case(stage);
     let activity = d.activity;
-    let a = record_parts::activity_case(activity);
     let eeprom = d.eeprom;
     let power = d.power;
     let page = d.page;
-    let reading = page.reading;
-    let register = temperature::register_of(reading);
-    [
-        code[0],
-        code[1],
-        code[2],
-        code[3],
-        code[4],
-        code[5],
-        code[6],
-        code[7],
-        pad[0],
-        pad[1],
-        pad[2],
-        pad[3],
-        pad[4],
-        pad[5],
-        pad[6],
-        pad[7],
-        s.0,
-        s.1,
-        s.2,
-        s.3,
-        a.0,
-        a.1,
-        a.2,
-        a.3,
-        eeprom.high,
-        eeprom.low,
-        eeprom.configuration,
-        record_parts::power_byte(power),
-        record_parts::truth_byte(d.alarm),
-        record_parts::truth_byte(page.taken),
-        record_parts::unit_byte(reading),
-        register.low,
-        register.high,
-        page.high,
-        page.low,
-        d.pins,
-        0,
-        0,
-        0,
-        0,
-        0,
-        0,
-        0,
-        0,
-        0,
-        0,
-        0,
-        0,
-    ]
+    let empty = [0u8; 48];
+    let coded = with_eight(empty, 0, code);
+    let padded = with_eight(coded, 8, pad);
+    let staged = with_eight(padded, 16, course_bytes(stage, activity));
+    let kept = with_eight(staged, 24, kept_bytes(eeprom, power, d.alarm));
+    // The page stands where the three zeros of the part before it are.
+    with_eight(kept, 29, page_bytes(page, d.pins))
 }
 
 // The record that is read from bytes, whatever they are.
