@@ -1,12 +1,9 @@
-// The lines that answer a read and a change of settings, with the bench.
+// The lines that answer a read and a change of settings.
 ghost use mathlib.Core.Path.{_≡_};
 ghost use Prim.Native.Nat.{_+_, _≤_};
 ghost use lib.ListN.{length};
 ghost use Rattle.putting.specs.Putting.{Puts, lineRoom, lineAnswer, lineLeaves};
-ghost use Rattle.call_answers.specs.Said.{says, lineSaid, lineLeft};
 ghost use Rattle.settings_answers.specs.SettingsLines.{fieldsLine, currentLine, changeLine};
-use bench::Bench;
-use call_answers::Said;
 use laying::Written;
 use putting::LINE_ROOM;
 use settings::Current;
@@ -54,16 +51,6 @@ pub fn current_line(out: &mut [u8], at: usize, current: Current) -> Written
     ))
 }
 
-// To a read of settings.
-pub fn current(bench: Bench, current: Current, out: &mut [u8]) -> Said
-    ensures answer { λ r. ⌜ r ≡ lineSaid (says (currentLine current) bench) (now (out .entry)) ⌝ }
-    ensures written { λ r. ⌜ now (out .exit) ≡ lineLeft (says (currentLine current) bench) (now (out .entry)) ⌝ }
-    ensures fits { λ r. ⌜ r .count ≤ lineRoom ⌝ }
-{
-    let w = current_line(out, 0, current);
-    call_answers::say(w, bench)
-}
-
 fn put_change(out: &mut [u8], at: usize, refusal: u8, version: u16) -> usize
     ensures { λ r. ⌜ Puts (now (out .entry)) at (changeLine refusal version) (now (out .exit)) r × (length (changeLine refusal version) ≤ lineRoom) ⌝ }
 {
@@ -82,14 +69,4 @@ pub fn change_line(out: &mut [u8], at: usize, refusal: u8, version: u16) -> Writ
         return putting::no_room();
     }
     putting::behind(put_change(out, at, refusal, version))
-}
-
-// To a change of settings.
-pub fn change(bench: Bench, refusal: u8, version: u16, out: &mut [u8]) -> Said
-    ensures answer { λ r. ⌜ r ≡ lineSaid (says (changeLine refusal version) bench) (now (out .entry)) ⌝ }
-    ensures written { λ r. ⌜ now (out .exit) ≡ lineLeft (says (changeLine refusal version) bench) (now (out .entry)) ⌝ }
-    ensures fits { λ r. ⌜ r .count ≤ lineRoom ⌝ }
-{
-    let w = change_line(out, 0, refusal, version);
-    call_answers::say(w, bench)
 }

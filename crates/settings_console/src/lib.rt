@@ -6,7 +6,6 @@ ghost use Rattle.text.specs.Lines.{Line};
 ghost use Rattle.search_answers.specs.Whole.{room, Says};
 ghost use Rattle.settings_console.specs.SettingsConsole.{responded, storeLeft, told, leaves};
 use bench::Bench;
-use bench::Changed;
 use call_answers::Said;
 use search_answers::ROOM;
 use settings::Store;
@@ -35,44 +34,19 @@ fn respond(
             said: console::answer(bench, line, fed, out),
             store,
         },
-        StoreRequest::Add { code, first } => {
-            let done = settings::add(store, code, first);
-            let refusal = done.refusal;
-            let after = done.store;
-            Told {
-                said: call_answers::change(Changed { refusal, bench }, out),
-                store: after,
-            }
-        }
-        StoreRequest::Remove(code) => {
-            let done = settings::remove(store, code);
-            let refusal = done.refusal;
-            let after = done.store;
-            Told {
-                said: call_answers::change(Changed { refusal, bench }, out),
-                store: after,
-            }
-        }
-        StoreRequest::Read(code) => Told {
-            said: settings_answers::current(bench, settings::read(store, code), out),
-            store,
-        },
-        StoreRequest::Change {
-            code,
-            version,
-            asked,
-        } => {
-            let done = settings::change(store, code, version, asked);
-            let after = done.store;
-            Told {
-                said: settings_answers::change(bench, done.refusal, done.version, out),
-                store: after,
-            }
-        }
         StoreRequest::Write(code) => Told {
             said: call_answers::access(settings_write::write(store, bench, code), out),
             store,
         },
+        _ => {
+            let done = settings_calls::call(store, request, out);
+            let written = done.written;
+            let after = done.store;
+            Told {
+                said: call_answers::say(written, bench),
+                store: after,
+            }
+        }
     }
 }
 

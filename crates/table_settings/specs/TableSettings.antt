@@ -10,15 +10,12 @@ use lib.ListN.{length}
 use Rattle.lists.specs.Choice.{if_then_else_}
 use Rattle.text.specs.Lines.{Line}
 use Rattle.requests.specs.declared.Request.the-variants.{Read as ReadAt}
-use Rattle.answers.specs.Answers.{refusalLine}
 use Rattle.call_answers.specs.Said.{ofAccess}
 use Rattle.search_answers.specs.Whole.{room}
-use Rattle.settings.specs.Calls.{settingsAdded, settingsRemoved, settingsRead, settingsChanged}
 use Rattle.settings.specs.declared.Store.{Store}
 use Rattle.settings_write.specs.Written.{settingsWritten}
 use Rattle.settings_requests.specs.declared.StoreRequest.{StoreRequest}
-use Rattle.settings_requests.specs.declared.StoreRequest.the-variants.{Other, Add, Remove, Read, Change, Write}
-use Rattle.settings_answers.specs.SettingsLines.{currentLine, changeLine}
+use Rattle.settings_calls.specs.StoreCalls.{storeSays, byWhose}
 use Rattle.settings_console.specs.SettingsConsole.{storeLeft, storeAsked}
 use Rattle.table_answers.specs.TableAnswers.{refusedText}
 use Rattle.table_console.specs.TableConsole.{Spoken, speaks, onTable, spoken, told}
@@ -28,13 +25,7 @@ abbrev pub writtenOn : List ℕ → Store → ℕ → Spoken
 writtenOn t s code = onTable (λ b. ofAccess (settingsWritten s b code)) (λ n. refusedText n (ReadAt code)) t
 
 unfoldable pub spokenOf : List ℕ → Store → Line → StoreRequest → Spoken
-spokenOf t s l Other = spoken t l
-spokenOf t s l (Add code first) = speaks (refusalLine (settingsAdded s code first .refusal)) t
-spokenOf t s l (Remove code) = speaks (refusalLine (settingsRemoved s code .refusal)) t
-spokenOf t s l (Read code) = speaks (currentLine (settingsRead s code)) t
-spokenOf t s l (Change code version asked) =
-    let done = settingsChanged s code version asked in speaks (changeLine (done .refusal) (done .version)) t
-spokenOf t s l (Write code) = writtenOn t s code
+spokenOf t s l q = byWhose q (spoken t l) (writtenOn t s) (speaks (storeSays s q) t)
 
 abbrev pub toldOf : List ℕ → Store → Line → List ℕ → TableTold
 toldOf t s l out = record {

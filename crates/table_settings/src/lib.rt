@@ -61,42 +61,19 @@ fn respond(
             written: table_console::answer(t, line, fed, out),
             store,
         },
-        StoreRequest::Add { code, first } => {
-            let done = settings::add(store, code, first);
-            let after = done.store;
-            TableTold {
-                written: answers::refusal_line(out, 0, done.refusal),
-                store: after,
-            }
-        }
-        StoreRequest::Remove(code) => {
-            let done = settings::remove(store, code);
-            let after = done.store;
-            TableTold {
-                written: answers::refusal_line(out, 0, done.refusal),
-                store: after,
-            }
-        }
-        StoreRequest::Read(code) => TableTold {
-            written: settings_answers::current_line(out, 0, settings::read(store, code)),
-            store,
-        },
-        StoreRequest::Change {
-            code,
-            version,
-            asked,
-        } => {
-            let done = settings::change(store, code, version, asked);
-            let after = done.store;
-            TableTold {
-                written: settings_answers::change_line(out, 0, done.refusal, done.version),
-                store: after,
-            }
-        }
         StoreRequest::Write(code) => TableTold {
             written: write(t, store, code, out),
             store,
         },
+        _ => {
+            let done = settings_calls::call(store, request, out);
+            let written = done.written;
+            let after = done.store;
+            TableTold {
+                written,
+                store: after,
+            }
+        }
     }
 }
 

@@ -1,21 +1,34 @@
--- Request by request: the answer to what the call came to is said, the call came to what its promise says, and so did the store and the bytes. Assumes nothing.
+-- By whose request it is: the table's, a write to a device, or one of the store alone. The answer to what the call came to is said, and the call came to what its promise says. Assumes nothing.
+use Prim.Native.Nat.{ℕ, _+_, _≤_}
 use denote.Ref.{now}
+use mathlib.Core.Path.{_≡_, ap, refl, _∙_}
+use mathlib.Core.List.{List}
+use native.Mathlib.Omega.{arith}
 use lib.ListN.{length}
-use mathlib.Core.Path.{ap, refl, subst}
 use borrow.Author.Tests.{le-leb}
-use Rattle.answers.specs.Answers.{refusalLine}
-use Rattle.settings.specs.declared.ChangeDone.{ChangeDone}
-use Rattle.settings.specs.declared.Current.{Current}
-use Rattle.settings.specs.declared.StoreAfter.{StoreAfter}
+use Rattle.laying.specs.declared.Written.{Written}
+use Rattle.putting.specs.Putting.{lineRoom, lineLeaves}
 use Rattle.search_answers.specs.Whole.{room}
-use Rattle.settings_answers.specs.SettingsLines.{currentLine, changeLine}
+use Rattle.settings.specs.declared.Store.{Store}
+use Rattle.settings_requests.specs.declared.StoreRequest.{StoreRequest}
+use Rattle.settings_calls.specs.StoreCalls.{storeSays, called}
+use Rattle.settings_calls.specs.StoreCallsLaws.{own-request, own-number}
+use Rattle.settings_calls.specs.declared.Called.{Called}
 use Rattle.settings_console.specs.SettingsConsole.{storeLeft}
-use Rattle.table_console.specs.TableConsole.{speaks, Tells}
+use Rattle.table_console.specs.TableConsole.{spoken, speaks, Tells}
 use Rattle.table_console.specs.TellsLaws.{line-tells}
-use Rattle.table_settings.specs.TableSettings.{spokenOf}
+use Rattle.table_settings.specs.TableSettings.{writtenOn, spokenOf}
 use borrow.Author.Needs.{needs}
 use Rattle.table_settings.proofs.respond.Statement.{statement}
 use Rattle.table_settings.proofs.respond.Tie as tie
+
+-- a call on the store, said with room for it
+called-tells : (out : List ℕ) → room ≤ length out → (t : List ℕ) (s : Store) (q : StoreRequest) (out' : List ℕ) (done : Called) → done ≡ called s q out → out' ≡ lineLeaves out 0 (storeSays s q)
+    → Tells (speaks (storeSays s q) t) out out' t (done .written) × (done .store ≡ storeLeft s q)
+called-tells out wide t s q out' done answer left =
+    let here : 0 + lineRoom ≤ length out = omega arith in
+    let kept : called s q out .store ≡ storeLeft s q = rw (le-leb (0 + lineRoom) (length out) here) in
+    (line-tells (speaks (storeSays s q) t) out wide out' t (done .written) (ap (λ (d : Called). d .written) answer) left refl, ap (λ (d : Called). d .store) answer ∙ kept)
 
 enum-told : tie.Need-enum-told
 enum-told c = search needs
@@ -26,44 +39,11 @@ answer-requires c κs = search needs
 enum-known-request : tie.Need-enum-known-request
 enum-known-request c = search needs
 
-add-requires : tie.Need-add-requires
-add-requires c κs = search needs
-
-refusal-line-requires : tie.Need-refusal-line-requires
-refusal-line-requires c κs = search needs
-
-enum-known-request-2 : tie.Need-enum-known-request-2
-enum-known-request-2 c = search needs
-
-remove-requires : tie.Need-remove-requires
-remove-requires c κs = search needs
-
-refusal-line-requires-2 : tie.Need-refusal-line-requires-2
-refusal-line-requires-2 c κs = search needs
-
-enum-known-request-3 : tie.Need-enum-known-request-3
-enum-known-request-3 c = search needs
-
-read-requires : tie.Need-read-requires
-read-requires c κs = search needs
-
-current-line-requires : tie.Need-current-line-requires
-current-line-requires c κs = search needs
-
-enum-known-request-4 : tie.Need-enum-known-request-4
-enum-known-request-4 c = search needs
-
-change-requires : tie.Need-change-requires
-change-requires c κs = search needs
-
-change-line-requires : tie.Need-change-line-requires
-change-line-requires c κs = search needs
-
-enum-known-request-5 : tie.Need-enum-known-request-5
-enum-known-request-5 c = search needs
-
 write-requires : tie.Need-write-requires
 write-requires c κs = search needs
+
+call-requires : tie.Need-call-requires
+call-requires c κs = search needs
 
 same-length : tie.Need-same-length
 same-length c = search needs
@@ -84,68 +64,31 @@ returns c =
 same-length-3 : tie.Need-same-length-3
 same-length-3 c = search needs
 
-returns-2 : tie.Need-returns-2
-unfolding spokenOf storeLeft
-returns-2 c =
-    let arm = c .before .before in
-    let call = arm .before .before .before in
-    let told = call .before .before .request .given .1 in
-    let s = call .before .before .before .before .before .before .before in
-    let tells = line-tells (speaks (refusalLine (call .add .result .refusal)) (now (s .args .t))) (now (s .args .out)) (s .pre) (arm .refusal-line .last .0) _ (arm .refusal-line .result) (arm .refusal-line .ensures .0) (arm .refusal-line .ensures .1) refl in
-    rw told (subst (λ (r : StoreAfter). Tells (speaks (refusalLine (r .refusal)) (now (s .args .t))) (now (s .args .out)) (arm .refusal-line .last .0) (now (s .args .t)) (arm .refusal-line .result)) (call .add .ensures) tells, ap (λ (r : StoreAfter). r .store) (call .add .ensures))
-
 same-length-4 : tie.Need-same-length-4
 same-length-4 c = search needs
 
-returns-3 : tie.Need-returns-3
+returns-2 : tie.Need-returns-2
 unfolding spokenOf storeLeft
-returns-3 c =
-    let arm = c .before .before in
-    let call = arm .before .before .before in
-    let told = call .before .before .request2 .given .1 in
-    let s = call .before .before .before .before .before .before .before in
-    let tells = line-tells (speaks (refusalLine (call .remove .result .refusal)) (now (s .args .t))) (now (s .args .out)) (s .pre) (arm .refusal-line2 .last .0) _ (arm .refusal-line2 .result) (arm .refusal-line2 .ensures .0) (arm .refusal-line2 .ensures .1) refl in
-    rw told (subst (λ (r : StoreAfter). Tells (speaks (refusalLine (r .refusal)) (now (s .args .t))) (now (s .args .out)) (arm .refusal-line2 .last .0) (now (s .args .t)) (arm .refusal-line2 .result)) (call .remove .ensures) tells, ap (λ (r : StoreAfter). r .store) (call .remove .ensures))
+returns-2 c =
+    let q = c .before .before .before .before in
+    let told = q .before .before .before .before .request .given .1 in
+    let done = q .write .ensures in
+    rw told (record { told-is = done .0; wrote-is = done .1 .0; left-is = done .1 .1 .0 }, refl)
 
 same-length-5 : tie.Need-same-length-5
 same-length-5 c = search needs
 
-returns-4 : tie.Need-returns-4
+returns-3 : tie.Need-returns-3
 unfolding spokenOf storeLeft
-returns-4 c =
-    let arm = c .before .before in
-    let call = arm .before in
-    let told = call .before .before .before .request3 .given .1 in
-    let s = call .before .before .before .before .before .before .before .before in
-    let tells = line-tells (speaks (currentLine (call .read .result)) (now (s .args .t))) (now (s .args .out)) (s .pre) (arm .current-line .last .0) _ (arm .current-line .result) (arm .current-line .ensures .0) (arm .current-line .ensures .1 .0) refl in
-    rw told (subst (λ (r : Current). Tells (speaks (currentLine r) (now (s .args .t))) (now (s .args .out)) (arm .current-line .last .0) (now (s .args .t)) (arm .current-line .result)) (call .read .ensures) tells, refl)
-
-same-length-6 : tie.Need-same-length-6
-same-length-6 c = search needs
-
-returns-5 : tie.Need-returns-5
-unfolding spokenOf storeLeft
-returns-5 c =
-    let arm = c .before .before in
-    let call = arm .before .before .before in
-    let told = call .before .before .request4 .given .1 in
-    let s = call .before .before .before .before .before .before .before in
-    let tells = line-tells (speaks (changeLine (call .change .result .refusal) (call .change .result .version)) (now (s .args .t))) (now (s .args .out)) (s .pre) (arm .change-line .last .0) _ (arm .change-line .result) (arm .change-line .ensures .0) (arm .change-line .ensures .1 .0) refl in
-    rw told (subst (λ (r : ChangeDone). Tells (speaks (changeLine (r .refusal) (r .version)) (now (s .args .t))) (now (s .args .out)) (arm .change-line .last .0) (now (s .args .t)) (arm .change-line .result)) (call .change .ensures) tells, ap (λ (r : ChangeDone). r .store) (call .change .ensures))
-
-same-length-7 : tie.Need-same-length-7
-same-length-7 c = search needs
-
-same-length-8 : tie.Need-same-length-8
-same-length-8 c = search needs
-
-returns-6 : tie.Need-returns-6
-unfolding spokenOf storeLeft
-returns-6 c =
-    let q = c .before .before .before .before in
-    let told = q .before .before .before .before .request5 .given .1 in
-    let done = q .write .ensures in
-    rw told (record { told-is = done .0; wrote-is = done .1 .0; left-is = done .1 .1 .0 }, refl)
+returns-3 c =
+    let call = c .before .before .before .before in
+    let arm = call .before .before in
+    let start = arm .before .before .before .before in
+    let a = start .args in
+    let own = own-request (a .request) (spoken (now (a .t)) (record { chars = now (a .line); fed = a .fed })) (writtenOn (now (a .t)) (a .store)) (speaks (storeSays (a .store) (a .request)) (now (a .t)))
+    (λ e. let k = own-number (rw e at (arm .match .keys3)) in omega arith)
+    (λ code e. let k = own-number (rw e at (arm .match .keys3)) in omega arith) in
+    rw own (called-tells (now (a .out)) (start .pre) (now (a .t)) (a .store) (a .request) (call .call .last .1 .1 .0) (call .call .result) (call .call .ensures .0) (call .call .ensures .1 .0))
 
 pub respond-spec : {M : Type 1} → statement M
 respond-spec =
@@ -154,30 +97,13 @@ respond-spec =
     enum-told
     answer-requires
     enum-known-request
-    add-requires
-    refusal-line-requires
-    enum-known-request-2
-    remove-requires
-    refusal-line-requires-2
-    enum-known-request-3
-    read-requires
-    current-line-requires
-    enum-known-request-4
-    change-requires
-    change-line-requires
-    enum-known-request-5
     write-requires
+    call-requires
     same-length
     same-length-2
     returns
     same-length-3
-    returns-2
     same-length-4
-    returns-3
+    returns-2
     same-length-5
-    returns-4
-    same-length-6
-    returns-5
-    same-length-7
-    same-length-8
-    returns-6)
+    returns-3)
