@@ -52,43 +52,39 @@ pub struct Properties {
 pub fn properties_of(family: u8) -> Properties
     ensures answer { λ r. ⌜ r ≡ propertiesOf family ⌝ }
 {
-    if family == DS18S20 {
-        return Properties {
+    match family {
+        DS18S20 => Properties {
             known: true,
             configurable: false,
             pinned: false,
             unit: Unit::HalfDegrees,
             nibble: 0,
             initial: [0xAA, 0x00, 0, 0, 0xFF, 0xFF, 0x0C, 0x10],
-        };
-    }
-    if family == DS18B20 {
-        return Properties {
+        },
+        DS18B20 => Properties {
             known: true,
             configurable: true,
             pinned: false,
             unit: Unit::Sixteenths,
             nibble: 0x0F,
             initial: [0x50, 0x05, 0, 0, 0, 0xFF, 0x0C, 0x10],
-        };
-    }
-    if family == DS1825 {
-        return Properties {
+        },
+        DS1825 => Properties {
             known: true,
             configurable: true,
             pinned: true,
             unit: Unit::Sixteenths,
             nibble: 0,
             initial: [0x50, 0x05, 0, 0, 0, 0xFF, 0x0C, 0x10],
-        };
-    }
-    Properties {
-        known: false,
-        configurable: false,
-        pinned: false,
-        unit: Unit::Sixteenths,
-        nibble: 0,
-        initial: [0; 8],
+        },
+        _ => Properties {
+            known: false,
+            configurable: false,
+            pinned: false,
+            unit: Unit::Sixteenths,
+            nibble: 0,
+            initial: [0; 8],
+        },
     }
 }
 
