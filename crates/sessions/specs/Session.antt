@@ -1,0 +1,140 @@
+-- A console over a text that comes in pieces cut anywhere: each line is answered in the state that the lines before it left, and no more is held of a line than tells
+-- what it asks for.
+--     Console                what is said to a line in a state, and the state after it
+--     inTurn C s ls          what is said to lines one after the other, from the state s on
+--     Run                    a run so far: the state, and what is held of the line that has no feed yet
+--     fresh s                a run that begins in the state s, with nothing held
+--     grown r l              the run with the characters of l behind those that are held, cut at 81 (`mostHeld`)
+--     heldLine r fed         the line that is held, with its feed or without
+--     ended C r fed          the run where the held line has its feed, which is answered and held no more, or has none yet
+--     ran C r l              the run after one line of a piece, or after the part of a line that the piece ends with
+--     heard C r l            what is said to it: nothing where it has no feed yet
+--     after C r s            the run after a piece
+--     saidOn C r s           what is said on the way
+--     atEnd C r              what is said at the end of the input: to a held line without a feed, if there is one
+--     session C r cs         what is said to the pieces cs and at the end
+--     Enough C               that 81 characters of a line tell what is said to it and where it leads
+--     SessionClaim C         that what is said does not depend on where the text was cut: it is what is said to the lines of the whole text in turn
+--     runAt s line held      the run of a program: its state, and the line that stands at the front of a buffer
+--     Reached C s r          a run that a program may come to from the state s
+--     Standing C s v line held  where a program stands between two reads: in the state v, with so many characters of a line in a buffer of 81
+--     Answerable C s t       bytes that it may hand to its output
+-- Assumes nothing.
+use Prim.Native.Nat.{ℕ, _≤_}
+use mathlib.Core.Path.{_≡_}
+use mathlib.Core.Bool.{Bool, true, false}
+use mathlib.Core.List.{List, [], _∷_, _++_}
+use lib.Dec.{ltb}
+use lib.ListN.{length, take}
+use Rattle.lists.specs.Choice.{if_then_else_}
+use Rattle.text.specs.Lines.{Line, firstLine, linesOf}
+use Rattle.pieces.specs.Pieces.{together}
+use Rattle.gathering.specs.Gathering.{mostHeld}
+
+-- what is said to a line in a state, and the state after it
+pub record Console : Type 1 where
+  pub State : Type 0
+  pub says : State → Line → List ℕ
+  pub next : State → Line → State
+
+-- what is said to lines one after the other, each in the state that those before it left
+unfoldable pub inTurn : (C : Console) → C .State → List Line → List ℕ
+inTurn C s [] = []
+inTurn C s (l ∷ ls) = C .says s l ++ inTurn C (C .next s l) ls
+
+-- ## A run, line by line
+
+-- the state, and what is held of the line that has no feed yet
+pub record Run (S : Type 0) : Type 0 where
+  pub state : S
+  pub held : List ℕ
+
+-- a run that begins
+abbrev pub fresh : {S : Type 0} → S → Run S
+fresh s = record { state = s; held = [] }
+
+-- the run with more characters of the line, cut where they tell that it is over-long
+abbrev pub grown : {S : Type 0} → Run S → Line → Run S
+grown r l = record { state = r .state; held = take mostHeld (r .held ++ l .chars) }
+
+-- the line that is held, with its feed or without
+abbrev pub heldLine : {S : Type 0} → Run S → Bool → Line
+heldLine r fed = record { chars = r .held; fed = fed }
+
+-- the held line is answered where it has its feed, and held no more
+abbrev pub ended : (C : Console) → Run (C .State) → Bool → Run (C .State)
+ended C r fed = if fed then fresh (C .next (r .state) (heldLine r true)) else r
+
+-- what is said then
+abbrev pub endSaid : (C : Console) → Run (C .State) → Bool → List ℕ
+endSaid C r fed = if fed then C .says (r .state) (heldLine r true) else []
+
+-- the run after one line of a piece, or after the part of a line that the piece ends with
+abbrev pub ran : (C : Console) → Run (C .State) → Line → Run (C .State)
+ran C r l = ended C (grown r l) (l .fed)
+
+-- what is said to it
+abbrev pub heard : (C : Console) → Run (C .State) → Line → List ℕ
+heard C r l = endSaid C (grown r l) (l .fed)
+
+-- ## A run, piece by piece
+
+-- the run after some lines of a piece
+unfoldable pub ranAll : (C : Console) → Run (C .State) → List Line → Run (C .State)
+ranAll C r [] = r
+ranAll C r (l ∷ ls) = ranAll C (ran C r l) ls
+
+-- what is said to them
+unfoldable pub heardAll : (C : Console) → Run (C .State) → List Line → List ℕ
+heardAll C r [] = []
+heardAll C r (l ∷ ls) = heard C r l ++ heardAll C (ran C r l) ls
+
+-- the run after a piece
+abbrev pub after : (C : Console) → Run (C .State) → List ℕ → Run (C .State)
+after C r s = ranAll C r (linesOf s)
+
+-- what is said on the way
+abbrev pub saidOn : (C : Console) → Run (C .State) → List ℕ → List ℕ
+saidOn C r s = heardAll C r (linesOf s)
+
+-- what is said at the end of the input
+abbrev pub atEnd : (C : Console) → Run (C .State) → List ℕ
+atEnd C r = if ltb 0 (length (r .held)) then C .says (r .state) (heldLine r false) else []
+
+-- what is said to pieces and at the end
+unfoldable pub session : (C : Console) → Run (C .State) → List (List ℕ) → List ℕ
+session C r [] = atEnd C r
+session C r (c ∷ cs) = saidOn C r c ++ session C (after C r c) cs
+
+-- ## What is claimed
+
+-- a line that is cut at 81 characters says what the whole line says, and leads where it leads
+pub record Enough (C : Console) : Type 0 where
+  pub says-same : (s : C .State) (l : Line) → C .says s (record { chars = take mostHeld (l .chars); fed = l .fed }) ≡ C .says s l
+  pub next-same : (s : C .State) (l : Line) → C .next s (record { chars = take mostHeld (l .chars); fed = l .fed }) ≡ C .next s l
+
+-- what is said does not depend on where the text was cut
+abbrev pub SessionClaim : Console → Type 0
+SessionClaim C = Enough C → (s : C .State) (cs : List (List ℕ)) → session C (fresh s) cs ≡ inTurn C s (linesOf (together cs))
+
+-- ## What a program comes to, and what it may write
+
+-- the state, and the line that stands at the front of a buffer
+abbrev pub runAt : {S : Type 0} → S → List ℕ → ℕ → Run S
+runAt s line held = record { state = s; held = take held line }
+
+-- a run that begins, and one after the first line, or the part of a line, of whatever comes next
+pub data Reached (C : Console) (s : C .State) : Run (C .State) → Type 0 where
+  start : Reached C s (fresh s)
+  more : {r : Run (C .State)} → Reached C s r → (x : List ℕ) → Reached C s (ran C r (firstLine x))
+
+-- where a program stands between two reads: in a run that it may come to, with what is held of the line at the front of a buffer of 81 bytes
+pub record Standing (C : Console) (s v : C .State) (line : List ℕ) (held : ℕ) : Type 0 where
+  pub size : length line ≡ mostHeld
+  pub within : held ≤ mostHeld
+  pub reached : Reached C s (runAt v line held)
+
+-- what is said to the first line of whatever comes next, or at the end
+pub data Answerable (C : Console) (s : C .State) (t : List ℕ) : Type 0 where
+  of-line : {r : Run (C .State)} → Reached C s r → (x : List ℕ) → t ≡ heard C r (firstLine x) → Answerable C s t
+  of-end : {r : Run (C .State)} → Reached C s r → t ≡ atEnd C r → Answerable C s t

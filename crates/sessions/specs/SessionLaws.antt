@@ -1,0 +1,184 @@
+-- What is said to a text that comes in pieces is what is said to its lines in turn, wherever it was cut; and a piece as a program walks it, line by line.
+-- A piece is walked byte by byte: a byte that is no feed makes the held line longer by one, and a feed ends it. What is held are the first 81 characters of the line
+-- that the bytes since the last feed make, and by the premise those say what the line says. C is the console, s a state, u the line since the last feed.
+-- Assumes nothing.
+use Prim.Native.Nat.{ℕ, zero, suc, _<_, _≤_}
+use mathlib.Core.Path.{_≡_, refl, sym, ap, _∙_}
+use mathlib.Core.Bool.{Bool, true, false, not, _&&_}
+use mathlib.Core.List.{List, [], _∷_, _++_, append-assoc, append-nil}
+use native.Mathlib.Omega.{arith}
+use borrow.Author.Tests.{not-true, eqb-true, lt-ltb}
+use lib.Dec.{eqb}
+use lib.ListN.{length, take, drop}
+use Rattle.lists.specs.Choice.{if_then_else_}
+use Rattle.lists.specs.ChoiceLaws.{and-left, and-right}
+use Rattle.lists.specs.Fold.{all}
+use Rattle.lists.specs.FoldLaws.{all-append}
+use Rattle.text.specs.Lines.{Line, lineFeed, notFeed, longer, linesOf}
+use Rattle.text.specs.LinesLaws.{lines-cut, lines-done, lines-next, line-ends}
+use Rattle.pieces.specs.Pieces.{together}
+use Rattle.gathering.specs.Gathering.{mostHeld, partAt, taken, takenLeaves}
+use Rattle.gathering.specs.GatheringLaws.{taken-few, taken-holds}
+use Rattle.gathering.specs.declared.Gathered.{Gathered}
+use Rattle.sessions.specs.Session.{Console, inTurn, Run, fresh, grown, ended, endSaid, ranAll, heardAll, after, saidOn, atEnd, session, Enough, SessionClaim, ran, runAt, Reached, more, Standing, Answerable, of-line}
+
+-- what is cut twice is cut once
+take-again : (n : ℕ) (u v : List ℕ) → take n (take n u ++ v) ≡ take n (u ++ v)
+take-again zero u v = refl
+take-again (suc n) [] v = refl
+take-again (suc n) (c ∷ u) v = ap (λ (t : List ℕ). c ∷ t) (take-again n u v)
+
+-- a line without a feed is all of its text
+plain-lines : (c : ℕ) (u : List ℕ) → all notFeed (c ∷ u) ≡ true → linesOf (c ∷ u) ≡ record { chars = c ∷ u; fed = false } ∷ []
+unfolding linesOf all
+plain-lines c [] h = rw (not-true (eqb c lineFeed) (and-left (notFeed c) true h)) refl
+plain-lines c (d ∷ u) h =
+    let rest = plain-lines d u (and-right (notFeed c) (notFeed d && all notFeed u) h) in
+    rw (not-true (eqb c lineFeed) (and-left (notFeed c) (notFeed d && all notFeed u) h)) (ap (longer c) rest)
+
+-- one character, without a feed
+abbrev one : ℕ → Line
+one c = record { chars = c ∷ []; fed = false }
+
+module _ (C : Console) where
+  grown-twice : (r : Run (C .State)) (c : ℕ) (l : Line) → grown r (record { chars = c ∷ l .chars; fed = l .fed }) ≡ grown (grown r (one c)) l
+  grown-twice r c l =
+      let same : take mostHeld (r .held ++ (c ∷ l .chars)) ≡ take mostHeld (take mostHeld (r .held ++ (c ∷ [])) ++ l .chars) =
+      ap (take mostHeld) (sym (append-assoc (r .held) (c ∷ []) (l .chars))) ∙ sym (take-again mostHeld (r .held ++ (c ∷ [])) (l .chars)) in
+      ap (λ (u : List ℕ). record { state = r .state; held = u }) same
+
+  ran-longer : (r : Run (C .State)) (c : ℕ) (ls : List Line) → ranAll C r (longer c ls) ≡ ranAll C (grown r (one c)) ls
+  unfolding ranAll
+  ran-longer r c [] = refl
+  ran-longer r c (l ∷ ls) = ap (λ (q : Run (C .State)). ranAll C (ended C q (l .fed)) ls) (grown-twice r c l)
+
+  heard-longer : (r : Run (C .State)) (c : ℕ) (ls : List Line) → heardAll C r (longer c ls) ≡ heardAll C (grown r (one c)) ls
+  unfolding heardAll
+  heard-longer r c [] = refl
+  heard-longer r c (l ∷ ls) = ap (λ (q : Run (C .State)). endSaid C q (l .fed) ++ heardAll C (ended C q (l .fed)) ls) (grown-twice r c l)
+
+-- the run that the bytes u since the last feed lead to
+abbrev holding : {S : Type 0} → S → List ℕ → Run S
+holding s u = record { state = s; held = take mostHeld u }
+
+-- a line, with its feed or without
+abbrev lineOf : List ℕ → Bool → Line
+lineOf u fed = record { chars = u; fed = fed }
+
+module _ (C : Console) (enough : Enough C) where
+  -- at the end of the input
+  finished-some : (s : C .State) (c : ℕ) (u : List ℕ) → all notFeed (c ∷ u) ≡ true → atEnd C (holding s (c ∷ u)) ≡ inTurn C s (linesOf (c ∷ u))
+  unfolding inTurn
+  finished-some s c u plain =
+      let some : 0 < length (take mostHeld (c ∷ u)) = omega arith in
+      rw (lt-ltb 0 (length (take mostHeld (c ∷ u))) some, plain-lines c u plain, append-nil (C .says s (lineOf (c ∷ u) false))) (enough .says-same s (lineOf (c ∷ u) false))
+
+  finished : (s : C .State) (u : List ℕ) → all notFeed u ≡ true → atEnd C (holding s u) ≡ inTurn C s (linesOf u)
+  unfolding inTurn linesOf
+  finished s [] plain = refl
+  finished s (c ∷ u) plain = finished-some s c u plain
+
+  module _ (cs : List (List ℕ)) (later : (s : C .State) (u : List ℕ) → all notFeed u ≡ true → session C (holding s u) cs ≡ inTurn C s (linesOf (u ++ together cs))) where
+    -- what is said from a run on
+    abbrev onward : Run (C .State) → List ℕ → List ℕ
+    onward r c = saidOn C r c ++ session C (after C r c) cs
+
+    at-feed : (c : List ℕ) (s : C .State) (u : List ℕ) → all notFeed u ≡ true
+        → ((v : C .State) → onward (fresh v) c ≡ inTurn C v (linesOf (c ++ together cs)))
+        → onward (holding s u) (lineFeed ∷ c) ≡ inTurn C s (linesOf (u ++ (lineFeed ∷ (c ++ together cs))))
+    unfolding linesOf ranAll heardAll inTurn
+    at-feed c s u plain rest =
+        let l = lineOf u true in
+        let cut : take mostHeld (take mostHeld u ++ []) ≡ take mostHeld u = take-again mostHeld u [] ∙ ap (take mostHeld) (append-nil u) in
+        let held = lineOf (take mostHeld (take mostHeld u ++ [])) true in
+        let says : C .says s held ≡ C .says s l = ap (λ (t : List ℕ). C .says s (lineOf t true)) cut ∙ enough .says-same s l in
+        let leads : C .next s held ≡ C .next s l = ap (λ (t : List ℕ). C .next s (lineOf t true)) cut ∙ enough .next-same s l in
+        let lines = ap linesOf (sym (append-assoc u (lineFeed ∷ []) (c ++ together cs))) ∙ lines-cut u (c ++ together cs) plain in
+        append-assoc (C .says s held) (saidOn C (fresh (C .next s held)) c) (session C (after C (fresh (C .next s held)) c) cs)
+        ∙ ap (λ (t : List ℕ). t ++ onward (fresh (C .next s held)) c) says ∙ ap (λ (v : C .State). C .says s l ++ onward (fresh v) c) leads
+        ∙ ap (λ (t : List ℕ). C .says s l ++ t) (rest (C .next s l)) ∙ ap (inTurn C s) (sym lines)
+
+    at-other : (d : ℕ) (c : List ℕ) (s : C .State) (u : List ℕ) → eqb d lineFeed ≡ false
+        → onward (holding s (u ++ (d ∷ []))) c ≡ inTurn C s (linesOf ((u ++ (d ∷ [])) ++ (c ++ together cs)))
+        → onward (holding s u) (d ∷ c) ≡ inTurn C s (linesOf (u ++ (d ∷ (c ++ together cs))))
+    unfolding linesOf
+    at-other d c s u e rest =
+        let r = holding s u in
+        let lines : linesOf (d ∷ c) ≡ longer d (linesOf c) = rw e refl in
+        let heard-is : saidOn C r (d ∷ c) ≡ saidOn C (grown r (one d)) c = ap (heardAll C r) lines ∙ heard-longer C r d (linesOf c) in
+        let ran-is : after C r (d ∷ c) ≡ after C (grown r (one d)) c = ap (ranAll C r) lines ∙ ran-longer C r d (linesOf c) in
+        let next : grown r (one d) ≡ holding s (u ++ (d ∷ [])) = ap (λ (t : List ℕ). record { state = s; held = t }) (take-again mostHeld u (d ∷ [])) in
+        ap (λ (t : List ℕ). t ++ session C (after C r (d ∷ c)) cs) heard-is ∙ ap (λ (q : Run (C .State)). saidOn C (grown r (one d)) c ++ session C q cs) ran-is
+        ∙ ap (λ (q : Run (C .State)). onward q c) next ∙ rest ∙ ap (λ (t : List ℕ). inTurn C s (linesOf t)) (append-assoc u (d ∷ []) (c ++ together cs))
+
+    piece : (c : List ℕ) (s : C .State) (u : List ℕ) → all notFeed u ≡ true → onward (holding s u) c ≡ inTurn C s (linesOf (u ++ (c ++ together cs)))
+    unfolding linesOf ranAll heardAll all
+    piece [] s u plain = later s u plain
+    piece (d ∷ c) s u plain = by-test (eqb d lineFeed) refl (λ v. piece c v [] refl) (piece c s (u ++ (d ∷ [])))
+      where
+        by-test : (t : Bool) → eqb d lineFeed ≡ t
+            → ((v : C .State) → onward (fresh v) c ≡ inTurn C v (linesOf (c ++ together cs)))
+            → (all notFeed (u ++ (d ∷ [])) ≡ true → onward (holding s (u ++ (d ∷ []))) c ≡ inTurn C s (linesOf ((u ++ (d ∷ [])) ++ (c ++ together cs))))
+            → onward (holding s u) (d ∷ c) ≡ inTurn C s (linesOf (u ++ (d ∷ (c ++ together cs))))
+        by-test true e anew on = rw (eqb-true d lineFeed e) (at-feed c s u plain anew)
+        by-test false e anew on =
+            let other : notFeed d ≡ true = ap not e in
+            let still : all notFeed (u ++ (d ∷ [])) ≡ true = all-append notFeed u (d ∷ []) ∙ rw (plain, other) refl in
+            at-other d c s u e (on still)
+
+  pieces-said : (cs : List (List ℕ)) (s : C .State) (u : List ℕ) → all notFeed u ≡ true → session C (holding s u) cs ≡ inTurn C s (linesOf (u ++ together cs))
+  unfolding session together
+  pieces-said [] s u plain = rw (append-nil u) (finished s u plain)
+  pieces-said (c ∷ cs) s u plain = piece cs (pieces-said cs) c s u plain
+
+pub session-cuts : (C : Console) → SessionClaim C
+unfolding all
+session-cuts C enough s cs = pieces-said C enough cs s [] refl
+
+-- ## A piece as a program walks it, by what it gathers of a line
+
+pub piece-done : (C : Console) (r : Run (C .State)) (piece : List ℕ) (at : ℕ) → length piece ≤ at → ranAll C r (linesOf (drop at piece)) ≡ r
+unfolding ranAll
+piece-done C r piece at past = rw (lines-done piece at past) refl
+
+module _ (C : Console) (s v : C .State) (line : List ℕ) (held : ℕ) (stands : Standing C s v line held) (piece : List ℕ) (at : ℕ)
+    (g : Gathered) (answer : g ≡ taken line held piece at) (line' : List ℕ) (left : line' ≡ takenLeaves line held piece at) where
+  gathered-is : runAt v line' (g .held) ≡ grown (runAt v line held) (partAt piece at)
+  gathered-is =
+      let holds = taken-holds line held (stands .size) (stands .within) piece at in
+      rw (left, answer) (ap (λ (u : List ℕ). record { state = v; held = u }) holds)
+
+  line-ran : ended C (runAt v line' (g .held)) (g .whole) ≡ ran C (runAt v line held) (partAt piece at)
+  line-ran =
+      ap (λ (r : Run (C .State)). ended C r (g .whole)) gathered-is
+      ∙ ap (λ (h : Gathered). ended C (grown (runAt v line held) (partAt piece at)) (h .whole)) answer
+
+  -- what is said to the line
+  pub line-answer : Answerable C s (endSaid C (runAt v line' (g .held)) (g .whole))
+  line-answer =
+      of-line (stands .reached) (drop at piece)
+      (ap (λ (r : Run (C .State)). endSaid C r (g .whole)) gathered-is
+      ∙ ap (λ (h : Gathered). endSaid C (grown (runAt v line held) (partAt piece at)) (h .whole)) answer)
+
+  pub line-few : g .held ≤ mostHeld
+  line-few = rw answer (taken-few line held (stands .size) (stands .within) piece at)
+
+  -- where the program stands then
+  pub line-stands : (w : C .State) (n : ℕ) → length line' ≡ length line → runAt w line' n ≡ ended C (runAt v line' (g .held)) (g .whole) → n ≤ g .held → Standing C s w line' n
+  line-stands w n same is few = record {
+    size = same ∙ stands .size;
+    within = let most = line-few in omega arith;
+    reached = rw (is, line-ran) (more (stands .reached) (drop at piece));
+  }
+
+  module _ (before : at < length piece) where
+    pub line-place : (at < g .next) × (g .next ≤ length piece)
+    line-place = rw answer (line-ends piece at before)
+
+    -- what is still to run of the piece
+    pub line-rest : ranAll C (runAt v line held) (linesOf (drop at piece)) ≡ ranAll C (ended C (runAt v line' (g .held)) (g .whole)) (linesOf (drop (g .next) piece))
+    unfolding ranAll
+    line-rest =
+        ap (ranAll C (runAt v line held)) (lines-next piece at before)
+        ∙ ap (λ (h : Gathered). ranAll C (ran C (runAt v line held) (partAt piece at)) (linesOf (drop (h .next) piece))) (sym answer)
+        ∙ ap (λ (r : Run (C .State)). ranAll C r (linesOf (drop (g .next) piece))) (sym line-ran)
