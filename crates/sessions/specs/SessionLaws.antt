@@ -10,6 +10,7 @@ use native.Mathlib.Omega.{arith}
 use borrow.Author.Tests.{not-true, eqb-true, lt-ltb}
 use lib.Dec.{eqb}
 use lib.ListN.{length, take, drop}
+use lib.Seq.{length-take-le}
 use Rattle.lists.specs.Choice.{if_then_else_}
 use Rattle.lists.specs.ChoiceLaws.{and-left, and-right}
 use Rattle.lists.specs.Fold.{all}
@@ -20,7 +21,7 @@ use Rattle.pieces.specs.Pieces.{together}
 use Rattle.gathering.specs.Gathering.{mostHeld, partAt, taken, takenLeaves}
 use Rattle.gathering.specs.GatheringLaws.{taken-few, taken-holds}
 use Rattle.gathering.specs.declared.Gathered.{Gathered}
-use Rattle.sessions.specs.Session.{Console, inTurn, Run, fresh, grown, ended, endSaid, ranAll, heardAll, after, saidOn, atEnd, session, Enough, SessionClaim, ran, runAt, Reached, more, Standing, Answerable, of-line}
+use Rattle.sessions.specs.Session.{Console, inTurn, Run, fresh, grown, ended, endSaid, ranAll, heardAll, after, saidOn, atEnd, session, Enough, SessionClaim, ran, heard, runAt, start, more, Standing, Answerable, of-line, of-end}
 
 -- what is cut twice is cut once
 take-again : (n : ℕ) (u v : List ℕ) → take n (take n u ++ v) ≡ take n (u ++ v)
@@ -135,14 +136,25 @@ pub session-cuts : (C : Console) → SessionClaim C
 unfolding all
 session-cuts C enough s cs = pieces-said C enough cs s [] refl
 
--- ## A piece as a program walks it, by what it gathers of a line
+-- ## A piece as a program walks it, line by line
 
-pub piece-done : (C : Console) (r : Run (C .State)) (piece : List ℕ) (at : ℕ) → length piece ≤ at → ranAll C r (linesOf (drop at piece)) ≡ r
+-- what is still to run of a piece that is walked to its end
+pub piece-done : (C : Console) (r : Run (C .State)) (piece : List ℕ) (at : ℕ) → length piece ≤ at → after C r (drop at piece) ≡ r
 unfolding ranAll
 piece-done C r piece at past = rw (lines-done piece at past) refl
 
-module _ (C : Console) (s v : C .State) (line : List ℕ) (held : ℕ) (stands : Standing C s v line held) (piece : List ℕ) (at : ℕ)
-    (g : Gathered) (answer : g ≡ taken line held piece at) (line' : List ℕ) (left : line' ≡ takenLeaves line held piece at) where
+-- what the next line of a piece, gathered behind what is held, comes to: what is said to it, where the piece goes on, what is still to run, and where the program stands
+-- once the line has ended or is held
+pub record LineTaken (C : Console) (s v : C .State) (line : List ℕ) (held : ℕ) (piece : List ℕ) (at : ℕ) (g : Gathered) (line' : List ℕ) : Type 0 where
+  pub few : g .held ≤ mostHeld
+  pub answers : Answerable C s (endSaid C (runAt v line' (g .held)) (g .whole))
+  pub on : at < g .next
+  pub within : g .next ≤ length piece
+  pub rest : (w : C .State) (n : ℕ) → runAt w line' n ≡ ended C (runAt v line' (g .held)) (g .whole) → after C (runAt v line held) (drop at piece) ≡ after C (runAt w line' n) (drop (g .next) piece)
+  pub stands : (w : C .State) (n : ℕ) → length line' ≡ length line → runAt w line' n ≡ ended C (runAt v line' (g .held)) (g .whole) → n ≤ g .held → Standing C s w line' n
+
+module _ {C : Console} {s v : C .State} {line : List ℕ} {held : ℕ} (stands : Standing C s v line held) (piece : List ℕ) (at : ℕ)
+    (g : Gathered) (answer : g ≡ taken line held piece at) (line' : List ℕ) (left : line' ≡ takenLeaves line held piece at) (before : at < length piece) where
   gathered-is : runAt v line' (g .held) ≡ grown (runAt v line held) (partAt piece at)
   gathered-is =
       let holds = taken-holds line held (stands .size) (stands .within) piece at in
@@ -153,32 +165,50 @@ module _ (C : Console) (s v : C .State) (line : List ℕ) (held : ℕ) (stands :
       ap (λ (r : Run (C .State)). ended C r (g .whole)) gathered-is
       ∙ ap (λ (h : Gathered). ended C (grown (runAt v line held) (partAt piece at)) (h .whole)) answer
 
-  -- what is said to the line
-  pub line-answer : Answerable C s (endSaid C (runAt v line' (g .held)) (g .whole))
-  line-answer =
-      of-line (stands .reached) (drop at piece)
-      (ap (λ (r : Run (C .State)). endSaid C r (g .whole)) gathered-is
-      ∙ ap (λ (h : Gathered). endSaid C (grown (runAt v line held) (partAt piece at)) (h .whole)) answer)
+  line-heard : endSaid C (runAt v line' (g .held)) (g .whole) ≡ heard C (runAt v line held) (partAt piece at)
+  line-heard =
+      ap (λ (r : Run (C .State)). endSaid C r (g .whole)) gathered-is
+      ∙ ap (λ (h : Gathered). endSaid C (grown (runAt v line held) (partAt piece at)) (h .whole)) answer
 
-  pub line-few : g .held ≤ mostHeld
+  line-few : g .held ≤ mostHeld
   line-few = rw answer (taken-few line held (stands .size) (stands .within) piece at)
 
-  -- where the program stands then
-  pub line-stands : (w : C .State) (n : ℕ) → length line' ≡ length line → runAt w line' n ≡ ended C (runAt v line' (g .held)) (g .whole) → n ≤ g .held → Standing C s w line' n
+  line-place : (at < g .next) × (g .next ≤ length piece)
+  line-place = rw answer (line-ends piece at before)
+
+  line-rest : (w : C .State) (n : ℕ) → runAt w line' n ≡ ended C (runAt v line' (g .held)) (g .whole) → after C (runAt v line held) (drop at piece) ≡ after C (runAt w line' n) (drop (g .next) piece)
+  unfolding ranAll
+  line-rest w n is =
+      ap (ranAll C (runAt v line held)) (lines-next piece at before)
+      ∙ ap (λ (h : Gathered). after C (ran C (runAt v line held) (partAt piece at)) (drop (h .next) piece)) (sym answer)
+      ∙ ap (λ (r : Run (C .State)). after C r (drop (g .next) piece)) (sym (is ∙ line-ran))
+
+  line-stands : (w : C .State) (n : ℕ) → length line' ≡ length line → runAt w line' n ≡ ended C (runAt v line' (g .held)) (g .whole) → n ≤ g .held → Standing C s w line' n
   line-stands w n same is few = record {
     size = same ∙ stands .size;
     within = let most = line-few in omega arith;
     reached = rw (is, line-ran) (more (stands .reached) (drop at piece));
   }
 
-  module _ (before : at < length piece) where
-    pub line-place : (at < g .next) × (g .next ≤ length piece)
-    line-place = rw answer (line-ends piece at before)
+  pub line-taken : LineTaken C s v line held piece at g line'
+  line-taken = record {
+    few = line-few;
+    answers = of-line (stands .reached) (drop at piece) line-heard;
+    on = line-place .0;
+    within = line-place .1;
+    rest = line-rest;
+    stands = line-stands;
+  }
 
-    -- what is still to run of the piece
-    pub line-rest : ranAll C (runAt v line held) (linesOf (drop at piece)) ≡ ranAll C (ended C (runAt v line' (g .held)) (g .whole)) (linesOf (drop (g .next) piece))
-    unfolding ranAll
-    line-rest =
-        ap (ranAll C (runAt v line held)) (lines-next piece at before)
-        ∙ ap (λ (h : Gathered). ranAll C (ran C (runAt v line held) (partAt piece at)) (linesOf (drop (h .next) piece))) (sym answer)
-        ∙ ap (λ (r : Run (C .State)). ranAll C r (linesOf (drop (g .next) piece))) (sym line-ran)
+-- what is said at the end to a line that is held
+pub end-answer : {C : Console} {s v : C .State} {line : List ℕ} {held : ℕ} → Standing C s v line held → 0 < held
+    → Answerable C s (C .says v (record { chars = take held line; fed = false }))
+end-answer {line = line} {held = held} stands some =
+    let size = stands .size in
+    let within = stands .within in
+    let front = length-take-le held line (omega arith) in
+    of-end (stands .reached) (rw (lt-ltb 0 (length (take held line)) (omega arith)) refl)
+
+-- a program that begins
+pub begins : {C : Console} (s : C .State) (line : List ℕ) → length line ≡ mostHeld → Standing C s s line 0
+begins s line size = record { size = size; within = omega arith; reached = start }

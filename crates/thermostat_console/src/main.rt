@@ -1,6 +1,14 @@
 // Drives a DS1821 by lines: one request a line on standard input, its answer on standard output at once.
 // It only moves bytes: `gathering` says where a line ends, and `thermostat_lines` reads it, makes the call
 // and forms the answer.
+ghost use mathlib.Core.Path.{_≡_};
+ghost use Prim.Native.Nat.{_≤_};
+ghost use lib.ListN.{length};
+ghost use Rattle.text.specs.Lines.{Line};
+ghost use Rattle.putting.specs.Putting.{lineRoom};
+ghost use Rattle.gathering.specs.Gathering.{mostHeld};
+ghost use Rattle.sessions.specs.Session.{ended, endSaid, after, runAt, Standing, Answerable};
+ghost use Rattle.thermostat_lines.specs.ProbeSession.{probeConsole, firstProbe};
 use gathering::MOST_HELD;
 use libc::STDIN_FILENO;
 use libc::STDOUT_FILENO;
@@ -16,56 +24,64 @@ struct Session {
     going: bool,
 }
 
-// The first bytes of a buffer, in one write.
-fn write_front(bytes: &[u8], count: usize) {
-    if count <= bytes.len() {
-        io::write_all(STDOUT_FILENO, &bytes[..count]);
-    }
+// Hands an answer to the output.
+fn write_answer(text: &[u8])
+    requires { ⌜ Answerable probeConsole firstProbe (now text) ⌝ }
+{
+    io::write_all(STDOUT_FILENO, text);
 }
 
-// The line of so many characters, answered; whether it has its feed.
-fn answer_line(s: Session, line: &[u8], held: usize, fed: bool, out: &mut [u8]) -> Session {
-    let probe = s.probe;
-    if held <= line.len() {
-        let said = thermostat_lines::answer(probe, &line[..held], fed, out);
-        write_front(out, said.count);
-        let after = said.probe;
+// A line, with its feed or without, answered.
+fn answer_line(probe: Thermostat, line: &[u8], fed: bool, out: &mut [u8]) -> Thermostat
+    requires { ⌜ (lineRoom ≤ length (now out)) × Answerable probeConsole firstProbe (probeConsole .says probe (record { chars = now line; fed = fed })) ⌝ }
+    ensures { λ r. ⌜ r ≡ probeConsole .next probe (record { chars = now (line .entry); fed = fed }) ⌝ }
+{
+    let said = thermostat_lines::answer(probe, line, fed, out);
+    let count = said.count;
+    write_answer(&out[..count]);
+    said.probe
+}
+
+// A line that has its feed is answered, and held no more.
+fn end_line(probe: Thermostat, line: &[u8], held: usize, whole: bool, out: &mut [u8]) -> Session
+    requires { ⌜ (held ≤ length (now line)) × (lineRoom ≤ length (now out)) × Answerable probeConsole firstProbe (endSaid probeConsole (runAt probe (now line) held) whole) ⌝ }
+    ensures { λ r. ⌜ (runAt (r .probe) (now (line .entry)) (r .held) ≡ ended probeConsole (runAt probe (now (line .entry)) held) whole) × (r .held ≤ held) ⌝ }
+{
+    if whole {
         return Session {
-            probe: after,
+            probe: answer_line(probe, &line[..held], true, out),
             held: 0,
             going: true,
         };
     }
     Session {
         probe,
-        held: 0,
+        held,
         going: true,
     }
 }
 
-fn take_byte(s: Session, line: &mut [u8], byte: u8, out: &mut [u8]) -> Session {
-    let gathered = gathering::take_byte(line, s.held, byte);
-    if gathered.whole {
-        return answer_line(s, line, gathered.held, true, out);
-    }
-    Session {
-        held: gathered.held,
-        ..s
-    }
-}
-
-fn take(start: Session, line: &mut [u8], chunk: &[u8], out: &mut [u8]) -> Session {
+// All that was read, line by line.
+fn take(start: Session, line: &mut [u8], chunk: &[u8], out: &mut [u8]) -> Session
+    requires { ⌜ (lineRoom ≤ length (now out)) × Standing probeConsole firstProbe (start .probe) (now line) (start .held) ⌝ }
+    ensures session { λ r. ⌜ runAt (r .probe) (now (line .exit)) (r .held) ≡ after probeConsole (runAt (start .probe) (now (line .entry)) (start .held)) (now (chunk .entry)) ⌝ }
+    ensures standing { λ r. ⌜ Standing probeConsole firstProbe (r .probe) (now (line .exit)) (r .held) ⌝ }
+{
     let mut s = start;
-    let mut i: usize = 0;
-    while i < chunk.len() {
-        let byte = chunk[i];
-        s = take_byte(s, line, byte, out);
-        i += 1;
+    let mut at: usize = 0;
+    while at < chunk.len() {
+        let probe = s.probe;
+        let gathered = gathering::take_line(line, s.held, chunk, at);
+        s = end_line(probe, line, gathered.held, gathered.whole, out);
+        at = gathered.next;
     }
     s
 }
 
-fn read_some(s: Session, line: &mut [u8], out: &mut [u8]) -> Session {
+fn read_some(s: Session, line: &mut [u8], out: &mut [u8]) -> Session
+    requires { ⌜ (lineRoom ≤ length (now out)) × Standing probeConsole firstProbe (s .probe) (now line) (s .held) ⌝ }
+    ensures standing { λ r. ⌜ Standing probeConsole firstProbe (r .probe) (now (line .exit)) (r .held) ⌝ }
+{
     let mut chunk = io::buffer();
     let got = libc::read(STDIN_FILENO, &mut chunk);
     if got <= 0 {
@@ -77,7 +93,10 @@ fn read_some(s: Session, line: &mut [u8], out: &mut [u8]) -> Session {
 
 // A proved loop ends; this one counts down from more reads than any run makes. The probe is that of
 // `start 0 0 0 0 0`.
-fn run(line: &mut [u8], out: &mut [u8]) -> Session {
+fn run(line: &mut [u8], out: &mut [u8]) -> Session
+    requires { ⌜ (lineRoom ≤ length (now out)) × (length (now line) ≡ mostHeld) ⌝ }
+    ensures standing { λ r. ⌜ Standing probeConsole firstProbe (r .probe) (now (line .exit)) (r .held) ⌝ }
+{
     let mut s = Session {
         probe: thermostat::start(Kept {
             high: 0,
@@ -101,16 +120,26 @@ fn run(line: &mut [u8], out: &mut [u8]) -> Session {
 }
 
 // A last line without a feed.
-fn finish(s: Session, line: &[u8], out: &mut [u8]) {
+fn finish(s: Session, line: &[u8], out: &mut [u8])
+    requires { ⌜ (lineRoom ≤ length (now out)) × Standing probeConsole firstProbe (s .probe) (now line) (s .held) ⌝ }
+{
+    let probe = s.probe;
     let held = s.held;
     if held > 0 {
-        answer_line(s, line, held, false, out);
+        answer_line(probe, &line[..held], false, out);
     }
+}
+
+// The line and the answer have just the room that they need.
+fn answer_input(line: &mut [u8], out: &mut [u8])
+    requires { ⌜ (lineRoom ≤ length (now out)) × (length (now line) ≡ mostHeld) ⌝ }
+{
+    let s = run(line, out);
+    finish(s, line, out);
 }
 
 fn main() {
     let mut line = [0u8; MOST_HELD];
     let mut out = [0u8; LINE_ROOM];
-    let s = run(&mut line, &mut out);
-    finish(s, &line, &mut out);
+    answer_input(&mut line, &mut out);
 }

@@ -1,2 +1,4 @@
 pub mod ProbeConsole
 pub mod ProbeConsoleLaws
+pub mod ProbeSession
+pub mod ProbeSessionLaws
