@@ -2,12 +2,13 @@
 --     versionIn w            a version: a decimal number up to 65,535, of one to five digits
 --     alterIn w              what a change makes of one setting: a byte, or a minus to leave it
 --     asksStore name n ws    whether words are `settings`, this name and its fields, n in all
+--     ofStore ws             what the words of a line ask for
 --     storeRequestOf s       what a line, without its feed, asks for
 -- Assumes nothing.
 use Prim.Native.Nat.{ℕ}
 use mathlib.Core.Bool.{Bool, true, _&&_}
 use mathlib.Core.List.{List}
-use lib.Dec.{eqb}
+use lib.Dec.{eqb, leb}
 use lib.ListN.{length}
 use Rattle.lists.specs.Choice.{if_then_else_}
 use Rattle.lists.specs.Same.{same}
@@ -17,6 +18,7 @@ use Rattle.text.specs.declared.NumberRead.{NumberRead}
 use Rattle.words.specs.Words.{wordOf, wordsOf}
 use Rattle.fields.specs.Fields.{codeIn, byteIn, threeBytesIn}
 use Rattle.fields.specs.declared.SettingsRead.{SettingsRead}
+use Rattle.requests.specs.Requests.{longestRequest}
 use Rattle.settings.specs.declared.Alter.the-variants.{Leave, To}
 use Rattle.settings_requests.specs.declared.AlterRead.{AlterRead}
 use Rattle.settings_requests.specs.declared.AlterationsRead.{AlterationsRead}
@@ -57,9 +59,8 @@ abbrev pub asksStore : List ℕ → ℕ → List (List ℕ) → Bool
 asksStore name n ws = same (wordOf ws 0) (ascii "settings") && same (wordOf ws 1) name && eqb (length ws) n
 
 -- SETTINGS and ADD CODE HIGH LOW CONFIGURATION; REMOVE, READ, WRITE CODE; CHANGE CODE VERSION HIGH LOW CONFIGURATION
-unfoldable pub storeRequestOf : List ℕ → StoreRequest
-storeRequestOf s =
-    let ws = wordsOf s in
+unfoldable pub ofStore : List (List ℕ) → StoreRequest
+ofStore ws =
     let field = wordOf ws in
     if asksStore (ascii "add") 6 ws then addAsked (codeIn (field 2)) (threeBytesIn (field 3) (field 4) (field 5))
     else if asksStore (ascii "remove") 3 ws then atCode Remove (codeIn (field 2))
@@ -67,3 +68,7 @@ storeRequestOf s =
     else if asksStore (ascii "change") 7 ws then changeAsked (codeIn (field 2)) (versionIn (field 3)) (alterationsIn (field 4) (field 5) (field 6))
     else if asksStore (ascii "write") 3 ws then atCode Write (codeIn (field 2))
     else Other
+
+-- what a line, without its feed, asks for; one that is over-long asks for nothing that the store knows
+unfoldable pub storeRequestOf : List ℕ → StoreRequest
+storeRequestOf s = if leb (length s) longestRequest then ofStore (wordsOf s) else Other

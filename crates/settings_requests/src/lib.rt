@@ -3,11 +3,12 @@ ghost use mathlib.Core.Path.{_≡_};
 ghost use Rattle.words.specs.Words.{wordsOf, wordOf};
 ghost use Rattle.fields.specs.Fields.{codeIn, threeBytesIn};
 ghost use Rattle.settings_requests.specs.declared.StoreRequest.the-variants.{Remove, Read, Write};
-ghost use Rattle.settings_requests.specs.StoreRequests.{versionIn, alterIn, alterationsIn, asksStore, atCode, addAsked, changeAsked, storeRequestOf};
+ghost use Rattle.settings_requests.specs.StoreRequests.{versionIn, alterIn, alterationsIn, asksStore, atCode, addAsked, changeAsked, ofStore, storeRequestOf};
 use device::Settings;
 use fields::both;
 use fields::code_in;
 use fields::settings_in;
+use requests::LONGEST;
 use settings::Alter;
 use settings::Alterations;
 use text::NumberRead;
@@ -177,9 +178,8 @@ fn asks(line: &[u8], name: &[u8], words: usize) -> bool
     false
 }
 
-// What a line, without its feed, asks of the store.
-pub fn parse(line: &[u8]) -> StoreRequest
-    ensures answer { λ r. ⌜ r ≡ storeRequestOf (now (line .entry)) ⌝ }
+fn of_words(line: &[u8]) -> StoreRequest
+    ensures { λ r. ⌜ r ≡ ofStore (wordsOf (now (line .entry))) ⌝ }
 {
     if asks(line, b"add", 6) {
         return add(line);
@@ -197,4 +197,14 @@ pub fn parse(line: &[u8]) -> StoreRequest
         return write(line);
     }
     StoreRequest::Other
+}
+
+// What a line, without its feed, asks of the store.
+pub fn parse(line: &[u8]) -> StoreRequest
+    ensures answer { λ r. ⌜ r ≡ storeRequestOf (now (line .entry)) ⌝ }
+{
+    if LONGEST < line.len() {
+        return StoreRequest::Other;
+    }
+    of_words(line)
 }
