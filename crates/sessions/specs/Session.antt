@@ -7,12 +7,15 @@
 --     grown r l              the run with the characters of l behind those that are held, cut at 81 (`mostHeld`)
 --     heldLine r fed         the line that is held, with its feed or without
 --     ended C r fed          the run where the held line has its feed, which is answered and held no more, or has none yet
+--     endSaid C r fed        what is said then: the answer to the held line, or nothing
 --     ran C r l              the run after one line of a piece, or after the part of a line that the piece ends with
 --     heard C r l            what is said to it: nothing where it has no feed yet
+--     ranAll, heardAll       the same for lines one after the other
 --     after C r s            the run after a piece
 --     saidOn C r s           what is said on the way
 --     atEnd C r              what is said at the end of the input: to a held line without a feed, if there is one
 --     session C r cs         what is said to the pieces cs and at the end
+--     cut l                  a line cut at 81 characters
 --     Enough C               that 81 characters of a line tell what is said to it and where it leads
 --     SessionClaim C         that what is said does not depend on where the text was cut: it is what is said to the lines of the whole text in turn
 --     runAt s line held      the run of a program: its state, and the line that stands at the front of a buffer
@@ -108,10 +111,14 @@ session C r (c ∷ cs) = saidOn C r c ++ session C (after C r c) cs
 
 -- ## What is claimed
 
--- a line that is cut at 81 characters says what the whole line says, and leads where it leads
+-- a line cut at 81 characters
+abbrev pub cut : Line → Line
+cut l = record { chars = take mostHeld (l .chars); fed = l .fed }
+
+-- it says what the whole line says, and leads where that leads
 pub record Enough (C : Console) : Type 0 where
-  pub says-same : (s : C .State) (l : Line) → C .says s (record { chars = take mostHeld (l .chars); fed = l .fed }) ≡ C .says s l
-  pub next-same : (s : C .State) (l : Line) → C .next s (record { chars = take mostHeld (l .chars); fed = l .fed }) ≡ C .next s l
+  pub says-same : (s : C .State) (l : Line) → C .says s (cut l) ≡ C .says s l
+  pub next-same : (s : C .State) (l : Line) → C .next s (cut l) ≡ C .next s l
 
 -- what is said does not depend on where the text was cut
 abbrev pub SessionClaim : Console → Type 0

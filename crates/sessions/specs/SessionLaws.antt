@@ -11,7 +11,6 @@ use borrow.Author.Tests.{not-true, eqb-true, lt-ltb}
 use lib.Dec.{eqb}
 use lib.ListN.{length, take, drop}
 use lib.Seq.{length-take-le}
-use Rattle.lists.specs.Choice.{if_then_else_}
 use Rattle.lists.specs.ChoiceLaws.{and-left, and-right}
 use Rattle.lists.specs.Fold.{all}
 use Rattle.lists.specs.FoldLaws.{all-append}

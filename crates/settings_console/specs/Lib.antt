@@ -1,1 +1,3 @@
 pub mod SettingsConsole
+pub mod SettingsSession
+pub mod SettingsSessionLaws

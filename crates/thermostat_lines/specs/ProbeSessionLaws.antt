@@ -12,8 +12,7 @@ use Rattle.lists.specs.LaidLaws.{laid-front}
 use Rattle.text.specs.Lines.{Line, linesOf}
 use Rattle.pieces.specs.Pieces.{together}
 use Rattle.putting.specs.Putting.{lineRoom}
-use Rattle.gathering.specs.Gathering.{mostHeld}
-use Rattle.sessions.specs.Session.{inTurn, fresh, session, Enough}
+use Rattle.sessions.specs.Session.{inTurn, fresh, session, cut, Enough}
 use Rattle.sessions.specs.SessionLaws.{session-cuts}
 use Rattle.thermostat.specs.declared.Thermostat.{Thermostat}
 use Rattle.thermostat_requests.specs.declared.ProbeRequest.{ProbeRequest}
@@ -25,7 +24,7 @@ use Rattle.thermostat_lines.specs.ProbeSession.{probeConsole}
 use Rattle.thermostat_lines.specs.declared.ProbeSaid.{ProbeSaid}
 
 -- what a line asks for that is cut at 81 characters
-asked-same : (l : Line) → probeAsked (record { chars = take mostHeld (l .chars); fed = l .fed }) ≡ probeAsked l
+asked-same : (l : Line) → probeAsked (cut l) ≡ probeAsked l
 asked-same l = ap (λ (q : ProbeRequest). if l .fed then q else Bad) (held-asks (l .chars))
 
 probe-enough : Enough probeConsole
