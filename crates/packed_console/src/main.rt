@@ -1,6 +1,15 @@
 // Drives a bench that is kept in a table of bytes, and a settings store, by lines: one call a line on
-// standard input, its answer on standard output at once. It only moves bytes: `table_settings` reads a
-// line, unpacks the table, makes the call, packs the bench again and forms the answer.
+// standard input, its answer on standard output at once. It only moves bytes: `gathering` says where a
+// line ends, and `table_settings` reads it, unpacks the table, makes the call, packs the bench again and
+// forms the answer.
+ghost use mathlib.Core.Path.{_≡_};
+ghost use Prim.Native.Nat.{_≤_};
+ghost use lib.ListN.{length};
+ghost use Rattle.text.specs.Lines.{Line};
+ghost use Rattle.search_answers.specs.Whole.{room};
+ghost use Rattle.gathering.specs.Gathering.{mostHeld};
+ghost use Rattle.sessions.specs.Session.{ended, endSaid, after, runAt, Standing, Answerable};
+ghost use Rattle.table_settings.specs.TableSession.{tableState, tableConsole, firstState};
 use gathering::MOST_HELD;
 use libc::STDIN_FILENO;
 use libc::STDOUT_FILENO;
@@ -16,60 +25,72 @@ struct Session {
     going: bool,
 }
 
-// The first bytes of a buffer, in one write.
-fn write_front(bytes: &[u8], count: usize) {
-    if count <= bytes.len() {
-        io::write_all(STDOUT_FILENO, &bytes[..count]);
-    }
+// Hands an answer to the output.
+fn write_answer(text: &[u8])
+    requires { ⌜ Answerable tableConsole firstState (now text) ⌝ }
+{
+    io::write_all(STDOUT_FILENO, text);
 }
 
-// The line of so many characters, answered; whether it has its feed.
-fn answer_line(
+// A line, with its feed or without, answered.
+fn answer_line(t: &mut [u8], store: Store, line: &[u8], fed: bool, out: &mut [u8]) -> Store
+    requires { ⌜ (room ≤ length (now out)) × Answerable tableConsole firstState (tableConsole .says (tableState (now t) store) (record { chars = now line; fed = fed })) ⌝ }
+    ensures { λ r. ⌜ tableState (now (t .exit)) r ≡ tableConsole .next (tableState (now (t .entry)) store) (record { chars = now (line .entry); fed = fed }) ⌝ }
+{
+    let told = table_settings::answer(t, store, line, fed, out);
+    let written = told.written;
+    let count = written.next;
+    write_answer(&out[..count]);
+    told.store
+}
+
+// A line that has its feed is answered, and held no more.
+fn end_line(
     t: &mut [u8],
     store: Store,
     line: &[u8],
     held: usize,
-    fed: bool,
+    whole: bool,
     out: &mut [u8],
-) -> Store {
-    if held <= line.len() {
-        let told = table_settings::answer(t, store, &line[..held], fed, out);
-        let written = told.written;
-        write_front(out, written.next);
-        return told.store;
-    }
-    store
-}
-
-fn take_byte(t: &mut [u8], s: Session, line: &mut [u8], byte: u8, out: &mut [u8]) -> Session {
-    let store = s.store;
-    let gathered = gathering::take_byte(line, s.held, byte);
-    if gathered.whole {
+) -> Session
+    requires { ⌜ (held ≤ length (now line)) × (room ≤ length (now out)) × Answerable tableConsole firstState (endSaid tableConsole (runAt (tableState (now t) store) (now line) held) whole) ⌝ }
+    ensures { λ r. ⌜ (runAt (tableState (now (t .exit)) (r .store)) (now (line .entry)) (r .held) ≡ ended tableConsole (runAt (tableState (now (t .entry)) store) (now (line .entry)) held) whole) × (r .held ≤ held) ⌝ }
+{
+    if whole {
         return Session {
-            store: answer_line(t, store, line, gathered.held, true, out),
+            store: answer_line(t, store, &line[..held], true, out),
             held: 0,
             going: true,
         };
     }
     Session {
         store,
-        held: gathered.held,
+        held,
         going: true,
     }
 }
 
-fn take(t: &mut [u8], start: Session, line: &mut [u8], chunk: &[u8], out: &mut [u8]) -> Session {
+// All that was read, line by line.
+fn take(t: &mut [u8], start: Session, line: &mut [u8], chunk: &[u8], out: &mut [u8]) -> Session
+    requires { ⌜ (room ≤ length (now out)) × Standing tableConsole firstState (tableState (now t) (start .store)) (now line) (start .held) ⌝ }
+    ensures session { λ r. ⌜ runAt (tableState (now (t .exit)) (r .store)) (now (line .exit)) (r .held) ≡ after tableConsole (runAt (tableState (now (t .entry)) (start .store)) (now (line .entry)) (start .held)) (now (chunk .entry)) ⌝ }
+    ensures standing { λ r. ⌜ Standing tableConsole firstState (tableState (now (t .exit)) (r .store)) (now (line .exit)) (r .held) ⌝ }
+{
     let mut s = start;
-    let mut i: usize = 0;
-    while i < chunk.len() {
-        let byte = chunk[i];
-        s = take_byte(t, s, line, byte, out);
-        i += 1;
+    let mut at: usize = 0;
+    while at < chunk.len() {
+        let store = s.store;
+        let gathered = gathering::take_line(line, s.held, chunk, at);
+        s = end_line(t, store, line, gathered.held, gathered.whole, out);
+        at = gathered.next;
     }
     s
 }
 
-fn read_some(t: &mut [u8], s: Session, line: &mut [u8], out: &mut [u8]) -> Session {
+fn read_some(t: &mut [u8], s: Session, line: &mut [u8], out: &mut [u8]) -> Session
+    requires { ⌜ (room ≤ length (now out)) × Standing tableConsole firstState (tableState (now t) (s .store)) (now line) (s .held) ⌝ }
+    ensures standing { λ r. ⌜ Standing tableConsole firstState (tableState (now (t .exit)) (r .store)) (now (line .exit)) (r .held) ⌝ }
+{
     let mut chunk = io::buffer();
     let got = libc::read(STDIN_FILENO, &mut chunk);
     if got <= 0 {
@@ -80,7 +101,10 @@ fn read_some(t: &mut [u8], s: Session, line: &mut [u8], out: &mut [u8]) -> Sessi
 }
 
 // A proved loop ends; this one counts down from more reads than any run makes.
-fn run(t: &mut [u8], line: &mut [u8], out: &mut [u8]) -> Session {
+fn run(t: &mut [u8], line: &mut [u8], out: &mut [u8]) -> Session
+    requires { ⌜ (room ≤ length (now out)) × (length (now line) ≡ mostHeld) × (now t ≡ firstState .table) ⌝ }
+    ensures standing { λ r. ⌜ Standing tableConsole firstState (tableState (now (t .exit)) (r .store)) (now (line .exit)) (r .held) ⌝ }
+{
     let mut s = Session {
         store: settings::new(),
         held: 0,
@@ -98,11 +122,22 @@ fn run(t: &mut [u8], line: &mut [u8], out: &mut [u8]) -> Session {
 }
 
 // A last line without a feed.
-fn finish(t: &mut [u8], s: Session, line: &[u8], out: &mut [u8]) {
+fn finish(t: &mut [u8], s: Session, line: &[u8], out: &mut [u8])
+    requires { ⌜ (room ≤ length (now out)) × Standing tableConsole firstState (tableState (now t) (s .store)) (now line) (s .held) ⌝ }
+{
     let store = s.store;
-    if s.held > 0 {
-        answer_line(t, store, line, s.held, false, out);
+    let held = s.held;
+    if held > 0 {
+        answer_line(t, store, &line[..held], false, out);
     }
+}
+
+// The line and the answer have just the room that they need.
+fn answer_input(t: &mut [u8], line: &mut [u8], out: &mut [u8])
+    requires { ⌜ (room ≤ length (now out)) × (length (now line) ≡ mostHeld) × (now t ≡ firstState .table) ⌝ }
+{
+    let s = run(t, line, out);
+    finish(t, s, line, out);
 }
 
 // The table of the empty bench is zeros.
@@ -110,6 +145,5 @@ fn main() {
     let mut t = [0u8; TABLE_BYTES];
     let mut line = [0u8; MOST_HELD];
     let mut out = [0u8; ROOM];
-    let s = run(&mut t, &mut line, &mut out);
-    finish(&mut t, s, &line, &mut out);
+    answer_input(&mut t, &mut line, &mut out);
 }

@@ -1,2 +1,4 @@
 pub mod TableSettings
 pub mod TableSettingsLaws
+pub mod TableSession
+pub mod TableSessionLaws

@@ -1,17 +1,33 @@
--- A part is as long as asked where it is within the whole. Assumes nothing.
-use lib.Seq.{length-take-le}
+-- What the call leaves at the front of the buffer is what the console says to the line. Assumes nothing.
+use native.Mathlib.Omega.{arith}
+use denote.Ref.{now}
+use lib.ListN.{length-take}
+use Rattle.text.specs.Lines.{Line}
+use Rattle.table_settings.specs.TableSessionLaws.{table-front}
 use borrow.Author.Needs.{needs}
 use Rattle.packed_console.proofs.answer_line.Statement.{statement}
 use Rattle.packed_console.proofs.answer_line.Tie as tie
 
-slice-aggregate-answer : tie.Need-slice-aggregate-answer
-slice-aggregate-answer c = search (needs, length-take-le)
-
 answer-requires : tie.Need-answer-requires
 answer-requires c κs = search needs
 
-write-front-requires : tie.Need-write-front-requires
-write-front-requires c κs = search needs
+slice-reshare-prefix-write-answer : tie.Need-slice-reshare-prefix-write-answer
+slice-reshare-prefix-write-answer c =
+    let told = c .before .before .before .before .before in
+    let a = told .before .before .before .before .before .before in
+    let l : Line = record { chars = now (a .args .line); fed = a .args .fed } in
+    table-front (now (a .args .t)) (a .args .store) l (now (a .args .out)) (a .pre .0) (told .answer .result) (told .answer .ensures .0) (told .answer .last .1 .1 .1 .1 .0) (told .answer .ensures .1 .0) (told .answer .kept .1 .1 .1 .1 .0) (told .answer .last .0) (told .answer .ensures .1 .1) .0
+
+slice-aggregate-write-answer : tie.Need-slice-aggregate-write-answer
+slice-aggregate-write-answer c = simp length-take (omega (arith, slice-reshare-prefix-write-answer (c .before)))
+
+write-answer-requires : tie.Need-write-answer-requires
+write-answer-requires c κs =
+    let told = c .before .before .before .before .before .before in
+    let a = told .before .before .before .before .before .before in
+    let l : Line = record { chars = now (a .args .line); fed = a .args .fed } in
+    let front = table-front (now (a .args .t)) (a .args .store) l (now (a .args .out)) (a .pre .0) (told .answer .result) (told .answer .ensures .0) (told .answer .last .1 .1 .1 .1 .0) (told .answer .ensures .1 .0) (told .answer .kept .1 .1 .1 .1 .0) (told .answer .last .0) (told .answer .ensures .1 .1) in
+    rw (front .1) (a .pre .1)
 
 same-length : tie.Need-same-length
 same-length c = search needs
@@ -20,19 +36,20 @@ same-length-2 : tie.Need-same-length-2
 same-length-2 c = search needs
 
 returns : tie.Need-returns
-returns c = search needs
-
-returns-2 : tie.Need-returns-2
-returns-2 c = search needs
+returns c =
+    let told = c .before .before .before .before .before .before .before .before in
+    let a = told .before .before .before .before .before .before in
+    let l : Line = record { chars = now (a .args .line); fed = a .args .fed } in
+    table-front (now (a .args .t)) (a .args .store) l (now (a .args .out)) (a .pre .0) (told .answer .result) (told .answer .ensures .0) (told .answer .last .1 .1 .1 .1 .0) (told .answer .ensures .1 .0) (told .answer .kept .1 .1 .1 .1 .0) (told .answer .last .0) (told .answer .ensures .1 .1) .2
 
 pub answer-line-spec : {M : Type 1} → statement M
 answer-line-spec =
     tie.close
     (tie.spec
-    slice-aggregate-answer
     answer-requires
-    write-front-requires
+    slice-reshare-prefix-write-answer
+    slice-aggregate-write-answer
+    write-answer-requires
     same-length
     same-length-2
-    returns
-    returns-2)
+    returns)

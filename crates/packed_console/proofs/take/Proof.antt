@@ -1,34 +1,73 @@
--- The loop's invariant: `i` is within what was read, and the buffers keep their lengths. The measure is what is left of it. Assumes nothing.
-use Prim.Native.Nat.{_≤_, _-_}
-use mathlib.Core.Path.{_≡_}
-use lib.ListN.{length}
+-- The loop's invariant: the session stands on what was taken so far, what is still to run of the piece leads where the whole piece leads, and the table and the buffers
+-- have their lengths. The measure is what is left of the piece. Assumes nothing.
+use Prim.Native.Nat.{_≤_, _<_, _-_}
+use mathlib.Core.Path.{_≡_, refl, sym, _∙_}
+use native.Mathlib.Omega.{arith}
+use denote.Ref.{now}
+use lib.ListN.{length, drop}
+use Rattle.sessions.specs.Session.{after, runAt, Standing}
+use Rattle.sessions.specs.SessionLaws.{piece-done, line-taken}
+use Rattle.table_settings.specs.TableSession.{tableState, tableConsole, firstState}
 use borrow.Author.Needs.{needs}
 use Rattle.packed_console.proofs.take.Statement.{statement}
 use Rattle.packed_console.proofs.take.Tie as tie
 
 abbrev Inv-loop : tie.InvT-loop
-Inv-loop t₀ line₀ chunk out₀ s₀ i₀ t line out s i = (i ≤ length chunk) × (length t ≡ length t₀) × (length line ≡ length line₀) × (length out ≡ length out₀)
+Inv-loop t₀ line₀ chunk out₀ s₀ at₀ t line out s at =
+    (at ≤ length chunk) × (length line ≡ length line₀) × (length out ≡ length out₀) × (length t ≡ length t₀)
+    × Standing tableConsole firstState (tableState t (s .store)) line (s .held)
+    × (after tableConsole (runAt (tableState t₀ (s₀ .store)) line₀ (s₀ .held)) chunk ≡ after tableConsole (runAt (tableState t (s .store)) line (s .held)) (drop at chunk))
 
 abbrev μ-loop : tie.MeasureT-loop
-μ-loop t₀ line₀ chunk out₀ s₀ i₀ t line out s i = length chunk - i
+μ-loop t₀ line₀ chunk out₀ s₀ at₀ t line out s at = length chunk - at
 
 loop-holds : tie.Need-loop-holds Inv-loop μ-loop
-loop-holds c = search needs
+loop-holds c = (omega arith, refl, refl, refl, c .before .before .before .before .pre .1, refl)
 
-shared-slice-read-byte : tie.Need-shared-slice-read-byte Inv-loop μ-loop
-shared-slice-read-byte c = search needs
+take-line-requires : tie.Need-take-line-requires Inv-loop μ-loop
+take-line-requires c κs = search needs
 
-take-byte-requires : tie.Need-take-byte-requires Inv-loop μ-loop
-take-byte-requires c κs = search needs
-
-add-i : tie.Need-add-i Inv-loop μ-loop
-add-i c = search needs
+end-line-requires : tie.Need-end-line-requires Inv-loop μ-loop
+end-line-requires c κs =
+    let t = c .before .before .before .before .before in
+    let l = t .before .before .before .before in
+    let a = l .before .before .before .before .before in
+    let before : l .loop .at < length (now (a .args .chunk)) = omega arith in
+    let taken = line-taken (l .loop .inv .4) (now (a .args .chunk)) (l .loop .at) (t .take-line .result) (t .take-line .ensures .0) (t .take-line .last .0) (t .take-line .ensures .1) before in
+    let few = taken .few in
+    let size = l .loop .inv .4 .size in
+    let same = t .take-line .kept .0 in
+    let room = l .loop .inv .2 in
+    let enough = a .pre .0 in
+    (omega arith, omega arith, taken .answers)
 
 loop-less : tie.Need-loop-less Inv-loop μ-loop
-loop-less c = search needs
+loop-less c =
+    let t = c .before .before .before .before .before .before .before .before .before .before in
+    let l = t .before .before .before .before in
+    let a = l .before .before .before .before .before in
+    let before : l .loop .at < length (now (a .args .chunk)) = omega arith in
+    let taken = line-taken (l .loop .inv .4) (now (a .args .chunk)) (l .loop .at) (t .take-line .result) (t .take-line .ensures .0) (t .take-line .last .0) (t .take-line .ensures .1) before in
+    let on = taken .on in
+    let within = taken .within in
+    omega arith
 
 loop-again : tie.Need-loop-again Inv-loop μ-loop
-loop-again c = search needs
+loop-again c =
+    let e = c .before .before .before .before in
+    let t = e .before .before .before .before .before .before in
+    let l = t .before .before .before .before in
+    let a = l .before .before .before .before .before in
+    let before : l .loop .at < length (now (a .args .chunk)) = omega arith in
+    let taken = line-taken (l .loop .inv .4) (now (a .args .chunk)) (l .loop .at) (t .take-line .result) (t .take-line .ensures .0) (t .take-line .last .0) (t .take-line .ensures .1) before in
+    let is = e .end-line .ensures .0 in (
+      taken .within,
+      t .take-line .kept .0 ∙ l .loop .inv .1,
+      e .end-line .kept .1 .1 .1 .1 .1 .0 ∙ l .loop .inv .2,
+      e .end-line .kept .0 ∙ l .loop .inv .3,
+      taken .stands (tableState (e .end-line .last .0) (e .end-line .result .store)) (e .end-line .result .held) (t .take-line .kept .0) is (e .end-line .ensures .1),
+      l .loop .inv .5 ∙ taken .rest (tableState (e .end-line .last .0) (e .end-line .result .store)) (e .end-line .result .held) is,
+    )
 
 same-length : tie.Need-same-length Inv-loop μ-loop
 same-length c = search needs
@@ -40,7 +79,12 @@ same-length-3 : tie.Need-same-length-3 Inv-loop μ-loop
 same-length-3 c = search needs
 
 returns : tie.Need-returns Inv-loop μ-loop
-returns c = search needs
+returns c =
+    let l = c .before in
+    let a = l .before .before .before .before .before in
+    let past : length (now (a .args .chunk)) ≤ l .loop .at = omega arith in
+    let done = piece-done tableConsole (runAt (tableState (l .loop .t) (l .loop .s .store)) (l .loop .line) (l .loop .s .held)) (now (a .args .chunk)) (l .loop .at) past in
+    (sym (l .loop .inv .5 ∙ done), l .loop .inv .4)
 
 pub take-spec : {M : Type 1} → statement M
 take-spec =
@@ -49,9 +93,8 @@ take-spec =
     Inv-loop
     μ-loop
     loop-holds
-    shared-slice-read-byte
-    take-byte-requires
-    add-i
+    take-line-requires
+    end-line-requires
     loop-less
     loop-again
     same-length

@@ -1,0 +1,44 @@
+-- With its feed the line is answered, and nothing is held; without, all is as it was. Assumes nothing.
+use mathlib.Core.Path.{refl, ap}
+use native.Mathlib.Omega.{arith}
+use lib.Seq.{length-take-le}
+use Rattle.sessions.specs.Session.{fresh}
+use Rattle.table_settings.specs.TableSession.{TableState}
+use borrow.Author.Needs.{needs}
+use Rattle.packed_console.proofs.end_line.Statement.{statement}
+use Rattle.packed_console.proofs.end_line.Tie as tie
+
+slice-aggregate-answer-line : tie.Need-slice-aggregate-answer-line
+slice-aggregate-answer-line c = search (needs, length-take-le)
+
+answer-line-requires : tie.Need-answer-line-requires
+answer-line-requires c κs =
+    let fed = c .before .before .before in
+    let a = fed .before .before .before .before in
+    (a .pre .1, rw (fed .if1 .taken) at (a .pre .2))
+
+same-length : tie.Need-same-length
+same-length c = search needs
+
+same-length-2 : tie.Need-same-length-2
+same-length-2 c = search needs
+
+returns : tie.Need-returns
+returns c =
+    let answered = c .before .before .before .before in
+    let fed = answered .before .before .before .before in
+    rw (fed .if1 .taken) (ap (λ (v : TableState). fresh v) (answered .answer-line .ensures), omega arith)
+
+returns-2 : tie.Need-returns-2
+returns-2 c = rw (c .if1 .left) (refl, omega arith)
+
+pub end-line-spec : {M : Type 1} → statement M
+end-line-spec =
+    tie.close
+    (tie.spec
+    slice-aggregate-answer-line
+    answer-line-requires
+    same-length
+    same-length-2
+    returns
+    returns-2)
