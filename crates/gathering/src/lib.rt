@@ -3,9 +3,7 @@ ghost use mathlib.Core.Path.{_≡_};
 ghost use Prim.Native.Nat.{_+_};
 ghost use lib.ListN.{length};
 ghost use Rattle.lists.specs.Laid.{laid};
-ghost use Rattle.gathering.specs.Bytes.{byteTaken, byteLeaves};
 ghost use Rattle.gathering.specs.Gathering.{fitting, taken, takenLeaves};
-use text::LINE_FEED;
 
 // As much of a line as tells that it is over-long: one character more than it may have.
 pub const MOST_HELD: usize = 81;
@@ -65,30 +63,4 @@ pub fn take_line(line: &mut [u8], held: usize, piece: &[u8], at: usize) -> Gathe
         whole: false,
         next: end,
     }
-}
-
-// What came of a byte.
-pub struct ByteGathered {
-    // how many characters are held
-    pub held: usize,
-    // whether the line has ended
-    pub whole: bool,
-}
-
-// One byte of input: a feed ends the line, any other character is held while there is room.
-pub fn take_byte(line: &mut [u8], held: usize, byte: u8) -> ByteGathered
-    ensures answer { λ r. ⌜ r ≡ byteTaken (now (line .entry)) held byte ⌝ }
-    ensures written { λ r. ⌜ now (line .exit) ≡ byteLeaves (now (line .entry)) held byte ⌝ }
-{
-    if byte == LINE_FEED {
-        return ByteGathered { held, whole: true };
-    }
-    if held < line.len() {
-        line[held] = byte;
-        return ByteGathered {
-            held: held + 1,
-            whole: false,
-        };
-    }
-    ByteGathered { held, whole: false }
 }
