@@ -20,6 +20,7 @@
 --     SessionClaim C         that what is said does not depend on where the text was cut: it is what is said to the lines of the whole text in turn
 --     runAt s line held      the run of a program: its state, and the line that stands at the front of a buffer
 --     Reached C s r          a run that a program may come to from the state s
+--     Led C s r              a run that some text has led to
 --     Standing C s v line held  where a program stands between two reads: in the state v, with so many characters of a line in a buffer of 81
 --     Answerable C s t       bytes that it may hand to its output
 -- Assumes nothing.
@@ -134,6 +135,11 @@ runAt s line held = record { state = s; held = take held line }
 pub data Reached (C : Console) (s : C .State) : Run (C .State) → Type 0 where
   start : Reached C s (fresh s)
   more : {r : Run (C .State)} → Reached C s r → (x : List ℕ) → Reached C s (ran C r (firstLine x))
+
+-- a run that some text has led to
+pub record Led (C : Console) (s : C .State) (r : Run (C .State)) : Type 0 where
+  pub text : List ℕ
+  pub is : r ≡ after C (fresh s) text
 
 -- where a program stands between two reads: in a run that it may come to, with what is held of the line at the front of a buffer of 81 bytes
 pub record Standing (C : Console) (s v : C .State) (line : List ℕ) (held : ℕ) : Type 0 where

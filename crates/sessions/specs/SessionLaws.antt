@@ -1,26 +1,29 @@
--- What is said to a text that comes in pieces is what is said to its lines in turn, wherever it was cut; and a piece as a program walks it, line by line.
+-- What is said to a text that comes in pieces is what is said to its lines in turn, wherever it was cut; a run that a program may come to is one that some text has
+-- led to; and a piece as a program walks it, line by line.
 -- A piece is walked byte by byte: a byte that is no feed makes the held line longer by one, and a feed ends it. What is held are the first 81 characters of the line
 -- that the bytes since the last feed make, and by the premise those say what the line says. C is the console, s a state, u the line since the last feed.
 -- Assumes nothing.
-use Prim.Native.Nat.{ℕ, zero, suc, _<_, _≤_}
+use Prim.Native.Nat.{ℕ, zero, suc, _+_, _<_, _≤_}
 use mathlib.Core.Path.{_≡_, refl, sym, ap, _∙_}
 use mathlib.Core.Bool.{Bool, true, false, not, _&&_}
 use mathlib.Core.List.{List, [], _∷_, _++_, append-assoc, append-nil}
 use native.Mathlib.Omega.{arith}
 use borrow.Author.Tests.{not-true, eqb-true, lt-ltb}
-use lib.Dec.{eqb}
-use lib.ListN.{length, take, drop}
-use lib.Seq.{length-take-le}
+use lib.Dec.{eqb, leb·suc-suc}
+use lib.ListN.{length, take, drop, length-take}
+use lib.Seq.{take-all, length-take-le}
+use Rattle.lists.specs.Choice.{if_then_else_}
 use Rattle.lists.specs.ChoiceLaws.{and-left, and-right}
+use Rattle.lists.specs.First.{firstAt}
 use Rattle.lists.specs.Fold.{all}
 use Rattle.lists.specs.FoldLaws.{all-append}
-use Rattle.text.specs.Lines.{Line, lineFeed, notFeed, longer, linesOf}
+use Rattle.text.specs.Lines.{Line, lineFeed, notFeed, longer, linesOf, feedAt, firstLine, width}
 use Rattle.text.specs.LinesLaws.{lines-cut, lines-done, lines-next, line-ends}
 use Rattle.pieces.specs.Pieces.{together}
 use Rattle.gathering.specs.Gathering.{mostHeld, partAt, taken, takenLeaves}
 use Rattle.gathering.specs.GatheringLaws.{taken-few, taken-holds}
 use Rattle.gathering.specs.declared.Gathered.{Gathered}
-use Rattle.sessions.specs.Session.{Console, inTurn, Run, fresh, grown, ended, endSaid, ranAll, heardAll, after, saidOn, atEnd, session, Enough, SessionClaim, ran, heard, runAt, start, more, Standing, Answerable, of-line, of-end}
+use Rattle.sessions.specs.Session.{Console, inTurn, Run, fresh, grown, ended, endSaid, ranAll, heardAll, after, saidOn, atEnd, session, Enough, SessionClaim, ran, heard, runAt, Reached, start, more, Led, Standing, Answerable, of-line, of-end}
 
 -- what is cut twice is cut once
 take-again : (n : ℕ) (u v : List ℕ) → take n (take n u ++ v) ≡ take n (u ++ v)
@@ -134,6 +137,80 @@ module _ (C : Console) (enough : Enough C) where
 pub session-cuts : (C : Console) → SessionClaim C
 unfolding all
 session-cuts C enough s cs = pieces-said C enough cs s [] refl
+
+-- ## A run that a program may come to is one that some text has led to
+
+-- the first line behind a character that is no feed
+first-other : (d : ℕ) (x : List ℕ) → eqb d lineFeed ≡ false
+    → (firstLine (d ∷ x) ≡ record { chars = d ∷ firstLine x .chars; fed = firstLine x .fed }) × (width (firstLine (d ∷ x)) ≡ suc (width (firstLine x)))
+unfolding firstAt
+first-other d x e =
+    let line : firstLine (d ∷ x) ≡ record { chars = d ∷ firstLine x .chars; fed = firstLine x .fed } = rw (e, leb·suc-suc (suc (feedAt x)) (length x)) refl in
+    (line, ap width line ∙ by-feed (firstLine x .fed))
+  where
+    by-feed : (t : Bool) → (if t then length (d ∷ firstLine x .chars) + 1 else length (d ∷ firstLine x .chars)) ≡ suc (if t then length (firstLine x .chars) + 1 else length (firstLine x .chars))
+    by-feed true = omega arith
+    by-feed false = refl
+
+module _ (C : Console) where
+  -- one byte more
+  after-other : (r : Run (C .State)) (d : ℕ) (t : List ℕ) → eqb d lineFeed ≡ false → after C r (d ∷ t) ≡ after C (grown r (one d)) t
+  unfolding linesOf
+  after-other r d t e = let lines : linesOf (d ∷ t) ≡ longer d (linesOf t) = rw e refl in ap (ranAll C r) lines ∙ ran-longer C r d (linesOf t)
+
+  after-feed : (r : Run (C .State)) (d : ℕ) (t : List ℕ) → eqb d lineFeed ≡ true → after C r (d ∷ t) ≡ after C (ran C r (lineOf [] true)) t
+  unfolding linesOf ranAll
+  after-feed r d t e = let lines : linesOf (d ∷ t) ≡ lineOf [] true ∷ linesOf t = rw e refl in ap (ranAll C r) lines
+
+  after-append : (r : Run (C .State)) (t u : List ℕ) → after C r (t ++ u) ≡ after C (after C r t) u
+  unfolding linesOf ranAll
+  after-append r [] u = refl
+  after-append r (d ∷ t) u = by-test (eqb d lineFeed) refl (λ q. after-append q t u)
+    where
+      by-test : (b : Bool) → eqb d lineFeed ≡ b → ((q : Run (C .State)) → after C q (t ++ u) ≡ after C (after C q t) u) → after C r (d ∷ (t ++ u)) ≡ after C (after C r (d ∷ t)) u
+      by-test true e on = after-feed r d (t ++ u) e ∙ on (ran C r (lineOf [] true)) ∙ ap (λ (q : Run (C .State)). after C q u) (sym (after-feed r d t e))
+      by-test false e on = after-other r d (t ++ u) e ∙ on (grown r (one d)) ∙ ap (λ (q : Run (C .State)). after C q u) (sym (after-other r d t e))
+
+  few-held : (u : List ℕ) → length (take mostHeld u) ≤ mostHeld
+  few-held u = let l = length-take mostHeld u in omega arith
+
+  -- the first line of some bytes, by the bytes that it takes
+  line-after : (x : List ℕ) (r : Run (C .State)) → length (r .held) ≤ mostHeld → after C r (take (width (firstLine x)) x) ≡ ran C r (firstLine x)
+  unfolding linesOf ranAll firstAt
+  line-after [] r few =
+      let same : take mostHeld (r .held ++ []) ≡ r .held = ap (take mostHeld) (append-nil (r .held)) ∙ take-all mostHeld (r .held) few in
+      ap (λ (u : List ℕ). record { state = r .state; held = u }) (sym same)
+  line-after (d ∷ x) r few = by-test (eqb d lineFeed) refl (line-after x (grown r (one d)) (few-held (r .held ++ (d ∷ []))))
+    where
+      by-test : (b : Bool) → eqb d lineFeed ≡ b
+          → after C (grown r (one d)) (take (width (firstLine x)) x) ≡ ran C (grown r (one d)) (firstLine x)
+          → after C r (take (width (firstLine (d ∷ x))) (d ∷ x)) ≡ ran C r (firstLine (d ∷ x))
+      by-test true e on =
+          let some : 0 < suc (length x) = omega arith in
+          let line : firstLine (d ∷ x) ≡ lineOf [] true = rw (e, lt-ltb 0 (suc (length x)) some) refl in
+          ap (λ (l : Line). after C r (take (width l) (d ∷ x))) line ∙ after-feed r d [] e ∙ ap (ran C r) (sym line)
+      by-test false e on =
+          let first = first-other d x e in
+          ap (λ (n : ℕ). after C r (take n (d ∷ x))) (first .1) ∙ after-other r d (take (width (firstLine x)) x) e ∙ on
+          ∙ ap (λ (q : Run (C .State)). ended C q (firstLine x .fed)) (sym (grown-twice C r d (firstLine x))) ∙ ap (ran C r) (sym (first .0))
+
+  reached-few : {s : C .State} {r : Run (C .State)} → Reached C s r → length (r .held) ≤ mostHeld
+  reached-few start = omega arith
+  reached-few (more {r = r} reached x) = by-feed (firstLine x .fed)
+    where
+      by-feed : (b : Bool) → length (ended C (grown r (firstLine x)) b .held) ≤ mostHeld
+      by-feed true = omega arith
+      by-feed false = few-held (r .held ++ firstLine x .chars)
+
+  pub reached-led : {s : C .State} {r : Run (C .State)} → Reached C s r → Led C s r
+  unfolding linesOf ranAll
+  reached-led start = record { text = []; is = refl }
+  reached-led {s = s} (more {r = r} reached x) =
+      let led = reached-led reached in
+      let bytes = take (width (firstLine x)) x in record {
+        text = led .text ++ bytes;
+        is = sym (after-append (fresh s) (led .text) bytes ∙ ap (λ (q : Run (C .State)). after C q bytes) (sym (led .is)) ∙ line-after x r (reached-few reached));
+      }
 
 -- ## A piece as a program walks it, line by line
 
