@@ -6,7 +6,6 @@ use mathlib.Core.List.{List}
 use native.Mathlib.Omega.{arith}
 use lib.ListN.{length}
 use borrow.Author.Tests.{le-leb}
-use Rattle.laying.specs.declared.Written.{Written}
 use Rattle.putting.specs.Putting.{lineRoom, lineLeaves}
 use Rattle.search_answers.specs.Whole.{room}
 use Rattle.settings.specs.declared.Store.{Store}
