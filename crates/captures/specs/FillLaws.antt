@@ -6,22 +6,21 @@
 -- Assumes nothing.
 use Prim.Native.Nat.{ℕ, _+_, _<_, _≤_}
 use mathlib.Core.Path.{_≡_, refl, sym, ap, _∙_}
-use mathlib.Core.Bool.{Bool, true, false, not, _&&_}
+use mathlib.Core.Bool.{Bool, true, false, not}
 use mathlib.Core.List.{List, [], _∷_, _++_, append-assoc, append-nil}
 use native.Mathlib.Omega.{arith}
-use borrow.Author.Tests.{eqb-true, eqb-false, leb-true, leb-false, lt-leb, not-true}
+use borrow.Author.Tests.{eqb-true, eqb-false, leb-true, leb-false, lt-leb}
 use lib.Dec.{eqb, leb}
 use lib.ListN.{length, length-append}
 use Rattle.lists.specs.Choice.{if_then_else_}
-use Rattle.lists.specs.ChoiceLaws.{and-left, and-right}
 use Rattle.lists.specs.Fold.{fold, all}
 use Rattle.lists.specs.FoldLaws.{all-append}
 use Rattle.lists.specs.Laid.{laid}
 use Rattle.lists.specs.LaidLaws.{laid-none, laid-more, laid-length}
 use Rattle.refusals.specs.Refusals.{accepted, noRoom, notHex, malformed}
 use Rattle.text.specs.Digits.{spells, numberIn}
-use Rattle.text.specs.Lines.{lineFeed, notFeed, longer, linesOf}
-use Rattle.text.specs.LinesLaws.{lines-cut}
+use Rattle.text.specs.Lines.{lineFeed, notFeed, linesOf}
+use Rattle.text.specs.LinesLaws.{lines-cut, plain-lines}
 use Rattle.laying.specs.declared.Written.{Written}
 use Rattle.laying.specs.LayingLaws.{lay-fits, lay-short}
 use Rattle.frame.specs.declared.Frame.{Frame}
@@ -151,14 +150,6 @@ closing-came n out f c x room (short h e) =
     let size = laid-length out n (fedLine f) room in
     let sum = length-append (fedLine f) (writeAll (c .frames)) in
     short (omega arith) e
-
--- a line that has no feed
-plain-lines : (c : ℕ) (u : List ℕ) → all notFeed (c ∷ u) ≡ true → linesOf (c ∷ u) ≡ record { chars = c ∷ u; fed = false } ∷ []
-unfolding linesOf all
-plain-lines c [] h = rw (not-true (eqb c lineFeed) (and-left (notFeed c) true h)) refl
-plain-lines c (d ∷ u) h =
-    let rest = plain-lines d u (and-right (notFeed c) (notFeed d && all notFeed u) h) in
-    rw (not-true (eqb c lineFeed) (and-left (notFeed c) (notFeed d && all notFeed u) h)) (ap (longer c) rest)
 
 pub plain-course : (w : Wire) (u : List ℕ) → all notFeed u ≡ true → courseOf w (linesOf u) ≡ quiet w accepted u
 unfolding courseOf linesOf

@@ -5,20 +5,19 @@
 -- Assumes nothing.
 use Prim.Native.Nat.{ℕ, zero, suc, _+_, _<_, _≤_}
 use mathlib.Core.Path.{_≡_, refl, sym, ap, _∙_}
-use mathlib.Core.Bool.{Bool, true, false, not, _&&_}
+use mathlib.Core.Bool.{Bool, true, false, not}
 use mathlib.Core.List.{List, [], _∷_, _++_, append-assoc, append-nil}
 use native.Mathlib.Omega.{arith}
-use borrow.Author.Tests.{not-true, eqb-true, lt-ltb}
+use borrow.Author.Tests.{eqb-true, lt-ltb}
 use lib.Dec.{eqb, leb·suc-suc}
 use lib.ListN.{length, take, drop, length-take}
 use lib.Seq.{take-all, length-take-le}
 use Rattle.lists.specs.Choice.{if_then_else_}
-use Rattle.lists.specs.ChoiceLaws.{and-left, and-right}
 use Rattle.lists.specs.First.{firstAt}
 use Rattle.lists.specs.Fold.{all}
 use Rattle.lists.specs.FoldLaws.{all-append}
 use Rattle.text.specs.Lines.{Line, lineFeed, notFeed, longer, linesOf, feedAt, firstLine, width}
-use Rattle.text.specs.LinesLaws.{lines-cut, lines-done, lines-next, line-ends}
+use Rattle.text.specs.LinesLaws.{lines-cut, plain-lines, lines-done, lines-next, line-ends}
 use Rattle.pieces.specs.Pieces.{together}
 use Rattle.gathering.specs.Gathering.{mostHeld, partAt, taken, takenLeaves}
 use Rattle.gathering.specs.GatheringLaws.{taken-few, taken-holds}
@@ -30,14 +29,6 @@ take-again : (n : ℕ) (u v : List ℕ) → take n (take n u ++ v) ≡ take n (u
 take-again zero u v = refl
 take-again (suc n) [] v = refl
 take-again (suc n) (c ∷ u) v = ap (λ (t : List ℕ). c ∷ t) (take-again n u v)
-
--- a line without a feed is all of its text
-plain-lines : (c : ℕ) (u : List ℕ) → all notFeed (c ∷ u) ≡ true → linesOf (c ∷ u) ≡ record { chars = c ∷ u; fed = false } ∷ []
-unfolding linesOf all
-plain-lines c [] h = rw (not-true (eqb c lineFeed) (and-left (notFeed c) true h)) refl
-plain-lines c (d ∷ u) h =
-    let rest = plain-lines d u (and-right (notFeed c) (notFeed d && all notFeed u) h) in
-    rw (not-true (eqb c lineFeed) (and-left (notFeed c) (notFeed d && all notFeed u) h)) (ap (longer c) rest)
 
 -- one character, without a feed
 abbrev one : ℕ → Line

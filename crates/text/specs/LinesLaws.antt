@@ -2,6 +2,7 @@
 -- places; and that the lines put back are the bytes.
 --     lines-bytes            the lines of some bytes put back are the bytes
 --     lines-cut              a line with its feed in front of some bytes is cut off as it was
+--     plain-lines            a line without a feed is all of its text
 --     lines-next, lines-done the lines from a place on, and that there are none past the end
 --     lines-fed, lines-open  the same by where the first line ends
 --     same-line-equal, same-line-itself          the test whether two lines are the same is equality
@@ -80,6 +81,14 @@ pub lines-cut : (cs s : List ℕ) → all notFeed cs ≡ true
 unfolding linesOf all
 lines-cut [] s h = refl
 lines-cut (c ∷ cs) s h = let e = not-true (eqb c lineFeed) (and-left (notFeed c) (all notFeed cs) h) in rw (e, lines-cut cs s (and-right (notFeed c) (all notFeed cs) h))
+
+-- a line without a feed is all of its text
+pub plain-lines : (c : ℕ) (u : List ℕ) → all notFeed (c ∷ u) ≡ true → linesOf (c ∷ u) ≡ record { chars = c ∷ u; fed = false } ∷ []
+unfolding linesOf all
+plain-lines c [] h = rw (not-true (eqb c lineFeed) (and-left (notFeed c) true h)) refl
+plain-lines c (d ∷ u) h =
+    let rest = plain-lines d u (and-right (notFeed c) (notFeed d && all notFeed u) h) in
+    rw (not-true (eqb c lineFeed) (and-left (notFeed c) (notFeed d && all notFeed u) h)) (ap (longer c) rest)
 
 -- ## One line after the other, by places
 

@@ -1,4 +1,4 @@
--- The loop's invariant: the session stands on what was taken so far, what is still to run of the piece leads where the whole piece leads, and the table and the buffers
+-- The loop's invariant: the run stands on what was taken so far, what is still to run of the piece leads where the whole piece leads, and the table and the buffers
 -- have their lengths. The measure is what is left of the piece. Assumes nothing.
 use Prim.Native.Nat.{_≤_, _<_, _-_}
 use mathlib.Core.Path.{_≡_, refl, sym, _∙_}
