@@ -3,21 +3,21 @@
 use Prim.Native.Nat.{ℕ, suc, _+_, _-_, _<_, zero, _*_}
 use mathlib.Core.Path.{_≡_, refl, ap, _∙_, sym}
 use native.Mathlib.Omega.{arith}
-use Rattle.search_law.specs.Wire.{slots}
+use Rattle.search_laws.specs.Wire.{slots}
 use Rattle.bench.specs.declared.Bench.{Bench}
 use Rattle.commands.specs.Commands.{readScratchpad}
 use Rattle.rom.specs.Code.{familyOf}
 use Rattle.scratchpad.specs.Judgement.{judged}
 use Rattle.at_code.specs.Replies.{replied}
-use Rattle.searching.specs.Buses.{calls}
+use Rattle.master_rules.specs.Buses.{calls}
 use mathlib.Core.Bool.{Bool, true}
 use mathlib.Core.List.{List, [], _∷_, _++_}
 use native.Mathlib.Numerals.{add-one}
 use lib.ListN.{length, set, replicate, replicate-append-replicate}
-use Rattle.lists.specs.Laid.{laid}
-use Rattle.lists.specs.LaidLaws.{laid-store}
-use Rattle.search_law.specs.Reads.{readSlots}
-use Rattle.search_law.specs.Issued.{slots-append}
+use Rattle.basic_laws.specs.Laid.{laid}
+use Rattle.basic_laws.specs.LaidLaws.{laid-store}
+use Rattle.search_laws.specs.Reads.{readSlots}
+use Rattle.search_laws.specs.Issued.{slots-append}
 use Rattle.master_rules.specs.Access.{byteShown, afterSlots, bytesShown, addressed, judgedReply, fetched}
 
 -- ## Bytes, as the loop over them makes them

@@ -6,9 +6,9 @@ ghost use Rattle.at_code.specs.Replies.{byteReadOf, replied};
 use bench::Bench;
 use device::Settings;
 use family::Properties;
-use fine::FineDegrees;
 use master_rules::Access;
 use scratchpad::NineBytes;
+use scratchpad::fine::FineDegrees;
 use temperature::Reading;
 use temperature::Sixteenths;
 

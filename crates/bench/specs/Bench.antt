@@ -8,9 +8,9 @@ use mathlib.Core.Bool.{Bool}
 use mathlib.Core.List.{List}
 use lib.Dec.{eqb}
 use lib.ListN.{take, replicate}
-use Rattle.lists.specs.First.{firstWith}
+use Rattle.basic_laws.specs.First.{firstWith}
 use Rattle.device.specs.Power.{joined}
-use Rattle.bench_wire.specs.Wire.{freeWire}
+use Rattle.bench.specs.Wire.{freeWire}
 use Rattle.device.specs.declared.Device.{Device}
 use Rattle.device.specs.declared.Power.the-variants.{External}
 use Rattle.bench.specs.declared.Bench.{Bench}

@@ -5,7 +5,7 @@ use mathlib.Core.Path.{_≡_}
 use native.Mathlib.Omega.{arith}
 use lib.Dec.{eqb}
 use lib.ListN.{length, length-take}
-use Rattle.lists.specs.FirstLaws.{first-cases}
+use Rattle.basic_laws.specs.FirstLaws.{first-cases}
 use Rattle.bench.specs.declared.Bench.{Bench}
 use Rattle.bench.specs.declared.Place.the-variants.{At, Nowhere}
 use Rattle.bench.specs.Bench.{live, placeOf}

@@ -9,7 +9,7 @@ use Prim.Native.Nat.{ℕ, _+_}
 use mathlib.Core.Bool.{Bool, true, false, not}
 use lib.Dec.{eqb, ltb}
 use lib.ListN.{getD, set}
-use Rattle.lists.specs.Choice.{if_then_else_}
+use Rattle.basic_laws.specs.Choice.{if_then_else_}
 use Rattle.refusals.specs.Refusals.{accepted, duplicate, benchFull, notFound, wrongPins}
 use Rattle.family.specs.Families.{pinsWrong}
 use Rattle.rom.specs.Code.{codeRefusal}

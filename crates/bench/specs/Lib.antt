@@ -1,6 +1,12 @@
+pub mod Taken
+pub mod Wire
 pub mod Bench
 pub mod BenchLaws
 pub mod Slot
 pub mod Calls
 pub mod Still
 pub mod StillLaws
+pub mod Laws
+pub mod Everywhere
+pub mod Sound
+pub mod SoundLaws

@@ -5,9 +5,9 @@
 --     resetDone b     a reset: every live device listens for a ROM command; presence is shown if there is any device
 use mathlib.Core.Bool.{Bool, false}
 use lib.Dec.{ltb}
-use Rattle.lists.specs.Choice.{if_then_else_}
+use Rattle.basic_laws.specs.Choice.{if_then_else_}
 use Rattle.refusals.specs.Refusals.{accepted, wireBusy}
-use Rattle.bench_wire.specs.Wire.{lineShown, allHeard, allRestarted}
+use Rattle.bench.specs.Wire.{lineShown, allHeard, allRestarted}
 use Rattle.bench.specs.declared.Bench.{Bench}
 use Rattle.bench.specs.declared.ResetDone.{ResetDone}
 use Rattle.bench.specs.declared.Slotted.{Slotted}

@@ -1,6 +1,8 @@
 // A bench of up to 32 thermometers on one wire. The bench goes in by value and comes back in the
 // answer; its fields are private, so that only these calls make or change one, and a table that a
 // host lends: `of_records`.
+pub mod wire;
+
 ghost use Prim.Native.Nat.{_<_};
 ghost use mathlib.Core.Bool.{_&&_};
 ghost use mathlib.Core.Path.{_≡_};
@@ -9,12 +11,15 @@ ghost use Rattle.bench.specs.Bench.{vacant, emptyBench, placeOf, free};
 ghost use Rattle.bench.specs.Slot.{slotted, resetDone};
 ghost use Rattle.bench.specs.Still.{stillAt};
 ghost use Rattle.bench.specs.Calls.{putLast, addedTo, deviceAt, putBack, conversionFinished, copyFinished, powerCycled, looked};
-use bench_wire::Table;
+use crate::wire::Table;
 use device::Device;
 use device::Ended;
 use device::Joining;
 use device::Power;
 use device::Stage;
+use device::hearing;
+use device::offer;
+use device::power_and_finishes;
 use temperature::Sixteenths;
 
 pub struct Bench {
@@ -56,7 +61,7 @@ pub struct Slotted {
 fn vacant_place() -> Device
     ensures answer { λ r. ⌜ r ≡ vacant ⌝ }
 {
-    device_power::join(Joining {
+    power_and_finishes::join(Joining {
         code: 0,
         power: Power::External,
         high: 0,
@@ -102,7 +107,7 @@ pub fn is_free(bench: Bench) -> bool
     ensures answer { λ r. ⌜ r ≡ free bench ⌝ }
 {
     let devices = bench.devices;
-    bench_wire::is_free(devices, bench.count)
+    wire::is_free(devices, bench.count)
 }
 
 // Whether a slot leaves a device in this stage as it is.
@@ -132,7 +137,7 @@ fn line_with(line: bool, d: Device) -> bool
     ensures answer { λ r. ⌜ r ≡ (line && offerOf d) ⌝ }
 {
     if line {
-        return device_offer::offer(d);
+        return offer::offer(d);
     }
     false
 }
@@ -143,7 +148,7 @@ pub fn slot(bench: Bench, bit: bool) -> Slotted
     ensures answer { λ r. ⌜ r ≡ slotted bench bit ⌝ }
 {
     let mut next = bench.devices;
-    let taken = bench_wire::places(bench.count);
+    let taken = wire::places(bench.count);
     let mut line = bit;
     let mut i: usize = 0;
     while i < taken {
@@ -163,7 +168,7 @@ pub fn slot(bench: Bench, bit: bool) -> Slotted
         let d = next[j];
         let stage = d.stage;
         if !is_still(stage) {
-            next[j] = device_hear::hear(d, line);
+            next[j] = hearing::hear(d, line);
         }
         j += 1;
     }
@@ -183,7 +188,7 @@ pub fn reset(bench: Bench) -> ResetDone
 {
     if is_free(bench) {
         let devices = bench.devices;
-        let next = bench_wire::restart_all(devices, bench.count);
+        let next = wire::restart_all(devices, bench.count);
         return ResetDone {
             refusal: refusals::ACCEPTED,
             presence: 0 < bench.count,
@@ -237,7 +242,7 @@ fn put_last(bench: Bench, new: Joining) -> Changed
         };
     }
     let mut devices = bench.devices;
-    devices[place] = device_power::join(new);
+    devices[place] = power_and_finishes::join(new);
     Changed {
         refusal: refusals::ACCEPTED,
         bench: Bench {
@@ -282,7 +287,7 @@ pub fn finish_conversion(bench: Bench, code: u64, count: Sixteenths) -> Changed
         Place::At(i) => put_back(
             bench,
             i,
-            device_power::end_conversion(device_at(bench, i), count),
+            power_and_finishes::end_conversion(device_at(bench, i), count),
         ),
         Place::Nowhere => Changed {
             refusal: refusals::NOT_FOUND,
@@ -297,7 +302,7 @@ pub fn finish_copy(bench: Bench, code: u64) -> Changed
 {
     let place = find(bench, code);
     match place {
-        Place::At(i) => put_back(bench, i, device_power::end_copy(device_at(bench, i))),
+        Place::At(i) => put_back(bench, i, power_and_finishes::end_copy(device_at(bench, i))),
         Place::Nowhere => Changed {
             refusal: refusals::NOT_FOUND,
             bench,
@@ -312,7 +317,7 @@ pub fn power_cycle(bench: Bench, code: u64) -> Changed
     let place = find(bench, code);
     match place {
         Place::At(i) => {
-            let device = device_power::power_cycle(device_at(bench, i));
+            let device = power_and_finishes::power_cycle(device_at(bench, i));
             let ended = Ended {
                 refusal: refusals::ACCEPTED,
                 device,

@@ -1,21 +1,23 @@
 // Drives a bench and a settings store by lines: one call a line on standard input, its answer on standard
-// output at once. It only moves bytes: `gathering` says where a line ends, and `settings_console` reads
+// output at once. It only moves bytes: `sessions::gathering` says where a line ends, and `bench_session::settings_console` reads
 // it, makes the call and forms the answer.
 ghost use mathlib.Core.Path.{_≡_};
 ghost use Prim.Native.Nat.{_≤_};
 ghost use lib.ListN.{length};
 ghost use Rattle.text.specs.Lines.{Line};
-ghost use Rattle.search_answers.specs.Whole.{room};
-ghost use Rattle.gathering.specs.Gathering.{mostHeld};
+ghost use Rattle.bench_answers.specs.Whole.{room};
+ghost use Rattle.sessions.specs.Gathering.{mostHeld};
 ghost use Rattle.sessions.specs.Session.{ended, endSaid, after, runAt, Standing, Answerable};
-ghost use Rattle.settings_console.specs.SettingsSession.{both, benchConsole, nothingYet};
+ghost use Rattle.bench_session.specs.SettingsSession.{both, benchConsole, nothingYet};
 use bench::Bench;
-use gathering::MOST_HELD;
+use bench_answers::search_answers::ROOM;
+use bench_session::settings_console;
+use bench_session::settings_console::Told;
 use libc::STDIN_FILENO;
 use libc::STDOUT_FILENO;
-use search_answers::ROOM;
+use sessions::gathering;
+use sessions::gathering::MOST_HELD;
 use settings::Store;
-use settings_console::Told;
 
 // A run so far: the bench, the store, how many characters of the line not yet ended are held, and whether
 // input may follow.

@@ -1,46 +1,32 @@
--- Some captures and what becomes of them, as one statement: none at all, a reset that nobody answers, one that is answered with a slot of 1 and one of 0 behind it, and a time that comes twice.
+-- The bounds of the table on both sides, as one statement.
 -- Assumes nothing.
-use Prim.Native.Nat.{ℕ}
 use mathlib.Core.Path.{_≡_, refl}
-use mathlib.Core.List.{List, [], _∷_, _++_}
-use Rattle.lists.specs.Fold.{fold, all}
-use Rattle.refusals.specs.Refusals.{accepted, notLater}
-use Rattle.text.specs.Ascii.{ascii}
-use Rattle.text.specs.Digits.{numberIn, digits, hexOf}
-use Rattle.text.specs.Lines.{lineFeed, linesOf}
-use Rattle.bits.specs.Bits.{numberOf, bitsOf, bytesBits}
-use Rattle.frame.specs.Frames.{noBits, packed}
-use Rattle.frame_lines.specs.Writing.{charactersOf}
-use Rattle.frame_lines.specs.Recording.{writeAll}
-use Rattle.captures.specs.Capture.{courseOf, capture, ended}
+use mathlib.Core.Bool.{true, false}
+use Rattle.captures.specs.declared.pulses.Pulse.the-variants.{One, Zero, Reset, Other}
+use Rattle.captures.specs.Bounds.{isWait, isSilence, isPresence, pulseOf}
 
--- a line with its feed
-abbrev fed : List ℕ → List ℕ
-fed cs = cs ++ (lineFeed ∷ [])
+pub record BoundCases : Type 0 where
+  pub one-from : (pulseOf 0 ≡ Other) × (pulseOf 1 ≡ One)
+  pub one-to : (pulseOf 15 ≡ One) × (pulseOf 16 ≡ Zero)
+  pub zero-to : (pulseOf 120 ≡ Zero) × (pulseOf 121 ≡ Other)
+  pub reset-from : (pulseOf 479 ≡ Other) × (pulseOf 480 ≡ Reset)
+  pub reset-to : (pulseOf 960 ≡ Reset) × (pulseOf 961 ≡ Other)
+  pub wait-from : (isWait 14 ≡ false) × (isWait 15 ≡ true)
+  pub wait-to : (isWait 60 ≡ true) × (isWait 61 ≡ false)
+  pub silence-from : (isSilence 479 ≡ false) × (isSilence 480 ≡ true)
+  pub presence-from : (isPresence 59 ≡ false) × (isPresence 60 ≡ true)
+  pub presence-to : (isPresence 240 ≡ true) × (isPresence 241 ≡ false)
 
--- a reset of 480 microseconds
-abbrev reset : List ℕ
-reset = fed (ascii "00000000") ++ fed (ascii "000001E0")
-
--- presence after 32, a slot of 6 and one of 60
-abbrev answered : List ℕ
-answered = fed (ascii "00000200") ++ fed (ascii "00000260") ++ fed (ascii "00000280") ++ fed (ascii "00000286") ++ fed (ascii "00000290") ++ fed (ascii "000002CC")
-
--- what an ended capture prints, and its refusal
-abbrev Prints : List ℕ → List ℕ → ℕ → Type 0
-Prints s lines n = (writeAll (ended (capture s) .frames) ≡ lines) × (ended (capture s) .refusal ≡ n)
-
-pub record CaptureCases : Type 0 where
-  pub nothing : Prints [] [] accepted
-  pub silence : Prints reset (fed (ascii "000000")) accepted
-  pub two-slots : Prints (reset ++ answered) (fed (ascii "01000201")) accepted
-  pub same-time : Prints (reset ++ fed (ascii "000001E0")) [] notLater
-
-pub capture-cases-hold : CaptureCases
-unfolding fold all numberIn digits hexOf linesOf numberOf bitsOf bytesBits noBits packed charactersOf writeAll courseOf
-capture-cases-hold = record {
-  nothing = (refl, refl);
-  silence = (refl, refl);
-  two-slots = (refl, refl);
-  same-time = (refl, refl);
+pub bound-cases-hold : BoundCases
+bound-cases-hold = record {
+  one-from = (refl, refl);
+  one-to = (refl, refl);
+  zero-to = (refl, refl);
+  reset-from = (refl, refl);
+  reset-to = (refl, refl);
+  wait-from = (refl, refl);
+  wait-to = (refl, refl);
+  silence-from = (refl, refl);
+  presence-from = (refl, refl);
+  presence-to = (refl, refl);
 }

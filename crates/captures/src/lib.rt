@@ -1,1 +1,5 @@
-// Laws without code: what becomes of a capture, line by line, and that a reader of pieces finds just that.
+// Captures of a logic analyser: line edges to frames.
+pub mod edge_lines;
+pub mod edge_printing;
+pub mod edges;
+pub mod pulses;

@@ -5,7 +5,7 @@ use bench::Bench;
 use device::Joining;
 use device::Power;
 use libc::STDOUT_FILENO;
-use master::Searched;
+use search::Searched;
 
 const CODE: u64 = 0x1E00_0000_0000_0028;
 
@@ -62,7 +62,7 @@ fn all_lent() {
     let mut list = [7u64; PLACES];
     let mut recording = [7u8; ROOM];
     say(b"33 places, 1825 bytes:");
-    say_answer(master::search(one_device(), &mut list, &mut recording));
+    say_answer(search::search(one_device(), &mut list, &mut recording));
     say_lent(list, recording);
 }
 
@@ -70,7 +70,7 @@ fn too_few_places() {
     let mut list = [7u64; PLACES];
     let mut recording = [7u8; ROOM];
     say(b"31 places, 1825 bytes:");
-    say_answer(master::search(one_device(), &mut list[..31], &mut recording));
+    say_answer(search::search(one_device(), &mut list[..31], &mut recording));
     say_lent(list, recording);
 }
 

@@ -4,6 +4,7 @@
 // the second implementation under tests/.
 use family::Unit;
 use libc::STDOUT_FILENO;
+use scratchpad::fine;
 use temperature::Reading;
 use temperature::Register;
 use temperature::Sixteenths;

@@ -9,8 +9,8 @@ use mathlib.Core.Bool.{Bool, true}
 use mathlib.Core.List.{List}
 use lib.Dec.{ltb, eqb}
 use lib.ListN.{length, getD}
-use Rattle.lists.specs.Choice.{if_then_else_}
-use Rattle.bits.specs.Bits.{bitAt}
+use Rattle.basic_laws.specs.Choice.{if_then_else_}
+use Rattle.basic_laws.specs.Bits.{bitAt}
 use Rattle.commands.specs.declared.Shifted.{Shifted}
 use Rattle.commands.specs.declared.Shifted.the-variants.{Partial, Whole, Beyond}
 

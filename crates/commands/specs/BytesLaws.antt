@@ -10,8 +10,8 @@ use native.Mathlib.Omega.{arith}
 use lib.Pow.{pow-add}
 use borrow.Author.Tests.{eqb-true}
 use lib.Dec.{ltb, eqb}
-use Rattle.lists.specs.Choice.{if_then_else_}
-use Rattle.bits.specs.Bits.{bitNumber, numberOf}
+use Rattle.basic_laws.specs.Choice.{if_then_else_}
+use Rattle.basic_laws.specs.Bits.{bitNumber, numberOf}
 use Rattle.commands.specs.declared.Shifted.{Shifted}
 use Rattle.commands.specs.declared.Shifted.the-variants.{Partial, Whole, Beyond}
 use Rattle.commands.specs.Bytes.{shiftIn, shifted}

@@ -2,7 +2,8 @@
 // only moves bytes; where they part, and what is printed, is decided by the libraries.
 ghost use Prim.Native.Nat.{_≤_};
 ghost use lib.ListN.{length};
-ghost use Rattle.comparing_answers.specs.Heading.{Showable};
+ghost use Rattle.comparing.specs.Heading.{Showable};
+use comparing::answers;
 use libc::STDERR_FILENO;
 use libc::STDOUT_FILENO;
 
@@ -107,7 +108,7 @@ fn show<'a>(reference: &'a [u8], other: &'a [u8]) {
     let mut line: usize = 0;
     let part = comparing::part(reference, other, &mut side, &mut line);
     let mut text = [0u8; 64];
-    let heading = comparing_answers::heading(&mut text, side, line);
+    let heading = answers::heading(&mut text, side, line);
     let end = heading.next;
     write_shown(&text[..end], part);
 }

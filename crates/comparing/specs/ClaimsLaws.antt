@@ -7,7 +7,7 @@ use mathlib.Core.List.{List, [], _∷_, _++_}
 use native.Mathlib.Omega.{arith}
 use lib.ListN.{length, take, drop, length-drop, drop-of-length-le}
 use lib.Seq.{take-all}
-use Rattle.lists.specs.SameLaws.{alike-within, alike-parts}
+use Rattle.basic_laws.specs.SameLaws.{alike-within, alike-parts}
 use Rattle.text.specs.Lines.{Line, linesOf, linesBytes, sameLine}
 use Rattle.text.specs.LinesLaws.{lines-bytes, lines-behind, bytes-parted, same-line-itself}
 use Rattle.comparing.specs.declared.Side.the-variants.{Reference, Other}

@@ -11,7 +11,7 @@
 use Prim.Native.Nat.{ℕ, _+_}
 use mathlib.Core.List.{List, [], _∷_}
 use lib.ListN.{length, take, drop}
-use Rattle.lists.specs.Same.{alike}
+use Rattle.basic_laws.specs.Same.{alike}
 use Rattle.text.specs.Lines.{Line, linesOf, linesBytes, sameLine}
 use Rattle.comparing.specs.declared.Side.{Side}
 use Rattle.comparing.specs.declared.Side.the-variants.{Reference, Other}

@@ -10,9 +10,9 @@ use borrow.Author.Tests.{not-true, not-false}
 use lib.Dec.{ltb}
 use lib.ListN.{length, take, drop}
 use lib.Seq.{drop-drop}
-use Rattle.lists.specs.Places.{part-all}
-use Rattle.lists.specs.Same.{same, alike}
-use Rattle.lists.specs.SameLaws.{alike-more, alike-stop, alike-none, alike-ended, alike-front}
+use Rattle.basic_laws.specs.Places.{part-all}
+use Rattle.basic_laws.specs.Same.{same, alike}
+use Rattle.basic_laws.specs.SameLaws.{alike-more, alike-stop, alike-none, alike-ended, alike-front}
 use Rattle.text.specs.Lines.{Line, linesOf, linesBytes, sameLine, feedAt, firstLine, width}
 use Rattle.text.specs.LinesLaws.{line-by-end, lines-next, lines-done, lines-place, lines-from, lines-within, line-ends, same-line-equal}
 use Rattle.comparing.specs.declared.Side.{Side}

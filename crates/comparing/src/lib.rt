@@ -1,5 +1,7 @@
 // Where two recordings part: the first line that is not the same in both, and the rest of a recording
 // from there on. Any bytes are taken, and nothing is refused.
+pub mod answers;
+
 ghost use mathlib.Core.Path.{_≡_};
 ghost use Prim.Native.Nat.{_+_, _<_, _≤_};
 ghost use lib.ListN.{length, drop};

@@ -7,9 +7,9 @@ use Prim.Native.Nat.{ℕ, _/_}
 use mathlib.Core.Bool.{Bool, Bool·beq}
 use mathlib.Core.List.{List}
 use lib.Bits.{bitXor}
-use Rattle.lists.specs.Choice.{if_then_else_}
-use Rattle.lists.specs.Fold.{fold}
-use Rattle.bits.specs.Bits.{odd, bytesBits}
+use Rattle.basic_laws.specs.Choice.{if_then_else_}
+use Rattle.basic_laws.specs.Fold.{fold}
+use Rattle.basic_laws.specs.Bits.{odd, bytesBits}
 
 abbrev pub taps : ℕ
 taps = 0x8C

@@ -14,11 +14,11 @@ use lib.Bits.{bitXor, xor-lt}
 use lib.Dec.{lit<}
 use lib.ListN.{length, getD, take}
 use lib.Seq.{take-suc}
-use Rattle.lists.specs.Choice.{if_then_else_}
-use Rattle.lists.specs.Fold.{fold}
-use Rattle.lists.specs.FoldLaws.{fold-append}
-use Rattle.bits.specs.Bits.{odd, bitsOf, bytesBits}
-use Rattle.bits.specs.BitsLaws.{bits-append, bits-block, bytes-append}
+use Rattle.basic_laws.specs.Choice.{if_then_else_}
+use Rattle.basic_laws.specs.Fold.{fold}
+use Rattle.basic_laws.specs.FoldLaws.{fold-append}
+use Rattle.basic_laws.specs.Bits.{odd, bitsOf, bytesBits}
+use Rattle.basic_laws.specs.BitsLaws.{bits-append, bits-block, bytes-append}
 use Rattle.crc.specs.Crc.{taps, crcBit, crcBits, crcOf}
 
 pub crc-none : (r : ℕ) → crcBits r [] ≡ r

@@ -13,12 +13,12 @@ use native.Mathlib.Nat.{pow-suc}
 use native.Mathlib.Omega.{arith}
 use lib.Bits.{bitXor, xor-zero-r, xor-self}
 use lib.ListN.{length}
-use Rattle.lists.specs.Choice.{if_then_else_}
-use Rattle.lists.specs.Fold.{fold}
-use Rattle.bits.specs.Bits.{odd, bitsOf, bytesBits}
-use Rattle.bits.specs.Sums.{plus, sum}
-use Rattle.bits.specs.SumsLaws.{plus-self}
-use Rattle.bits.specs.XorLaws.{xor-half, odd-xor, xor-swap, xor-assoc}
+use Rattle.basic_laws.specs.Choice.{if_then_else_}
+use Rattle.basic_laws.specs.Fold.{fold}
+use Rattle.basic_laws.specs.Bits.{odd, bitsOf, bytesBits}
+use Rattle.basic_laws.specs.Sums.{plus, sum}
+use Rattle.basic_laws.specs.SumsLaws.{plus-self}
+use Rattle.basic_laws.specs.XorLaws.{xor-half, odd-xor, xor-swap, xor-assoc}
 use Rattle.crc.specs.Crc.{taps, crcBit, crcBits, crcOf}
 use Rattle.crc.specs.Laws.{crc-none, crc-more, crc-bytes-append, crc-bytes-lt}
 

@@ -2,7 +2,7 @@
 --     registers i n      the registers after eight zero bits, from register i on, n of them
 use Prim.Native.Nat.{ℕ, zero, suc}
 use mathlib.Core.List.{List, [], _∷_}
-use Rattle.bits.specs.Bits.{bitsOf}
+use Rattle.basic_laws.specs.Bits.{bitsOf}
 use Rattle.crc.specs.Crc.{crcBits}
 
 unfoldable pub registers : ℕ → ℕ → List ℕ

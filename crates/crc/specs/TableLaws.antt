@@ -7,7 +7,7 @@ use mathlib.Core.Path.{_≡_, sym, ap, _∙_}
 use native.Mathlib.Nat.{add-zero, zero-add, add-suc, suc-add, le-of-suc-le-suc, not-suc-le-zero}
 use lib.Bits.{bitXor, xor-lt}
 use lib.ListN.{getD}
-use Rattle.bits.specs.Bits.{bitsOf}
+use Rattle.basic_laws.specs.Bits.{bitsOf}
 use Rattle.crc.specs.Crc.{crcBits}
 use Rattle.crc.specs.SumLaws.{crc-merge}
 use Rattle.crc.specs.Table.{registers}

@@ -2,7 +2,7 @@
 mod table;
 
 ghost use mathlib.Core.Path.{_≡_};
-ghost use Rattle.bits.specs.Bits.{bitsOf};
+ghost use Rattle.basic_laws.specs.Bits.{bitsOf};
 ghost use Rattle.crc.specs.Crc.{crcBit, crcBits, crcOf};
 ghost use Rattle.crc.specs.Table.{registers};
 

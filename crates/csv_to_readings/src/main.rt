@@ -2,6 +2,7 @@
 // output, or the one line `REFUSED N`. It only moves bytes; what is printed is decided by the library.
 use libc::STDIN_FILENO;
 use libc::STDOUT_FILENO;
+use reading_programs::csv_answers;
 
 // An input that goes on behind the buffer is judged by what is in it: a header and 32 rows are far
 // shorter, so that it is refused.

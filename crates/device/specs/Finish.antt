@@ -7,7 +7,7 @@
 use Prim.Native.Nat.{ℕ}
 use mathlib.Core.Bool.{true}
 use lib.ListN.{getD}
-use Rattle.lists.specs.Choice.{if_then_else_}
+use Rattle.basic_laws.specs.Choice.{if_then_else_}
 use Rattle.refusals.specs.Refusals.{accepted, outOfRange, mismatch}
 use Rattle.family.specs.Layout.{highLimitPlace, lowLimitPlace}
 use Rattle.temperature.specs.Alarm.{verdict}

@@ -12,8 +12,8 @@ use Prim.Native.Nat.{ℕ, _+_}
 use mathlib.Core.Bool.{Bool, not, Bool·beq, _&&_}
 use lib.Dec.{ltb, eqb}
 use lib.ListN.{set}
-use Rattle.lists.specs.Choice.{if_then_else_}
-use Rattle.bits.specs.Bits.{bitAt}
+use Rattle.basic_laws.specs.Choice.{if_then_else_}
+use Rattle.basic_laws.specs.Bits.{bitAt}
 use Rattle.commands.specs.Bytes.{shifted}
 use Rattle.commands.specs.Commands.{readRom, matchRom, skipRom, searchRom, alarmSearch, convert, writeScratchpad, readScratchpad, copyScratchpad, recallEeprom, readPower}
 use Rattle.family.specs.Layout.{highLimitPlace}

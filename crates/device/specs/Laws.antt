@@ -12,7 +12,7 @@ use mathlib.Core.Logic.{_≢_}
 use mathlib.Core.Bool.{Bool, true, false, false≢true}
 use mathlib.Core.List.{List}
 use native.Mathlib.Omega.{arith}
-use Rattle.lists.specs.Choice.{if_then_else_}
+use Rattle.basic_laws.specs.Choice.{if_then_else_}
 use Rattle.refusals.specs.Refusals.{accepted, outOfRange, mismatch}
 use Rattle.temperature.specs.Range.{inRange}
 use Rattle.temperature.specs.declared.Reading.the-variants.{InSixteenths}

@@ -8,8 +8,8 @@ use Prim.Native.Nat.{ℕ}
 use mathlib.Core.Bool.{Bool, true, not}
 use mathlib.Core.List.{List, [], _∷_, _++_}
 use lib.Dec.{ltb}
-use Rattle.lists.specs.Choice.{if_then_else_}
-use Rattle.bits.specs.Bits.{bitAt}
+use Rattle.basic_laws.specs.Choice.{if_then_else_}
+use Rattle.basic_laws.specs.Bits.{bitAt}
 use Rattle.commands.specs.Bytes.{bytesSlot}
 use Rattle.crc.specs.Crc.{crcOf}
 use Rattle.device.specs.declared.Device.{Device}

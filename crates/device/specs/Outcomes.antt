@@ -9,7 +9,7 @@ use mathlib.Core.Bool.{Bool, true, false}
 use borrow.Author.Tests.{ltb-true}
 use lib.Dec.{eqb, ltb}
 use lib.ListN.{set}
-use Rattle.lists.specs.Choice.{if_then_else_}
+use Rattle.basic_laws.specs.Choice.{if_then_else_}
 use Rattle.commands.specs.Bytes.{shiftIn}
 use Rattle.commands.specs.BytesLaws.{shifted-cases}
 use Rattle.commands.specs.Commands.{convert, writeScratchpad, readScratchpad, copyScratchpad, recallEeprom, readPower}

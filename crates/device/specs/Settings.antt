@@ -8,7 +8,7 @@ use Prim.Native.Nat.{ℕ}
 use mathlib.Core.List.{List}
 use lib.Dec.{eqb}
 use lib.ListN.{getD, set}
-use Rattle.lists.specs.Choice.{if_then_else_}
+use Rattle.basic_laws.specs.Choice.{if_then_else_}
 use Rattle.family.specs.Configuration.{keptConfiguration}
 use Rattle.family.specs.Layout.{highLimitPlace, lowLimitPlace, configurationPlace}
 use Rattle.family.specs.declared.Properties.{Properties}

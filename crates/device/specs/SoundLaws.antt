@@ -9,9 +9,9 @@ use borrow.Author.Tests.{eqb-true, eqb-false}
 use lib.Dec.{eqb, lit<, lit≤}
 use lib.ListN.{length, getD, set, length-set}
 use lib.Seq.{getD-set-same, getD-set-other}
-use Rattle.lists.specs.Choice.{if_then_else_}
-use Rattle.lists.specs.ChoiceLaws.{and-left, and-right}
-use Rattle.lists.specs.Fold.{all}
+use Rattle.basic_laws.specs.Choice.{if_then_else_}
+use Rattle.basic_laws.specs.ChoiceLaws.{and-left, and-right}
+use Rattle.basic_laws.specs.Fold.{all}
 use Rattle.commands.specs.Bytes.{shiftIn}
 use Rattle.family.specs.Configuration.{keptConfiguration, asKept}
 use Rattle.family.specs.ConfigurationLaws.{kept-none, kept-as-kept}

@@ -1,4 +1,11 @@
 // One thermometer: its record, the record with one part replaced, and the settings that it keeps.
+pub mod cell;
+pub mod function_commands;
+pub mod hearing;
+pub mod offer;
+pub mod power_and_finishes;
+pub mod rom_commands;
+
 ghost use mathlib.Core.Path.{_≡_};
 ghost use Rattle.device.specs.Record.{withStage, withActivity, withScratchpad, withEeprom, withAlarm, withPage, familyRow, rowOf, busy, holdsWire};
 ghost use Rattle.device.specs.Settings.{settingsIn, withSettings};

@@ -5,8 +5,10 @@ ghost use mathlib.Core.Path.{_≡_};
 ghost use mathlib.Core.Bool.{true};
 ghost use Prim.Native.Nat.{_+_, _≤_};
 ghost use lib.ListN.{length, take};
-ghost use Rattle.capture_text.specs.Transcript.{enoughRoom, Reached, Handed};
-use edges::Reader;
+ghost use Rattle.capture_laws.specs.Transcript.{enoughRoom, Reached, Handed};
+use captures::edge_printing;
+use captures::edges;
+use captures::edges::Reader;
 use libc::STDIN_FILENO;
 use libc::STDOUT_FILENO;
 

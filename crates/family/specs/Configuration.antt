@@ -12,7 +12,7 @@ use Prim.Native.Nat.{ℕ, _+_, _/_, _%_}
 use mathlib.Core.Bool.{Bool, true}
 use lib.Bits.{bitAnd}
 use lib.Dec.{eqb}
-use Rattle.lists.specs.Choice.{if_then_else_}
+use Rattle.basic_laws.specs.Choice.{if_then_else_}
 use Rattle.family.specs.declared.Properties.{Properties}
 
 abbrev pub storedFormB : ℕ → ℕ

@@ -7,7 +7,7 @@ use native.Mathlib.Omega.{arith}
 use borrow.Author.Tests.{eq-eqb, eqb-true}
 use lib.Bits.{bitAnd, and-high}
 use lib.Dec.{eqb}
-use Rattle.lists.specs.Choice.{if_then_else_}
+use Rattle.basic_laws.specs.Choice.{if_then_else_}
 use Rattle.family.specs.declared.Properties.{Properties}
 use Rattle.family.specs.Configuration.{storedFormB, storedForm, keptConfiguration, asKept, inForm}
 use Rattle.family.specs.Families.{withPins}

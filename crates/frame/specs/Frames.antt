@@ -18,11 +18,11 @@ use mathlib.Core.Bool.{Bool, true, false, not, _&&_, _||_}
 use mathlib.Core.List.{List, [], _∷_, _++_}
 use lib.Dec.{eqb, leb, ltb}
 use lib.ListN.{length, set, take, drop, getD, replicate}
-use Rattle.lists.specs.Choice.{if_then_else_}
-use Rattle.lists.specs.Fold.{fold, all}
-use Rattle.bits.specs.Bits.{bitsOf, numberOf, bytesBits}
+use Rattle.basic_laws.specs.Choice.{if_then_else_}
+use Rattle.basic_laws.specs.Fold.{fold, all}
+use Rattle.basic_laws.specs.Bits.{bitsOf, numberOf, bytesBits}
 use Rattle.frame.specs.declared.Frame.{Frame}
-use Rattle.bits.specs.Bytes.{Bytes}
+use Rattle.basic_laws.specs.Bytes.{Bytes}
 
 -- the most slots that a frame has
 abbrev pub mostSlots : ℕ

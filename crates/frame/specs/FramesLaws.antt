@@ -12,16 +12,16 @@ use borrow.Author.Tests.{eq-eqb, ne-eqb, eqb-true, eqb-false, lt-ltb, ltb-true, 
 use lib.Dec.{eqb, ltb, lit<}
 use lib.ListN.{length, set, take, drop, getD, replicate, length-set, length-replicate, length-take, length-drop, length-append, take-append-drop, List·getD-eq-default, drop-of-length-le}
 use lib.Seq.{drop-nil, drop-cons, drop-append-add, drop-append-le, take-at, drop-at, set-append-left, take-suc-set, drop-set-lt, length-take-le, drop-drop, getD-take}
-use Rattle.lists.specs.Fold.{fold, all}
-use Rattle.lists.specs.Laid.{laid}
-use Rattle.bits.specs.Bits.{odd, bitAt, bitNumber, bitsOf, numberOf, bytesBits}
-use Rattle.bits.specs.BitsLaws.{bits-at, number-bits, bits-length, bits-number, bits-append, number-lt, bytes-length, bytes-append, number-set, byte-bit, one-bit}
+use Rattle.basic_laws.specs.Fold.{fold, all}
+use Rattle.basic_laws.specs.Laid.{laid}
+use Rattle.basic_laws.specs.Bits.{odd, bitAt, bitNumber, bitsOf, numberOf, bytesBits}
+use Rattle.basic_laws.specs.BitsLaws.{bits-at, number-bits, bits-length, bits-number, bits-append, number-lt, bytes-length, bytes-append, number-set, byte-bit, one-bit}
 use Rattle.frame.specs.declared.Frame.{Frame}
-use Rattle.bits.specs.Bytes.{Bytes}
-use Rattle.lists.specs.FoldLaws.{all-append, all-drop}
-use Rattle.lists.specs.Places.{set-append-add, drop-replicate}
-use Rattle.lists.specs.ChoiceLaws.{and-left, and-right}
-use Rattle.bits.specs.BytesLaws.{bytes-set, bytes-drop, bytes-append-bytes}
+use Rattle.basic_laws.specs.Bytes.{Bytes}
+use Rattle.basic_laws.specs.FoldLaws.{all-append, all-drop}
+use Rattle.basic_laws.specs.Places.{set-append-add, drop-replicate}
+use Rattle.basic_laws.specs.ChoiceLaws.{and-left, and-right}
+use Rattle.basic_laws.specs.BytesLaws.{bytes-set, bytes-drop, bytes-append-bytes}
 use Rattle.frame.specs.Frames.{mostSlots, noBits, blankFrame, slotsOf, slotBit, clearFrom, countAllowed, lineable, packed, pushed, slotsPushed, pushedAll, Held, Recorded, withBit}
 
 -- ## Bits of bytes

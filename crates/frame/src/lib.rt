@@ -1,4 +1,7 @@
 // Frames: what the wire showed after one reset.
+pub mod frame_lines;
+pub mod recording;
+
 ghost use mathlib.Core.Path.{_≡_};
 ghost use Prim.Native.Nat.{_<_};
 ghost use Rattle.frame.specs.Frames.{blankFrame, slotBit, slotsOf, pushed, slotsPushed, clearFrom, countAllowed, lineable, bytesFor, withBit};

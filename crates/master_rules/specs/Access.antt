@@ -12,8 +12,8 @@ use mathlib.Core.List.{List, [], _∷_}
 use lib.Dec.{eqb}
 use lib.IntN.{pos}
 use lib.ListN.{getD, replicate}
-use Rattle.lists.specs.Choice.{if_then_else_}
-use Rattle.bits.specs.Bits.{numberOf}
+use Rattle.basic_laws.specs.Choice.{if_then_else_}
+use Rattle.basic_laws.specs.Bits.{numberOf}
 use Rattle.commands.specs.Commands.{matchRom, readScratchpad, writeScratchpad}
 use Rattle.refusals.specs.Refusals.{accepted, noPresence, wireBusy, mismatch}
 use Rattle.family.specs.Families.{propertiesOf}
@@ -22,17 +22,17 @@ use Rattle.family.specs.Layout.{highLimitPlace, lowLimitPlace, configurationPla
 use Rattle.family.specs.declared.Properties.{Properties}
 use Rattle.rom.specs.Code.{familyOf, codeRefusal}
 use Rattle.temperature.specs.declared.Reading.the-variants.{InSixteenths}
-use Rattle.fine.specs.Fine.{noFine}
+use Rattle.scratchpad.specs.Fine.{noFine}
 use Rattle.scratchpad.specs.Judgement.{judged}
 use Rattle.scratchpad.specs.declared.Judged.{Judged}
-use Rattle.search_law.specs.Reads.{bitsShown, afterReads}
+use Rattle.search_laws.specs.Reads.{bitsShown, afterReads}
 use Rattle.device.specs.declared.Settings.{Settings}
 use Rattle.bench.specs.Bench.{free}
 use Rattle.bench.specs.Slot.{resetDone}
 use Rattle.bench.specs.declared.Bench.{Bench}
 use Rattle.bench.specs.declared.ResetDone.{ResetDone}
 use Rattle.master_rules.specs.declared.Access.{Access}
-use Rattle.searching.specs.Buses.{calls}
+use Rattle.master_rules.specs.Buses.{calls}
 use Rattle.master_rules.specs.Wire.{sent}
 
 -- an answer that refuses: nine zero bytes, a zero reading, no fine one, and the bench as it then is

@@ -7,10 +7,10 @@ use mathlib.Core.List.{List, [], _∷_}
 use mathlib.Core.Path.{_≡_}
 use Rattle.refusals.specs.Refusals.{accepted}
 use Rattle.frame.specs.declared.Frame.{Frame}
-use Rattle.search_law.specs.Wire.{slots}
+use Rattle.search_laws.specs.Wire.{slots}
 use Rattle.bench.specs.Slot.{lineBit, heard, slotted, presenceOf, restarted, resetDone}
 use Rattle.bench.specs.declared.Bench.{Bench}
-use Rattle.searching.specs.Buses.{slotRule}
+use Rattle.master_rules.specs.Buses.{slotRule}
 use Rattle.master_rules.specs.Search.{frameShown}
 
 -- ## Resets and slots by the slot rule

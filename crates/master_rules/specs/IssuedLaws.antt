@@ -4,14 +4,14 @@ use mathlib.Core.Bool.{Bool}
 use mathlib.Core.List.{List, [], _∷_}
 use mathlib.Core.Path.{_≡_, ap, _∙_}
 use lib.Dec.{ltb}
-use Rattle.search_law.specs.Holds.{slots-hold}
-use Rattle.search_law.specs.Wire.{passes, slots}
-use Rattle.bench_laws.specs.Laws.{heard-count, restarted-count, slot-accepted, reset-accepted}
+use Rattle.search_laws.specs.Holds.{slots-hold}
+use Rattle.search_laws.specs.Wire.{passes, slots}
+use Rattle.bench.specs.Laws.{heard-count, restarted-count, slot-accepted, reset-accepted}
 use Rattle.bench.specs.Slot.{lineBit, presenceOf, restarted}
 use Rattle.bench.specs.declared.Bench.{Bench}
-use Rattle.searching.specs.Buses.{slotRule}
-use Rattle.searching.specs.Course.{Throughout, Runs}
-use Rattle.searching.specs.OnTheBench.{Free}
+use Rattle.master_rules.specs.Buses.{slotRule}
+use Rattle.master_rules.specs.Course.{Throughout, Runs}
+use Rattle.master_rules.specs.OnTheBench.{Free}
 use Rattle.master_rules.specs.Issued.{SlotsGranted, Granted}
 
 -- ## What they show

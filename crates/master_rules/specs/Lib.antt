@@ -1,3 +1,7 @@
+pub mod Buses
+pub mod Course
+pub mod Thermometers
+pub mod OnTheBench
 pub mod Wire
 pub mod Access
 pub mod AccessLaws

@@ -14,10 +14,10 @@ use mathlib.Core.Bool.{Bool}
 use mathlib.Core.List.{List, [], _∷_, _++_}
 use lib.Dec.{eqb, ltb}
 use lib.ListN.{length, getD, replicate}
-use Rattle.lists.specs.Choice.{if_then_else_}
-use Rattle.lists.specs.Each.{those}
-use Rattle.lists.specs.Fold.{fold}
-use Rattle.lists.specs.Laid.{laid}
+use Rattle.basic_laws.specs.Choice.{if_then_else_}
+use Rattle.basic_laws.specs.Each.{those}
+use Rattle.basic_laws.specs.Fold.{fold}
+use Rattle.basic_laws.specs.Laid.{laid}
 use Rattle.commands.specs.Commands.{searchRom}
 use Rattle.refusals.specs.Refusals.{accepted, noRoom}
 use Rattle.family.specs.Families.{propertiesOf}

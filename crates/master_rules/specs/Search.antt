@@ -10,20 +10,20 @@ use mathlib.Core.Bool.{Bool, true, false, not, _||_}
 use mathlib.Core.List.{List, [], _∷_, map}
 use lib.Dec.{ltb}
 use lib.ListN.{length}
-use Rattle.lists.specs.Choice.{if_then_else_}
-use Rattle.lists.specs.Fold.{fold}
-use Rattle.lists.specs.Laid.{laid}
-use Rattle.bits.specs.Bits.{bitsOf, numberOf}
+use Rattle.basic_laws.specs.Choice.{if_then_else_}
+use Rattle.basic_laws.specs.Fold.{fold}
+use Rattle.basic_laws.specs.Laid.{laid}
+use Rattle.basic_laws.specs.Bits.{bitsOf, numberOf}
 use Rattle.refusals.specs.Refusals.{accepted, noRoom, wireBusy}
 use Rattle.frame.specs.Frames.{blankFrame, pushedAll}
-use Rattle.frame_lines.specs.Recording.{writeAll}
+use Rattle.frame.specs.Recording.{writeAll}
 use Rattle.frame.specs.declared.Frame.{Frame}
-use Rattle.search_law.specs.Wire.{Search, wireSearch}
+use Rattle.search_laws.specs.Wire.{Search, wireSearch}
 use Rattle.bench.specs.Bench.{free}
 use Rattle.bench.specs.Slot.{resetDone}
 use Rattle.bench.specs.declared.Bench.{Bench}
 use Rattle.master_rules.specs.declared.Searched.{Searched}
-use Rattle.searching.specs.Buses.{calls}
+use Rattle.master_rules.specs.Buses.{calls}
 
 -- a list of fewer places, or a recording of fewer bytes, is refused
 abbrev pub fewestPlaces : ℕ

@@ -7,9 +7,9 @@ use mathlib.Core.List.{List}
 use mathlib.Core.Path.{_≡_, refl, sym, ap}
 use borrow.Author.Tests.{lt-ltb, le-ltb}
 use lib.Dec.{ltb}
-use Rattle.lists.specs.LaidLaws.{laid-none}
+use Rattle.basic_laws.specs.LaidLaws.{laid-none}
 use Rattle.refusals.specs.Refusals.{accepted, noRoom, wireBusy}
-use Rattle.frame_lines.specs.Recording.{writeAll}
+use Rattle.frame.specs.Recording.{writeAll}
 use Rattle.bench.specs.Bench.{free}
 use Rattle.bench.specs.Slot.{resetDone}
 use Rattle.bench.specs.declared.Bench.{Bench}

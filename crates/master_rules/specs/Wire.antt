@@ -4,9 +4,9 @@
 use Prim.Native.Nat.{ℕ}
 use mathlib.Core.Bool.{Bool}
 use mathlib.Core.List.{List}
-use Rattle.search_law.specs.Reads.{afterBits}
-use Rattle.search_law.specs.Wire.{slots}
-use Rattle.searching.specs.Buses.{calls}
+use Rattle.search_laws.specs.Reads.{afterBits}
+use Rattle.search_laws.specs.Wire.{slots}
+use Rattle.master_rules.specs.Buses.{calls}
 use Rattle.bench.specs.declared.Bench.{Bench}
 
 abbrev pub sent : ℕ → ℕ → Bench → Bench

@@ -1,6 +1,6 @@
 // What the master's calls answer. The rules that the answers follow are in specs/.
 use bench::Bench;
-use fine::FineDegrees;
+use scratchpad::fine::FineDegrees;
 use temperature::Reading;
 
 // The answer of a read or a write at a code: the nine bytes of the scratchpad, the reading and the fine

@@ -7,7 +7,7 @@ use device::Joining;
 use device::Power;
 use libc::STDIN_FILENO;
 use libc::STDOUT_FILENO;
-use master::Searched;
+use search::Searched;
 
 const SEARCHES: u32 = 100;
 
@@ -100,7 +100,7 @@ fn search_often(bench: Bench, list: &mut [u64], recording: &mut [u8]) {
     };
     let mut i: u32 = 0;
     while i < SEARCHES {
-        let r = master::search(b, list, recording);
+        let r = search::search(b, list, recording);
         t = with(t, r);
         b = r.bench;
         i += 1;

@@ -3,7 +3,8 @@
 use device::Joining;
 use device::Power;
 use libc::STDOUT_FILENO;
-use table::TABLE_BYTES;
+use packed_bench::calls;
+use packed_bench::table::TABLE_BYTES;
 
 const SLOTS: u32 = 500000;
 
@@ -34,7 +35,7 @@ fn fill(t: &mut [u8]) {
             configuration: 0x7F,
             pins: 0,
         };
-        table_calls::add(t, new);
+        calls::add(t, new);
         serial += 1;
     }
 }
@@ -54,7 +55,7 @@ fn bit_at(place: u32) -> bool {
 }
 
 fn line_of(t: &mut [u8], bit: bool) -> bool {
-    let s = table_calls::slot(t, bit);
+    let s = calls::slot(t, bit);
     s.line
 }
 
@@ -62,7 +63,7 @@ fn line_of(t: &mut [u8], bit: bool) -> bool {
 fn slot_at(t: &mut [u8], i: u32) -> bool {
     let place = i % ROUND;
     if place == 0 {
-        table_calls::reset(t);
+        calls::reset(t);
         return line_of(t, bit_at(place));
     }
     line_of(t, bit_at(place))

@@ -7,11 +7,13 @@ ghost use lib.ListN.{length, take};
 ghost use Rattle.pieces.specs.Pieces.{Stepped, Ran, Sayable};
 ghost use Rattle.mending.specs.Mending.{mendedBytes};
 ghost use Rattle.mending.specs.Claims.{longestHeld};
-ghost use Rattle.mending_text.specs.MendingText.{pieceAnswer, pieceKept};
-ghost use Rattle.mending_answers.specs.Notice.{noticesAnswer, Tellable};
+ghost use Rattle.mending.specs.MendingText.{pieceAnswer, pieceKept};
+ghost use Rattle.mending.specs.Notice.{noticesAnswer, Tellable};
 use libc::STDERR_FILENO;
 use libc::STDIN_FILENO;
 use libc::STDOUT_FILENO;
+use mending::answers;
+use mending::texts;
 
 // 4 KiB of a recording, behind what is carried over from before. What is left of a piece, and the report
 // on its lines, take no more.
@@ -56,7 +58,7 @@ fn write_told(told: &[u8], report: &[u8], before: u64)
 fn tell_by(report: &[u8], before: u64, told: &mut [u8]) -> u64
     ensures answer { λ r. ⌜ r ≡ noticesAnswer before (now (report .entry)) (now (told .entry)) .lines ⌝ }
 {
-    let noticed = mending_answers::notices(told, report, before);
+    let noticed = answers::notices(told, report, before);
     let end = noticed.written;
     write_told(&told[..end], report, before);
     noticed.lines
@@ -72,7 +74,7 @@ fn mend_piece(bytes: &mut [u8], left: &mut [u8], report: &mut [u8], lines: u64) 
     ensures answer { λ r. ⌜ (r .held ≡ pieceAnswer (now (bytes .entry)) (now (left .entry)) (now (report .entry)) .held) × (r .held ≤ length (now (bytes .entry))) ⌝ }
     ensures kept { λ r. ⌜ now (bytes .exit) ≡ pieceKept (now (bytes .entry)) (now (left .entry)) (now (report .entry)) ⌝ }
 {
-    let fed = mending_text::feed(bytes, left, report);
+    let fed = texts::feed(bytes, left, report);
     let end = fed.written;
     let count = fed.lines;
     let told = tell_lines(&report[..count], lines);
@@ -131,7 +133,7 @@ fn mend_pieces(buffer: &mut [u8], left: &mut [u8], report: &mut [u8]) -> Piece
 
 // What is carried to the end of the input: a last line without a feed.
 fn mend_last(bytes: &[u8], left: &mut [u8], report: &mut [u8], lines: u64) {
-    let last = mending_text::mend(bytes, left, report);
+    let last = texts::mend(bytes, left, report);
     let end = last.written;
     let count = last.lines;
     tell_lines(&report[..count], lines);

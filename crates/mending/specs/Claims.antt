@@ -9,7 +9,7 @@ use Prim.Native.Nat.{ℕ, _≤_}
 use mathlib.Core.Path.{_≡_}
 use mathlib.Core.List.{List, [], _∷_, _++_}
 use lib.ListN.{length, replicate}
-use Rattle.lists.specs.Each.{Each}
+use Rattle.basic_laws.specs.Each.{Each}
 use Rattle.refusals.specs.Refusals.{accepted}
 use Rattle.text.specs.Lines.{Line, linesOf}
 use Rattle.pieces.specs.Pieces.{pieces, together}

@@ -10,9 +10,9 @@ use native.Mathlib.Omega.{arith}
 use borrow.Author.Tests.{eqb-true}
 use lib.Dec.{eqb, ltb, lit<, lit≤}
 use lib.ListN.{length, replicate, length-append}
-use Rattle.lists.specs.Choice.{if_then_else_}
-use Rattle.lists.specs.Each.{Each}
-use Rattle.lists.specs.EachLaws.{each-append}
+use Rattle.basic_laws.specs.Choice.{if_then_else_}
+use Rattle.basic_laws.specs.Each.{Each}
+use Rattle.basic_laws.specs.EachLaws.{each-append}
 use Rattle.refusals.specs.Refusals.{accepted, notHex, malformed}
 use Rattle.text.specs.Lines.{Line, lineFeed, linesOf, linesBytes, lineBytes, width}
 use Rattle.text.specs.LinesLaws.{lines-bytes, lines-cut, bytes-append, digits-no-feed}

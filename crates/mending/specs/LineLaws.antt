@@ -8,13 +8,13 @@ use native.Mathlib.Omega.{arith}
 use borrow.Author.Tests.{lt-ltb, le-ltb, ltb-true, ltb-false, eq-eqb, ne-eqb, eqb-true, eqb-false}
 use lib.Dec.{eqb, ltb}
 use lib.ListN.{length}
-use Rattle.lists.specs.Choice.{if_then_else_}
+use Rattle.basic_laws.specs.Choice.{if_then_else_}
 use Rattle.refusals.specs.Refusals.{accepted, notHex, malformed}
 use Rattle.text.specs.Digits.{spells}
 use Rattle.text.specs.Lines.{Line, lineFeed, linesBytes}
-use Rattle.laying.specs.Laying.{layAnswer, layLeaves}
-use Rattle.frame_lines.specs.ReadLine.{LineContent, carries, noFrame, readLine, longestLine, found, lineAnswerOf}
-use Rattle.frame_lines.specs.ReadLineLaws.{read-accepted, refused-number}
+use Rattle.text.specs.Laying.{layAnswer, layLeaves}
+use Rattle.frame.specs.ReadLine.{LineContent, carries, noFrame, readLine, longestLine, found, lineAnswerOf}
+use Rattle.frame.specs.ReadLineLaws.{read-accepted, refused-number}
 use Rattle.mending.specs.Mending.{mendedChars, alteredBy, contentRefusal, lineRefusal, mendedLine, longestMended, Fate, kept, mended, dropped, fateOf, fateByte, left, linesLeft, mendedBytes, lineMended}
 use Rattle.mending.specs.StepLaws.{digits-unaltered, unaltered-same}
 

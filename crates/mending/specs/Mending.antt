@@ -18,14 +18,14 @@ use mathlib.Core.Bool.{Bool, not, _&&_}
 use mathlib.Core.List.{List, [], _∷_, map}
 use lib.Dec.{eqb, leb, ltb}
 use lib.ListN.{length, take, getD}
-use Rattle.lists.specs.Choice.{if_then_else_}
-use Rattle.lists.specs.Fold.{all}
-use Rattle.lists.specs.Same.{same}
+use Rattle.basic_laws.specs.Choice.{if_then_else_}
+use Rattle.basic_laws.specs.Fold.{all}
+use Rattle.basic_laws.specs.Same.{same}
 use Rattle.refusals.specs.Refusals.{accepted, notHex, malformed}
 use Rattle.text.specs.Lines.{Line, linesOf, linesBytes, carriageReturn, space}
-use Rattle.laying.specs.Laying.{layAnswer}
+use Rattle.text.specs.Laying.{layAnswer}
 use Rattle.pieces.specs.Pieces.{said}
-use Rattle.frame_lines.specs.ReadLine.{LineContent, carries, noFrame, readLine}
+use Rattle.frame.specs.ReadLine.{LineContent, carries, noFrame, readLine}
 use Rattle.mending.specs.declared.LineMended.{LineMended}
 
 -- ## The three things

@@ -9,8 +9,8 @@ use native.Mathlib.Omega.{arith}
 use lib.Dec.{eqb}
 use lib.ListN.{length, take, length-map}
 use lib.Seq.{take-take}
-use Rattle.lists.specs.Choice.{if_then_else_}
-use Rattle.lists.specs.Same.{same}
+use Rattle.basic_laws.specs.Choice.{if_then_else_}
+use Rattle.basic_laws.specs.Same.{same}
 use Rattle.mending.specs.declared.Repair.{Repair}
 use Rattle.mending.specs.Mending.{raised, unreturned, unspaced, mendedChars, altered, alteredBy}
 use Rattle.mending.specs.StepLaws.{unreturned-take, unspaced-take, altered-shorter}

@@ -13,12 +13,12 @@ use borrow.Author.Tests.{eq-eqb, ne-eqb, eqb-true, eqb-false, leb-true, leb-fals
 use lib.Dec.{eqb, leb, lit<}
 use lib.ListN.{length, take, getD}
 use lib.Seq.{take-suc, take-all, length-take-le}
-use Rattle.lists.specs.Choice.{if_then_else_}
-use Rattle.lists.specs.ChoiceLaws.{and-left, and-right}
-use Rattle.lists.specs.Fold.{all}
-use Rattle.lists.specs.FoldLaws.{all-append, all-at}
-use Rattle.lists.specs.Same.{same}
-use Rattle.lists.specs.SameLaws.{same-equal, same-itself, same-lengths}
+use Rattle.basic_laws.specs.Choice.{if_then_else_}
+use Rattle.basic_laws.specs.ChoiceLaws.{and-left, and-right}
+use Rattle.basic_laws.specs.Fold.{all}
+use Rattle.basic_laws.specs.FoldLaws.{all-append, all-at}
+use Rattle.basic_laws.specs.Same.{same}
+use Rattle.basic_laws.specs.SameLaws.{same-equal, same-itself, same-lengths}
 use Rattle.text.specs.Digits.{isDigit, spells, valueOf}
 use Rattle.text.specs.DigitsLaws.{value-below, value-above}
 use Rattle.text.specs.Lines.{carriageReturn, space}

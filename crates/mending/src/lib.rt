@@ -1,20 +1,25 @@
 // A line of a recording that went through an editor, mended: letters raised, one carriage return and
 // the spaces at its end dropped.
+pub mod answers;
+pub mod texts;
+
 ghost use mathlib.Core.Path.{_≡_};
 ghost use mathlib.Core.Bool.{true};
 ghost use mathlib.Core.List.{[], map};
 ghost use Prim.Native.Nat.{_+_, _<_, _≤_};
 ghost use lib.Dec.{eqb};
 ghost use lib.ListN.{length};
-ghost use Rattle.lists.specs.Choice.{if_then_else_};
-ghost use Rattle.lists.specs.Laid.{laid};
-ghost use Rattle.laying.specs.Laying.{layAnswer, layLeaves};
+ghost use Rattle.basic_laws.specs.Choice.{if_then_else_};
+ghost use Rattle.basic_laws.specs.Laid.{laid};
+ghost use Rattle.text.specs.Laying.{layAnswer, layLeaves};
 ghost use Rattle.mending.specs.Mending.{raised, unreturned, unspaced, longestMended, lineMended, mendedBytes};
 ghost use Rattle.mending.specs.Repair.{Repaired};
-use laying::Written;
+use frame::frame_lines;
 use text::CARRIAGE_RETURN;
 use text::LINE_FEED;
 use text::SPACE;
+use text::laying;
+use text::laying::Written;
 
 // The most characters of a line that is mended, and room for its feed.
 const LONGEST: usize = 256;

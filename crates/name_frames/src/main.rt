@@ -4,10 +4,11 @@ ghost use mathlib.Core.Path.{_≡_};
 ghost use Prim.Native.Nat.{_*_, _≤_};
 ghost use lib.ListN.{length, take};
 ghost use Rattle.pieces.specs.Pieces.{feedAnswer, feedKept, feedWritten, finishWritten, Stepped, Ran, Sayable};
-ghost use Rattle.printing.specs.Printing.{printedLine};
-ghost use Rattle.streaming.specs.Streaming.{mostPrinted, longestCarried};
+ghost use Rattle.naming.specs.Printing.{printedLine};
+ghost use Rattle.naming.specs.Streaming.{mostPrinted, longestCarried};
 use libc::STDIN_FILENO;
 use libc::STDOUT_FILENO;
+use naming::streaming;
 
 // 64 KiB of a recording, behind what is carried over from before.
 const PIECE: usize = 65671;

@@ -11,9 +11,9 @@ use lib.Pow.{pow-mono}
 use lib.ListN.{length, take, drop, getD, length-take, length-drop, drop-of-length-le}
 use lib.Seq.{drop-cons, drop-nil, getD-drop, getD-take}
 use lib.Dec.{eqb, ltb, lit<}
-use Rattle.lists.specs.Choice.{if_then_else_}
-use Rattle.bits.specs.Bits.{bitNumber, bitsOf, numberOf, bytesBits}
-use Rattle.bits.specs.BitsLaws.{number-lt, bytes-length}
+use Rattle.basic_laws.specs.Choice.{if_then_else_}
+use Rattle.basic_laws.specs.Bits.{bitNumber, bitsOf, numberOf, bytesBits}
+use Rattle.basic_laws.specs.BitsLaws.{number-lt, bytes-length}
 use Rattle.commands.specs.Commands.{searchRom, alarmSearch}
 use Rattle.refusals.specs.Refusals.{accepted, notHex, malformed, wrongCrc, allZero, wrongKind, outOfRange, badTriple, wrongCounts}
 use Rattle.family.specs.Families.{propertiesOf}
@@ -26,7 +26,7 @@ use Rattle.scratchpad.specs.Stored.{readingIn, fineIn}
 use Rattle.text.specs.Digits.{spells}
 use Rattle.text.specs.Lines.{Line}
 use Rattle.frame.specs.declared.Frame.{Frame}
-use Rattle.frame_lines.specs.ReadLine.{longestLine, wellFormed, frameIn, carries, noFrame, readDigits, readLine, found, lineAnswerOf}
+use Rattle.frame.specs.ReadLine.{longestLine, wellFormed, frameIn, carries, noFrame, readDigits, readLine, found, lineAnswerOf}
 use Rattle.naming.specs.declared.Name.{Name}
 use Rattle.naming.specs.declared.Name.the-variants.{Empty, Search, Alarm, Nobody, Pad, Other}
 use Rattle.naming.specs.declared.PassRead.{PassRead}

@@ -10,8 +10,8 @@ use mathlib.Core.Bool.{Bool, true, false, not, _&&_, _||_}
 use mathlib.Core.List.{List, [], _∷_}
 use lib.Dec.{eqb}
 use lib.ListN.{take, drop, getD}
-use Rattle.lists.specs.Choice.{if_then_else_}
-use Rattle.bits.specs.Bits.{numberOf, bytesBits}
+use Rattle.basic_laws.specs.Choice.{if_then_else_}
+use Rattle.basic_laws.specs.Bits.{numberOf, bytesBits}
 use Rattle.refusals.specs.Refusals.{accepted, wrongCrc, badTriple}
 use Rattle.commands.specs.Commands.{matchRom, searchRom, alarmSearch, readScratchpad}
 use Rattle.family.specs.Layout.{readingLowPlace, readingHighPlace}
@@ -21,8 +21,8 @@ use Rattle.scratchpad.specs.declared.Judged.{Judged}
 use Rattle.frame.specs.declared.Frame.{Frame}
 use Rattle.frame.specs.Frames.{slotBit}
 use Rattle.text.specs.Lines.{Line}
-use Rattle.frame_lines.specs.ReadLine.{LineContent, carries, noFrame, readLine}
-use Rattle.frame_lines.specs.declared.LineRead.{LineRead}
+use Rattle.frame.specs.ReadLine.{LineContent, carries, noFrame, readLine}
+use Rattle.frame.specs.declared.frame_lines.LineRead.{LineRead}
 use Rattle.naming.specs.declared.Name.{Name}
 use Rattle.naming.specs.declared.Name.the-variants.{Empty, Search, Alarm, Nobody, Pad, Other}
 use Rattle.naming.specs.declared.Named.{Named}

@@ -9,8 +9,8 @@ use native.Mathlib.Omega.{arith}
 use lib.Dec.{lit<}
 use lib.ListN.{length, take, drop, getD, length-append}
 use lib.Seq.{take-at, drop-at, take-take}
-use Rattle.bits.specs.Bits.{bitsOf, bytesBits, numberOf}
-use Rattle.bits.specs.BitsLaws.{bits-length, number-bits}
+use Rattle.basic_laws.specs.Bits.{bitsOf, bytesBits, numberOf}
+use Rattle.basic_laws.specs.BitsLaws.{bits-length, number-bits}
 use Rattle.commands.specs.Commands.{searchRom, alarmSearch}
 use Rattle.frame.specs.declared.Frame.{Frame}
 use Rattle.frame.specs.Frames.{slotsOf, blankFrame, Recorded}

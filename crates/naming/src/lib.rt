@@ -1,12 +1,16 @@
 // What a frame shows: a pass of a search, a scratchpad that was read, or something else.
+pub mod printing;
+pub mod streaming;
+
 ghost use mathlib.Core.Path.{_≡_};
 ghost use Prim.Native.Nat.{_+_, _*_, _<_};
 ghost use mathlib.Core.Bool.{false};
 ghost use lib.ListN.{length, getD};
-ghost use Rattle.bits.specs.Bits.{bytesBits, bitNumber};
+ghost use Rattle.basic_laws.specs.Bits.{bytesBits, bitNumber};
 ghost use Rattle.naming.specs.Naming.{nameNumber, named, frameNumber, lineNamed, nameOfRead, plain, refusedName, sends, coded, tripleAllowed, passRead, passSlots, namedPass, searches, isNobody, isPad, codeMatched, padIn, namedPad, believed};
 use frame::Frame;
-use frame_lines::LineRead;
+use frame::frame_lines;
+use frame::frame_lines::LineRead;
 use scratchpad::Judged;
 use scratchpad::NineBytes;
 

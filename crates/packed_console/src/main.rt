@@ -1,21 +1,23 @@
 // Drives a bench that is kept in a table of bytes, and a settings store, by lines: one call a line on
-// standard input, its answer on standard output at once. It only moves bytes: `gathering` says where a
-// line ends, and `table_settings` reads it, unpacks the table, makes the call, packs the bench again and
+// standard input, its answer on standard output at once. It only moves bytes: `sessions::gathering` says where a
+// line ends, and `packed_session::table_settings` reads it, unpacks the table, makes the call, packs the bench again and
 // forms the answer.
 ghost use mathlib.Core.Path.{_≡_};
 ghost use Prim.Native.Nat.{_≤_};
 ghost use lib.ListN.{length};
 ghost use Rattle.text.specs.Lines.{Line};
-ghost use Rattle.search_answers.specs.Whole.{room};
-ghost use Rattle.gathering.specs.Gathering.{mostHeld};
+ghost use Rattle.bench_answers.specs.Whole.{room};
+ghost use Rattle.sessions.specs.Gathering.{mostHeld};
 ghost use Rattle.sessions.specs.Session.{ended, endSaid, after, runAt, Standing, Answerable};
-ghost use Rattle.table_settings.specs.TableSession.{tableState, tableConsole, firstState};
-use gathering::MOST_HELD;
+ghost use Rattle.packed_session.specs.TableSession.{tableState, tableConsole, firstState};
+use bench_answers::search_answers::ROOM;
 use libc::STDIN_FILENO;
 use libc::STDOUT_FILENO;
-use search_answers::ROOM;
+use packed_bench::table::TABLE_BYTES;
+use packed_session::table_settings;
+use sessions::gathering;
+use sessions::gathering::MOST_HELD;
 use settings::Store;
-use table::TABLE_BYTES;
 
 // A run so far: the store, how many characters of the line not yet ended are held, and whether input may
 // follow.

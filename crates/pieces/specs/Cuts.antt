@@ -12,10 +12,10 @@ use borrow.Author.Tests.{leb-true, leb-false, not-true}
 use lib.Dec.{eqb, leb}
 use lib.ListN.{length, take, length-append}
 use lib.Seq.{take-all, take-append-le, take-take, length-take-le}
-use Rattle.lists.specs.Choice.{if_then_else_}
-use Rattle.lists.specs.Fold.{all}
-use Rattle.lists.specs.ChoiceLaws.{and-left, and-right}
-use Rattle.lists.specs.FoldLaws.{all-take}
+use Rattle.basic_laws.specs.Choice.{if_then_else_}
+use Rattle.basic_laws.specs.Fold.{all}
+use Rattle.basic_laws.specs.ChoiceLaws.{and-left, and-right}
+use Rattle.basic_laws.specs.FoldLaws.{all-take}
 use Rattle.text.specs.Lines.{Line, lineFeed, notFeed, longer, linesOf}
 use Rattle.pieces.specs.Pieces.{sayAll, said, whole, rest, saidWhole, carried, together, pieces, Enough}
 

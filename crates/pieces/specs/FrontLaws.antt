@@ -6,7 +6,7 @@ use mathlib.Core.List.{List}
 use native.Mathlib.Omega.{arith}
 use lib.ListN.{length, take, drop, getD, length-take, length-drop}
 use lib.Seq.{getD-append-add, getD-drop, getD-take, length-take-le}
-use Rattle.lists.specs.Laid.{laid}
+use Rattle.basic_laws.specs.Laid.{laid}
 
 -- behind what is laid at the front all is as it was
 past-front : (d y : List ℕ) (n : ℕ) → getD (laid d 0 y) (length y + n) 0 ≡ getD d (length y + n) 0

@@ -20,11 +20,11 @@ use mathlib.Core.Bool.{Bool}
 use mathlib.Core.List.{List, [], _∷_, _++_}
 use lib.Dec.{leb}
 use lib.ListN.{length, take}
-use Rattle.lists.specs.Choice.{if_then_else_}
-use Rattle.lists.specs.Laid.{laid}
+use Rattle.basic_laws.specs.Choice.{if_then_else_}
+use Rattle.basic_laws.specs.Laid.{laid}
 use Rattle.refusals.specs.Refusals.{accepted, noRoom}
 use Rattle.text.specs.Lines.{Line, linesOf}
-use Rattle.laying.specs.declared.Written.{Written}
+use Rattle.text.specs.declared.laying.Written.{Written}
 use Rattle.pieces.specs.declared.Fed.{Fed}
 
 -- what is said for lines, one after the other

@@ -13,14 +13,14 @@ use native.Mathlib.Nat.{mul-add, mul-comm, mul-le-mul-left, le-div-iff-mul-le}
 use borrow.Author.Tests.{le-leb, lt-leb}
 use lib.ListN.{length, take, drop, length-append, length-take, length-drop, drop-of-length-le}
 use lib.Seq.{take-add, take-append-seam}
-use Rattle.lists.specs.Laid.{laid}
-use Rattle.lists.specs.LaidLaws.{laid-none, laid-more, laid-length, laid-then, laid-read}
+use Rattle.basic_laws.specs.Laid.{laid}
+use Rattle.basic_laws.specs.LaidLaws.{laid-none, laid-more, laid-length, laid-then, laid-read}
 use Rattle.refusals.specs.Refusals.{accepted, noRoom}
 use Rattle.text.specs.Lines.{Line, linesOf, width, feedAt}
 use Rattle.text.specs.LinesLaws.{first-size, lines-fed, lines-open, lines-done}
-use Rattle.laying.specs.declared.Written.{Written}
-use Rattle.laying.specs.Laying.{layAnswer, layLeaves}
-use Rattle.laying.specs.LayingLaws.{lay-fits}
+use Rattle.text.specs.declared.laying.Written.{Written}
+use Rattle.text.specs.Laying.{layAnswer, layLeaves}
+use Rattle.text.specs.LayingLaws.{lay-fits}
 use Rattle.pieces.specs.declared.Progress.{Progress}
 use Rattle.pieces.specs.Pieces.{sayAll, said, whole, rest, saidWhole, carried, roomFor, Sayable, of-lines, of-all, FeedWithin, feedAnswer, feedKept, feedWritten, finishAnswer, finishWritten}
 use Rattle.pieces.specs.Cuts.{parts, rest-plain, alone-open}

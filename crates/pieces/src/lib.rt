@@ -2,7 +2,7 @@
 ghost use mathlib.Core.Path.{_≡_};
 ghost use Prim.Native.Nat.{min};
 ghost use lib.ListN.{length, take, drop};
-ghost use Rattle.lists.specs.Laid.{laid};
+ghost use Rattle.basic_laws.specs.Laid.{laid};
 
 // What came of a piece.
 pub struct Fed {

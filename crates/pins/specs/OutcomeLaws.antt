@@ -14,10 +14,10 @@ use native.Mathlib.Omega.{arith}
 use borrow.Author.Tests.{lt-ltb, le-ltb, eq-eqb, ne-eqb}
 use lib.Dec.{eqb, ltb, lit≤}
 use lib.ListN.{length, take, replicate, length-append}
-use Rattle.lists.specs.Choice.{if_then_else_}
-use Rattle.lists.specs.Fold.{fold}
-use Rattle.lists.specs.Laid.{laid}
-use Rattle.lists.specs.LaidLaws.{laid-read, laid-front}
+use Rattle.basic_laws.specs.Choice.{if_then_else_}
+use Rattle.basic_laws.specs.Fold.{fold}
+use Rattle.basic_laws.specs.Laid.{laid}
+use Rattle.basic_laws.specs.LaidLaws.{laid-read, laid-front}
 use Rattle.commands.specs.Commands.{searchRom}
 use Rattle.refusals.specs.Refusals.{accepted, noRoom}
 use Rattle.bench.specs.declared.Bench.{Bench}
@@ -25,7 +25,7 @@ use Rattle.master_rules.specs.Access.{readAt}
 use Rattle.master_rules.specs.Pins.{isPinned, pinsShown, PinsOutcome, PinsFound, pinsStep, nobodyRead, pinsSearched, sharedPin, notPinned, pinsOutcome, pinnedOf}
 use Rattle.master_rules.specs.Search.{Outcome, searchOutcome, answerOf, listAfter}
 use Rattle.master_rules.specs.declared.Searched.{Searched}
-use Rattle.master.specs.Sweep.{search-bounded}
+use Rattle.search.specs.Sweep.{search-bounded}
 use Rattle.pins.specs.declared.Reading.{Reading}
 use Rattle.pins.specs.Reading.{Holds}
 

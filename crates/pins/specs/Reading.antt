@@ -7,8 +7,8 @@ use mathlib.Core.List.{List}
 use mathlib.Core.Path.{_≡_}
 use lib.Dec.{eqb}
 use lib.ListN.{length, replicate}
-use Rattle.lists.specs.Choice.{if_then_else_}
-use Rattle.lists.specs.Laid.{laid}
+use Rattle.basic_laws.specs.Choice.{if_then_else_}
+use Rattle.basic_laws.specs.Laid.{laid}
 use Rattle.master_rules.specs.Pins.{PinsFound}
 use Rattle.pins.specs.declared.Reading.{Reading}
 

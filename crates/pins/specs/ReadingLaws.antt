@@ -11,11 +11,11 @@ use lib.Dec.{eqb}
 use lib.ListN.{length, take, getD, set, replicate, length-append, length-replicate}
 use lib.Seq.{take-suc}
 use native.Mathlib.Numerals.{add-one}
-use Rattle.lists.specs.Choice.{if_then_else_}
-use Rattle.lists.specs.Each.{those}
-use Rattle.lists.specs.EachLaws.{those-append}
-use Rattle.lists.specs.Laid.{laid}
-use Rattle.lists.specs.LaidLaws.{laid-none, laid-store}
+use Rattle.basic_laws.specs.Choice.{if_then_else_}
+use Rattle.basic_laws.specs.Each.{those}
+use Rattle.basic_laws.specs.EachLaws.{those-append}
+use Rattle.basic_laws.specs.Laid.{laid}
+use Rattle.basic_laws.specs.LaidLaws.{laid-none, laid-store}
 use Rattle.refusals.specs.Refusals.{accepted}
 use Rattle.bench.specs.declared.Bench.{Bench}
 use Rattle.master_rules.specs.Access.{readAt}

@@ -3,16 +3,16 @@ ghost use mathlib.Core.Path.{_≡_};
 ghost use Prim.Native.Nat.{_≤_, _<_, _+_};
 ghost use lib.ListN.{length, take};
 ghost use Rattle.refusals.specs.Refusals.{accepted};
-ghost use Rattle.lists.specs.Fold.{fold};
+ghost use Rattle.basic_laws.specs.Fold.{fold};
 ghost use Rattle.master_rules.specs.Pins.{isPinned, havePin, sharedPin, pinsStep, PinsFound, nobodyRead, notPinned, pinsSearched, pinsOutcome, pinnedOf, pinsListAfter};
 ghost use Rattle.commands.specs.Commands.{searchRom};
 ghost use Rattle.master_rules.specs.Search.{searchOutcome};
 ghost use Rattle.pins.specs.Reading.{Holds, countedPin};
 use bench::Bench;
-use master::FEWEST_BYTES;
-use master::FEWEST_PLACES;
 use master_rules::Pinned;
 use master_rules::SharedPin;
+use search::FEWEST_BYTES;
+use search::FEWEST_PLACES;
 
 // How many pin numbers there are.
 const PIN_NUMBERS: u8 = 16;
@@ -40,7 +40,7 @@ fn read_one(r: Reading, code: u64, list: &mut [u64]) -> Reading
         return r;
     }
     let before = r.bench;
-    let access = master::read_at(before, code);
+    let access = search::read_at(before, code);
     let after = access.bench;
     let mut pins = r.pins;
     let codes = r.codes;
@@ -160,7 +160,7 @@ fn search_and_read(
     ensures answer { λ r. ⌜ r ≡ pinnedOf (pinsSearched (searchOutcome searchRom bench 32 1824)) ⌝ }
     ensures listed { λ r. ⌜ now (list .exit) ≡ pinsListAfter (now (list .entry)) (pinsSearched (searchOutcome searchRom bench 32 1824)) ⌝ }
 {
-    let searched = master::search(bench, found, recording);
+    let searched = search::search(bench, found, recording);
     let after = searched.bench;
     if searched.refusal != refusals::ACCEPTED {
         return refuse(searched.refusal, after);

@@ -1,3 +1,6 @@
+pub mod Celsius
+pub mod CelsiusLaws
+pub mod CelsiusCases
 pub mod Rows
 pub mod RowsLaws
 pub mod Gathering
@@ -5,3 +8,10 @@ pub mod GatheringLaws
 pub mod WalkLaws
 pub mod Texts
 pub mod TextsLaws
+pub mod Csv
+pub mod RowLaws
+pub mod CsvLaws
+pub mod Theorem
+pub mod CsvCases
+pub mod Lists
+pub mod ListsLaws

@@ -3,6 +3,7 @@
 use libc::STDERR_FILENO;
 use libc::STDIN_FILENO;
 use libc::STDOUT_FILENO;
+use reading_programs::pad_readings;
 
 // The most bytes of a recording, 2 MiB, and one more, by which a longer one is told.
 const MOST: usize = 2097152;

@@ -10,8 +10,8 @@ use Prim.Native.Nat.{ℕ, _/_, _%_, _^_}
 use mathlib.Core.Bool.{Bool, not}
 use mathlib.Core.List.{List}
 use lib.Dec.{eqb}
-use Rattle.lists.specs.Choice.{if_then_else_}
-use Rattle.bits.specs.Bits.{bitsOf}
+use Rattle.basic_laws.specs.Choice.{if_then_else_}
+use Rattle.basic_laws.specs.Bits.{bitsOf}
 use Rattle.refusals.specs.Refusals.{accepted, wrongCrc, wrongKind}
 use Rattle.family.specs.Families.{propertiesOf}
 use Rattle.crc.specs.Crc.{crcBits}

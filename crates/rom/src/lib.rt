@@ -1,6 +1,6 @@
 // ROM codes: their parts, their bits as sent, and whether a code is sound.
 ghost use mathlib.Core.Path.{_≡_};
-ghost use Rattle.bits.specs.Bits.{bitAt};
+ghost use Rattle.basic_laws.specs.Bits.{bitAt};
 ghost use Rattle.rom.specs.Code.{familyOf, serialOf, crcByteOf, codeRefusal};
 
 // The family, in the low byte.

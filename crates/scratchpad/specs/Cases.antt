@@ -15,11 +15,11 @@ use mathlib.Core.List.{List, [], _∷_}
 use lib.Dec.{eqb}
 use lib.IntN.{ℤ, pos, negℤ}
 use lib.Signed.{leZ}
-use Rattle.lists.specs.Fold.{all, fold}
-use Rattle.bits.specs.Bits.{bitsOf, bytesBits}
+use Rattle.basic_laws.specs.Fold.{all, fold}
+use Rattle.basic_laws.specs.Bits.{bitsOf, bytesBits}
 use Rattle.family.specs.Families.{ds18b20, ds18s20, propertiesOf}
 use Rattle.crc.specs.Crc.{crcBits, crcOf}
-use Rattle.signed.specs.Rounding.{floorTo}
+use Rattle.basic_laws.specs.Rounding.{floorTo}
 use Rattle.temperature.specs.Alarm.{verdict}
 use Rattle.temperature.specs.declared.Reading.{Reading}
 use Rattle.temperature.specs.declared.Reading.the-variants.{InSixteenths, InHalves}

@@ -12,8 +12,8 @@ use mathlib.Core.List.{List}
 use lib.Dec.{eqb}
 use lib.IntN.{pos}
 use lib.ListN.{getD, take}
-use Rattle.lists.specs.Choice.{if_then_else_}
-use Rattle.lists.specs.Fold.{all}
+use Rattle.basic_laws.specs.Choice.{if_then_else_}
+use Rattle.basic_laws.specs.Fold.{all}
 use Rattle.refusals.specs.Refusals.{accepted, wrongCrc, allZero, wrongKind, outOfRange, wrongCounts}
 use Rattle.family.specs.Configuration.{inForm}
 use Rattle.family.specs.Families.{propertiesOf}
@@ -22,7 +22,7 @@ use Rattle.family.specs.declared.Properties.{Properties}
 use Rattle.crc.specs.Crc.{crcOf}
 use Rattle.temperature.specs.Range.{inRange}
 use Rattle.temperature.specs.declared.Reading.the-variants.{InSixteenths}
-use Rattle.fine.specs.Fine.{countsRight, noFine}
+use Rattle.scratchpad.specs.Fine.{countsRight, noFine}
 use Rattle.scratchpad.specs.declared.Judged.{Judged}
 use Rattle.scratchpad.specs.Stored.{readingIn, fineIn}
 

@@ -1,3 +1,5 @@
+pub mod Fine
+pub mod FineLaws
 pub mod Stored
 pub mod StoredLaws
 pub mod Judgement

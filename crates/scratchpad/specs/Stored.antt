@@ -18,8 +18,8 @@ use Rattle.temperature.specs.Register.{rawReading, readingOf, registerOf}
 use Rattle.temperature.specs.declared.Reading.{Reading}
 use Rattle.temperature.specs.declared.Register.{Register}
 use Rattle.temperature.specs.declared.Sixteenths.{Sixteenths}
-use Rattle.fine.specs.Fine.{countsPerDegree, remainingOf, fineOf}
-use Rattle.fine.specs.declared.FineDegrees.{FineDegrees}
+use Rattle.scratchpad.specs.Fine.{countsPerDegree, remainingOf, fineOf}
+use Rattle.scratchpad.specs.declared.fine.FineDegrees.{FineDegrees}
 
 abbrev pub readingIn : Properties → List ℕ → Reading
 readingIn row pad = readingOf (row .unit) (getD pad readingLowPlace 0) (getD pad readingHighPlace 0) (getD pad configurationPlace 0)

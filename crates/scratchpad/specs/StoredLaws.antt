@@ -15,7 +15,7 @@ use Rattle.family.specs.Layout.{configurationPlace, countRemainPlace, countPerD
 use Rattle.family.specs.declared.Properties.{Properties}
 use Rattle.family.specs.declared.Unit.{Unit}
 use Rattle.family.specs.declared.Unit.the-variants.{Sixteenths as inSixteenths, HalfDegrees as inHalfDegrees}
-use Rattle.signed.specs.Complement.{Fits16}
+use Rattle.basic_laws.specs.Complement.{Fits16}
 use Rattle.temperature.specs.Measured.{nearestHalves, measuredOf}
 use Rattle.temperature.specs.MeasuredLaws.{measured-range, measured-raw, measured-cleared, cleared-range}
 use Rattle.temperature.specs.Range.{inRange}
@@ -25,8 +25,8 @@ use Rattle.temperature.specs.declared.Reading.{Reading}
 use Rattle.temperature.specs.declared.Reading.the-variants.{InSixteenths, InHalves}
 use Rattle.temperature.specs.declared.Register.{Register}
 use Rattle.temperature.specs.declared.Sixteenths.{Sixteenths}
-use Rattle.fine.specs.Fine.{countsPerDegree, remainingOf, countsRight, fineOf}
-use Rattle.fine.specs.FineLaws.{counts-left, fine-back}
+use Rattle.scratchpad.specs.Fine.{countsPerDegree, remainingOf, countsRight, fineOf}
+use Rattle.scratchpad.specs.FineLaws.{counts-left, fine-back}
 use Rattle.scratchpad.specs.Judgement.{countsBelieved}
 use Rattle.scratchpad.specs.Stored.{readingIn, rawIn, fineIn, storedReading, withRegister, withCounts, scratchpadAfter}
 

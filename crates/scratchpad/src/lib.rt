@@ -1,14 +1,16 @@
 // Scratchpads: what the end of a conversion stores in one, and the one judgement of its nine bytes, which
 // frame naming and the master's calls share.
+pub mod fine;
+
 ghost use mathlib.Core.Path.{_≡_};
 ghost use Rattle.temperature.specs.Register.{registerOf};
 ghost use Rattle.scratchpad.specs.Stored.{readingIn, fineIn, storedReading, withRegister, withCounts, scratchpadAfter};
 ghost use Rattle.temperature.specs.Degrees.{IsSixteenths};
 ghost use Rattle.scratchpad.specs.InDegrees.{sixteenthsOf, degreesIn};
 ghost use Rattle.scratchpad.specs.Judgement.{crcRight, allZeros, kindRight, countsBelieved, refusedPad, judged};
+use crate::fine::FineDegrees;
 use family::Properties;
 use family::Unit;
-use fine::FineDegrees;
 use temperature::Degrees;
 use temperature::Reading;
 use temperature::Sixteenths;

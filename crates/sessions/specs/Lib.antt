@@ -1,2 +1,4 @@
+pub mod Gathering
+pub mod GatheringLaws
 pub mod Session
 pub mod SessionLaws

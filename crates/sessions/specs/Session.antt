@@ -30,10 +30,10 @@ use mathlib.Core.Bool.{Bool, true, false}
 use mathlib.Core.List.{List, [], _∷_, _++_}
 use lib.Dec.{ltb}
 use lib.ListN.{length, take}
-use Rattle.lists.specs.Choice.{if_then_else_}
+use Rattle.basic_laws.specs.Choice.{if_then_else_}
 use Rattle.text.specs.Lines.{Line, firstLine, linesOf}
 use Rattle.pieces.specs.Pieces.{together}
-use Rattle.gathering.specs.Gathering.{mostHeld}
+use Rattle.sessions.specs.Gathering.{mostHeld}
 
 -- what is said to a line in a state, and the state after it
 pub record Console : Type 1 where

@@ -12,16 +12,16 @@ use borrow.Author.Tests.{eqb-true, lt-ltb}
 use lib.Dec.{eqb, leb·suc-suc}
 use lib.ListN.{length, take, drop, length-take}
 use lib.Seq.{take-all, length-take-le}
-use Rattle.lists.specs.Choice.{if_then_else_}
-use Rattle.lists.specs.First.{firstAt}
-use Rattle.lists.specs.Fold.{all}
-use Rattle.lists.specs.FoldLaws.{all-append}
+use Rattle.basic_laws.specs.Choice.{if_then_else_}
+use Rattle.basic_laws.specs.First.{firstAt}
+use Rattle.basic_laws.specs.Fold.{all}
+use Rattle.basic_laws.specs.FoldLaws.{all-append}
 use Rattle.text.specs.Lines.{Line, lineFeed, notFeed, longer, linesOf, feedAt, firstLine, width}
 use Rattle.text.specs.LinesLaws.{lines-cut, plain-lines, lines-done, lines-next, line-ends}
 use Rattle.pieces.specs.Pieces.{together}
-use Rattle.gathering.specs.Gathering.{mostHeld, partAt, taken, takenLeaves}
-use Rattle.gathering.specs.GatheringLaws.{taken-few, taken-holds}
-use Rattle.gathering.specs.declared.Gathered.{Gathered}
+use Rattle.sessions.specs.Gathering.{mostHeld, partAt, taken, takenLeaves}
+use Rattle.sessions.specs.GatheringLaws.{taken-few, taken-holds}
+use Rattle.sessions.specs.declared.gathering.Gathered.{Gathered}
 use Rattle.sessions.specs.Session.{Console, inTurn, Run, fresh, grown, ended, endSaid, ranAll, heardAll, after, saidOn, atEnd, session, Enough, SessionClaim, ran, heard, runAt, Reached, start, more, Led, Standing, Answerable, of-line, of-end}
 
 -- what is cut twice is cut once

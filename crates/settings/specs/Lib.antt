@@ -3,3 +3,4 @@ pub mod Calls
 pub mod StoreLaws
 pub mod Runs
 pub mod RunsLaws
+pub mod Written

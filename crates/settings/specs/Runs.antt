@@ -14,9 +14,9 @@ use mathlib.Core.List.{List, [], _∷_, _++_}
 use mathlib.Core.Path.{_≡_}
 use lib.Dec.{eqb}
 use lib.ListN.{length}
-use Rattle.lists.specs.Choice.{if_then_else_}
-use Rattle.lists.specs.Each.{Distinct}
-use Rattle.lists.specs.Fold.{fold}
+use Rattle.basic_laws.specs.Choice.{if_then_else_}
+use Rattle.basic_laws.specs.Each.{Distinct}
+use Rattle.basic_laws.specs.Fold.{fold}
 use Rattle.refusals.specs.Refusals.{accepted, notFound}
 use Rattle.rom.specs.Code.{codeRefusal}
 use Rattle.device.specs.declared.Settings.{Settings}

@@ -12,12 +12,12 @@ use borrow.Author.Tests.{eqb-true, eqb-false, eq-eqb, ne-eqb}
 use lib.Dec.{eqb, lit≤}
 use lib.ListN.{length, length-take, length-set, length-map, length-append, length-replicate}
 use lib.Seq.{getD-take, take-set-lt, map-set-same, getD-set-same, getD-set-other}
-use Rattle.lists.specs.Choice.{if_then_else_}
-use Rattle.lists.specs.Each.{Each, Distinct}
-use Rattle.lists.specs.EachLaws.{distinct-snoc}
-use Rattle.lists.specs.First.{firstWith}
-use Rattle.lists.specs.Fold.{fold}
-use Rattle.lists.specs.FoldLaws.{fold-append}
+use Rattle.basic_laws.specs.Choice.{if_then_else_}
+use Rattle.basic_laws.specs.Each.{Each, Distinct}
+use Rattle.basic_laws.specs.EachLaws.{distinct-snoc}
+use Rattle.basic_laws.specs.First.{firstWith}
+use Rattle.basic_laws.specs.Fold.{fold}
+use Rattle.basic_laws.specs.FoldLaws.{fold-append}
 use Rattle.refusals.specs.Refusals.{accepted, notFound, staleVersion}
 use Rattle.rom.specs.Code.{codeRefusal}
 use Rattle.device.specs.declared.Settings.{Settings}

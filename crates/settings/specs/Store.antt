@@ -10,7 +10,7 @@ use mathlib.Core.Bool.{false}
 use mathlib.Core.List.{List}
 use lib.Dec.{eqb}
 use lib.ListN.{getD, set, take, replicate}
-use Rattle.lists.specs.First.{firstWith}
+use Rattle.basic_laws.specs.First.{firstWith}
 use Rattle.settings.specs.declared.Entry.{Entry}
 use Rattle.settings.specs.declared.Kept.{Kept}
 use Rattle.settings.specs.declared.Kept.the-variants.{At, Nowhere}

@@ -16,10 +16,10 @@ use borrow.Author.Tests.{eqb-true, eqb-false, ltb-true, eq-eqb, ne-eqb}
 use lib.Dec.{eqb, ltb, lit<}
 use lib.ListN.{length, set, take, length-take}
 use lib.Seq.{getD-take, take-set-lt, take-suc-set, map-set-same}
-use Rattle.lists.specs.Choice.{if_then_else_}
-use Rattle.lists.specs.Each.{Each}
-use Rattle.lists.specs.First.{firstWith}
-use Rattle.lists.specs.FirstLaws.{first-cases, first-none, first-append, first-mapped}
+use Rattle.basic_laws.specs.Choice.{if_then_else_}
+use Rattle.basic_laws.specs.Each.{Each}
+use Rattle.basic_laws.specs.First.{firstWith}
+use Rattle.basic_laws.specs.FirstLaws.{first-cases, first-none, first-append, first-mapped}
 use Rattle.refusals.specs.Refusals.{accepted, duplicate, benchFull, notFound, staleVersion, versionsSpent}
 use Rattle.rom.specs.Code.{codeRefusal}
 use Rattle.device.specs.declared.Settings.{Settings}

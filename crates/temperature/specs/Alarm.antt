@@ -7,9 +7,9 @@
 use Prim.Native.Nat.{ℕ}
 use mathlib.Core.Bool.{Bool, _||_}
 use lib.Signed.{leZ}
-use Rattle.lists.specs.Choice.{if_then_else_}
+use Rattle.basic_laws.specs.Choice.{if_then_else_}
 use Rattle.refusals.specs.Refusals.{accepted, outOfRange}
-use Rattle.signed.specs.Complement.{signed8, bits8}
+use Rattle.basic_laws.specs.Complement.{signed8, bits8}
 use Rattle.temperature.specs.declared.LimitByte.{LimitByte}
 use Rattle.temperature.specs.declared.Reading.{Reading}
 use Rattle.temperature.specs.declared.WholeDegrees.{WholeDegrees}

@@ -10,9 +10,9 @@ use lib.Signed.{leZ}
 use mir.Syntax.{w8}
 use mir.Val.{SFits}
 use Rattle.refusals.specs.Refusals.{accepted}
-use Rattle.signed.specs.Complement.{signed8}
-use Rattle.signed.specs.ComplementLaws.{signed-bits8, bits-signed8, signed-fits8}
-use Rattle.signed.specs.RoundingLaws.{le-total, le-trans}
+use Rattle.basic_laws.specs.Complement.{signed8}
+use Rattle.basic_laws.specs.ComplementLaws.{signed-bits8, bits-signed8, signed-fits8}
+use Rattle.basic_laws.specs.RoundingLaws.{le-total, le-trans}
 use Rattle.temperature.specs.declared.WholeDegrees.{WholeDegrees}
 use Rattle.temperature.specs.Alarm.{limitOf, limitByteOf, alarmsAt}
 use Rattle.temperature.specs.Range.{isLimit}

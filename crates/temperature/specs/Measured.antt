@@ -11,8 +11,8 @@ use lib.IntN.{pos, _+ℤ_}
 use Rattle.family.specs.Configuration.{resolution}
 use Rattle.family.specs.declared.Unit.{Unit}
 use Rattle.family.specs.declared.Unit.the-variants.{Sixteenths as inSixteenths, HalfDegrees as inHalfDegrees}
-use Rattle.lists.specs.Choice.{if_then_else_}
-use Rattle.signed.specs.Rounding.{floorDiv, floorTo}
+use Rattle.basic_laws.specs.Choice.{if_then_else_}
+use Rattle.basic_laws.specs.Rounding.{floorDiv, floorTo}
 use Rattle.temperature.specs.declared.HalfDegrees.{HalfDegrees}
 use Rattle.temperature.specs.declared.Reading.{Reading}
 use Rattle.temperature.specs.declared.Reading.the-variants.{InSixteenths, InHalves}

@@ -12,12 +12,12 @@ use lib.Signed.{mag}
 use Rattle.family.specs.Configuration.{resolution}
 use Rattle.family.specs.declared.Unit.{Unit}
 use Rattle.family.specs.declared.Unit.the-variants.{Sixteenths as inSixteenths, HalfDegrees as inHalfDegrees}
-use Rattle.lists.specs.Choice.{if_then_else_}
-use Rattle.signed.specs.Complement.{Fits16}
-use Rattle.signed.specs.ComplementLaws.{floor-fits}
-use Rattle.signed.specs.DifferencesLaws.{plus-size}
-use Rattle.signed.specs.Rounding.{floorDiv, floorTo}
-use Rattle.signed.specs.RoundingLaws.{sub-below, sub-above, floor-below, floor-near, floor-again, floor-div, div-div, div-size}
+use Rattle.basic_laws.specs.Choice.{if_then_else_}
+use Rattle.basic_laws.specs.Complement.{Fits16}
+use Rattle.basic_laws.specs.ComplementLaws.{floor-fits}
+use Rattle.basic_laws.specs.DifferencesLaws.{plus-size}
+use Rattle.basic_laws.specs.Rounding.{floorDiv, floorTo}
+use Rattle.basic_laws.specs.RoundingLaws.{sub-below, sub-above, floor-below, floor-near, floor-again, floor-div, div-div, div-size}
 use Rattle.temperature.specs.declared.Reading.{Reading}
 use Rattle.temperature.specs.declared.Reading.the-variants.{InSixteenths, InHalves}
 use Rattle.temperature.specs.declared.Sixteenths.{Sixteenths}

@@ -7,10 +7,10 @@ use native.Mathlib.Omega.{arith}
 use borrow.Author.Tests.{leb-true}
 use lib.IntN.{ℤ, pos, negsuc, _+ℤ_}
 use lib.Signed.{leZ, mag}
-use Rattle.lists.specs.ChoiceLaws.{and-left, and-right}
-use Rattle.signed.specs.DifferencesLaws.{le-plus}
-use Rattle.signed.specs.Rounding.{floorDiv, floorTo}
-use Rattle.signed.specs.RoundingLaws.{floor-below, floor-mono, div-mono, le-trans}
+use Rattle.basic_laws.specs.ChoiceLaws.{and-left, and-right}
+use Rattle.basic_laws.specs.DifferencesLaws.{le-plus}
+use Rattle.basic_laws.specs.Rounding.{floorDiv, floorTo}
+use Rattle.basic_laws.specs.RoundingLaws.{floor-below, floor-mono, div-mono, le-trans}
 use Rattle.temperature.specs.Range.{between}
 
 -- ## A range as its two bounds

@@ -6,8 +6,8 @@ use native.Mathlib.Omega.{arith}
 use lib.IntN.{ℤ}
 use Rattle.family.specs.declared.Unit.{Unit}
 use Rattle.family.specs.declared.Unit.the-variants.{Sixteenths as inSixteenths, HalfDegrees as inHalfDegrees}
-use Rattle.signed.specs.Complement.{Fits16, signed16, bits16}
-use Rattle.signed.specs.ComplementLaws.{signed-bits, bits-signed}
+use Rattle.basic_laws.specs.Complement.{Fits16, signed16, bits16}
+use Rattle.basic_laws.specs.ComplementLaws.{signed-bits, bits-signed}
 use Rattle.temperature.specs.declared.Reading.{Reading}
 use Rattle.temperature.specs.declared.Reading.the-variants.{InSixteenths, InHalves}
 use Rattle.temperature.specs.Register.{unitOf, countOf, readingWith, countBytes, registerOf, rawReading}

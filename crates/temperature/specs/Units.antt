@@ -14,9 +14,9 @@ use Prim.Native.Nat.{ℕ}
 use mathlib.Core.Bool.{Bool}
 use lib.IntN.{pos, _+ℤ_, _*ℤ_}
 use lib.Signed.{leZ, ltZ}
-use Rattle.lists.specs.Choice.{if_then_else_}
+use Rattle.basic_laws.specs.Choice.{if_then_else_}
 use Rattle.refusals.specs.Refusals.{accepted, outOfRange}
-use Rattle.signed.specs.Rounding.{floorDiv}
+use Rattle.basic_laws.specs.Rounding.{floorDiv}
 use Rattle.temperature.specs.declared.Converted.{Converted}
 use Rattle.temperature.specs.declared.HalfDegrees.{HalfDegrees}
 use Rattle.temperature.specs.declared.Reading.{Reading}

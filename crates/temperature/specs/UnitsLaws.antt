@@ -4,10 +4,10 @@ use mathlib.Core.Path.{_≡_, refl, ap}
 use mathlib.Core.Bool.{true}
 use native.Mathlib.Omega.{arith}
 use lib.Dec.{lit<, lit≤}
-use Rattle.signed.specs.Complement.{Fits16}
-use Rattle.signed.specs.ComplementLaws.{mul-fits}
-use Rattle.signed.specs.Rounding.{floorTo}
-use Rattle.signed.specs.RoundingLaws.{floor-below, floor-near, mul-div}
+use Rattle.basic_laws.specs.Complement.{Fits16}
+use Rattle.basic_laws.specs.ComplementLaws.{mul-fits}
+use Rattle.basic_laws.specs.Rounding.{floorTo}
+use Rattle.basic_laws.specs.RoundingLaws.{floor-below, floor-near, mul-div}
 use Rattle.temperature.specs.declared.HalfDegrees.{HalfDegrees}
 use Rattle.temperature.specs.declared.Reading.the-variants.{InSixteenths, InHalves}
 use Rattle.temperature.specs.declared.Sixteenths.{Sixteenths}

@@ -9,7 +9,7 @@ ghost use Rattle.temperature.specs.Measured.{measuredOf, nearestHalves, 
 ghost use Rattle.temperature.specs.Range.{between, inRange, wholeInRange, isLimit};
 ghost use Rattle.temperature.specs.Register.{countOf, countBytes, readingOf, registerOf};
 ghost use Rattle.temperature.specs.Units.{converted, notConverted, toHalfDegrees, toSixteenths, wholeToSixteenths, wholeOf};
-ghost use Rattle.signed.specs.Complement.{signed16, bits16};
+ghost use Rattle.basic_laws.specs.Complement.{signed16, bits16};
 use family::Unit;
 
 // -55 and +125 degrees, the ends of what the devices measure, in each unit.

@@ -15,9 +15,9 @@ use lib.IntN.{ℤ, pos, natAbs}
 use lib.ListN.{length, take, drop, getD, length-drop}
 use lib.Seq.{take-all}
 use lib.Signed.{ltZ}
-use Rattle.lists.specs.Choice.{if_then_else_}
-use Rattle.lists.specs.ChoiceLaws.{and-left, and-right}
-use Rattle.lists.specs.Fold.{fold, all}
+use Rattle.basic_laws.specs.Choice.{if_then_else_}
+use Rattle.basic_laws.specs.ChoiceLaws.{and-left, and-right}
+use Rattle.basic_laws.specs.Fold.{fold, all}
 use Rattle.text.specs.Ascii.{ascii}
 use Rattle.text.specs.Digits.{digits, digitOf, valueOf, isDigit, spells, numberIn, thenDigit}
 use Rattle.text.specs.DigitsLaws.{digits-length, digits-are, number-digits, digits-number, number-below, digit-value}

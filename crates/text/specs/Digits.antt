@@ -15,8 +15,8 @@ use Prim.Native.Nat.{ℕ, zero, suc, _+_, _-_, _*_, _/_, _%_}
 use mathlib.Core.Bool.{Bool, _&&_}
 use mathlib.Core.List.{List, [], _∷_, _++_}
 use lib.Dec.{ltb, leb}
-use Rattle.lists.specs.Choice.{if_then_else_}
-use Rattle.lists.specs.Fold.{fold, all}
+use Rattle.basic_laws.specs.Choice.{if_then_else_}
+use Rattle.basic_laws.specs.Fold.{fold, all}
 
 -- the character of a value below 16
 abbrev pub digitOf : ℕ → ℕ

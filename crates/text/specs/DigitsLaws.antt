@@ -14,10 +14,10 @@ use borrow.Author.Tests.{lt-ltb, le-ltb, le-leb, lt-leb, leb-true, ltb-true, ltb
 use lib.Dec.{ltb, leb, lit<}
 use lib.ListN.{length, take, getD, length-append}
 use lib.Seq.{take-suc, take-length}
-use Rattle.lists.specs.Fold.{fold, all}
-use Rattle.lists.specs.FoldLaws.{fold-append, fold-step, all-append, all-at}
-use Rattle.bits.specs.Bytes.{Bytes}
-use Rattle.lists.specs.ChoiceLaws.{and-left, and-right}
+use Rattle.basic_laws.specs.Fold.{fold, all}
+use Rattle.basic_laws.specs.FoldLaws.{fold-append, fold-step, all-append, all-at}
+use Rattle.basic_laws.specs.Bytes.{Bytes}
+use Rattle.basic_laws.specs.ChoiceLaws.{and-left, and-right}
 use Rattle.text.specs.Digits.{digitOf, valueOf, isDigit, spells, digits, hexDigits, thenDigit, numberIn, hexOf, bytesOf, codeDigits}
 
 -- ## One digit

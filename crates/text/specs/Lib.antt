@@ -7,3 +7,8 @@ pub mod Numbers
 pub mod NumbersLaws
 pub mod Lines
 pub mod LinesLaws
+pub mod Laying
+pub mod LayingLaws
+pub mod Putting
+pub mod PuttingLaws
+pub mod FieldsLaws

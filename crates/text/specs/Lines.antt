@@ -17,9 +17,9 @@ use mathlib.Core.Bool.{Bool, true, false, not, Bool·beq, _&&_}
 use mathlib.Core.List.{List, [], _∷_, _++_}
 use lib.Dec.{eqb, ltb}
 use lib.ListN.{length, take}
-use Rattle.lists.specs.Choice.{if_then_else_}
-use Rattle.lists.specs.First.{firstAt}
-use Rattle.lists.specs.Same.{same}
+use Rattle.basic_laws.specs.Choice.{if_then_else_}
+use Rattle.basic_laws.specs.First.{firstAt}
+use Rattle.basic_laws.specs.Same.{same}
 
 -- the character that ends a line
 abbrev pub lineFeed : ℕ

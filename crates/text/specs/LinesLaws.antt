@@ -20,13 +20,13 @@ use borrow.Author.Tests.{eqb-true, lt-ltb, le-ltb, leb-true, leb-false, ltb-true
 use lib.Dec.{eqb, leb, ltb, leb·suc-suc}
 use lib.ListN.{length, take, drop, length-append, length-drop, drop-of-length-le, take-append-drop}
 use lib.Seq.{drop-drop, take-all, length-take-le, drop-at}
-use Rattle.lists.specs.Choice.{if_then_else_}
-use Rattle.lists.specs.Fold.{all}
-use Rattle.lists.specs.ChoiceLaws.{and-left, and-right}
-use Rattle.lists.specs.First.{firstAt}
-use Rattle.lists.specs.FirstLaws.{at-within}
-use Rattle.lists.specs.Same.{same}
-use Rattle.lists.specs.SameLaws.{same-equal, same-itself}
+use Rattle.basic_laws.specs.Choice.{if_then_else_}
+use Rattle.basic_laws.specs.Fold.{all}
+use Rattle.basic_laws.specs.ChoiceLaws.{and-left, and-right}
+use Rattle.basic_laws.specs.First.{firstAt}
+use Rattle.basic_laws.specs.FirstLaws.{at-within}
+use Rattle.basic_laws.specs.Same.{same}
+use Rattle.basic_laws.specs.SameLaws.{same-equal, same-itself}
 use Rattle.text.specs.Digits.{isDigit, spells}
 use Rattle.text.specs.Lines.{lineFeed, Line, longer, linesOf, sameLine, feedAt, notFeed, width, firstLine, lineBytes, linesBytes}
 

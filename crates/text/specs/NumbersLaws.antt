@@ -10,10 +10,10 @@ use native.Mathlib.Nat.{le-of-lt, min-eq-left, min-eq-right, mul-comm, mul-le-mu
 use borrow.Author.Tests.{le-leb, lt-leb, lt-ltb, le-ltb, eq-eqb, eqb-true, leb-true, leb-false}
 use lib.Dec.{eqb, leb, lit<}
 use lib.ListN.{length, take, drop, getD, take-append-drop}
-use Rattle.lists.specs.Choice.{if_then_else_}
-use Rattle.lists.specs.ChoiceLaws.{and-left, and-right}
-use Rattle.lists.specs.Fold.{fold}
-use Rattle.lists.specs.FoldLaws.{fold-append, all-from}
+use Rattle.basic_laws.specs.Choice.{if_then_else_}
+use Rattle.basic_laws.specs.ChoiceLaws.{and-left, and-right}
+use Rattle.basic_laws.specs.Fold.{fold}
+use Rattle.basic_laws.specs.FoldLaws.{fold-append, all-from}
 use Rattle.text.specs.Digits.{valueOf, isDigit, spells, thenDigit, numberIn}
 use Rattle.text.specs.DigitsLaws.{number-next, number-below}
 use Rattle.text.specs.Decimal.{decimalIn, plainDecimal}

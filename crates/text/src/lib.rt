@@ -1,6 +1,8 @@
 // Text: numbers as digits, and lines.
+pub mod laying;
 mod lines;
 mod numbers;
+pub mod putting;
 
 pub use lines::count_lines;
 pub use lines::line_behind;

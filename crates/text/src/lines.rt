@@ -2,7 +2,7 @@
 ghost use mathlib.Core.Path.{_≡_};
 ghost use Prim.Native.Nat.{_+_};
 ghost use lib.ListN.{length, drop};
-ghost use Rattle.lists.specs.Same.{same};
+ghost use Rattle.basic_laws.specs.Same.{same};
 ghost use Rattle.text.specs.Lines.{feedAt, firstLine, linesOf, width};
 use crate::LINE_FEED;
 

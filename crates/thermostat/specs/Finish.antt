@@ -7,7 +7,7 @@
 use Prim.Native.Nat.{ℕ}
 use mathlib.Core.Bool.{Bool, true, false, not, _||_}
 use lib.Signed.{leZ, ltZ}
-use Rattle.lists.specs.Choice.{if_then_else_}
+use Rattle.basic_laws.specs.Choice.{if_then_else_}
 use Rattle.refusals.specs.Refusals.{accepted, outOfRange, mismatch}
 use Rattle.temperature.specs.Alarm.{limitOf, limitByteOf}
 use Rattle.temperature.specs.Range.{wholeInRange}

@@ -2,3 +2,11 @@ pub mod Record
 pub mod Status
 pub mod Finish
 pub mod Power
+pub mod Commands
+pub mod Slot
+pub mod Calls
+pub mod Race
+pub mod RaceCases
+pub mod RaceLaws
+pub mod CallsLaws
+pub mod Replies

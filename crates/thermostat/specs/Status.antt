@@ -6,7 +6,7 @@
 use Prim.Native.Nat.{ℕ}
 use mathlib.Core.Bool.{Bool, true, false, not, _&&_}
 use mathlib.Core.List.{List, [], _∷_}
-use Rattle.bits.specs.Bits.{bitAt, numberOf}
+use Rattle.basic_laws.specs.Bits.{bitAt, numberOf}
 use Rattle.thermostat.specs.declared.Thermostat.{Thermostat}
 
 abbrev pub statusBits : Thermostat → List Bool

@@ -1,5 +1,9 @@
 // The DS1821, a thermometer and thermostat that is alone on its wire and has no code. It goes in by
 // value and comes back in the answer. Its status register has two writers, the host and the probe itself.
+pub mod master;
+pub mod rules;
+pub mod wire;
+
 ghost use mathlib.Core.Bool.{not, _&&_, _||_};
 ghost use mathlib.Core.Path.{_≡_};
 ghost use Rattle.thermostat.specs.Record.{withStage, withConverting, withHigh, withLow};

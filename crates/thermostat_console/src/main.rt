@@ -1,18 +1,19 @@
 // Drives a DS1821 by lines: one request a line on standard input, its answer on standard output at once.
-// It only moves bytes: `gathering` says where a line ends, and `thermostat_lines` reads it, makes the call
+// It only moves bytes: `sessions::gathering` says where a line ends, and `thermostat_session` reads it, makes the call
 // and forms the answer.
 ghost use mathlib.Core.Path.{_≡_};
 ghost use Prim.Native.Nat.{_≤_};
 ghost use lib.ListN.{length};
 ghost use Rattle.text.specs.Lines.{Line};
-ghost use Rattle.putting.specs.Putting.{lineRoom};
-ghost use Rattle.gathering.specs.Gathering.{mostHeld};
+ghost use Rattle.text.specs.Putting.{lineRoom};
+ghost use Rattle.sessions.specs.Gathering.{mostHeld};
 ghost use Rattle.sessions.specs.Session.{ended, endSaid, after, runAt, Standing, Answerable};
-ghost use Rattle.thermostat_lines.specs.ProbeSession.{probeConsole, firstProbe};
-use gathering::MOST_HELD;
+ghost use Rattle.thermostat_session.specs.ProbeSession.{probeConsole, firstProbe};
 use libc::STDIN_FILENO;
 use libc::STDOUT_FILENO;
-use putting::LINE_ROOM;
+use sessions::gathering;
+use sessions::gathering::MOST_HELD;
+use text::putting::LINE_ROOM;
 use thermostat::Kept;
 use thermostat::Thermostat;
 
@@ -36,7 +37,7 @@ fn answer_line(probe: Thermostat, line: &[u8], fed: bool, out: &mut [u8]) -> The
     requires { ⌜ (lineRoom ≤ length (now out)) × Answerable probeConsole firstProbe (probeConsole .says probe (record { chars = now line; fed = fed })) ⌝ }
     ensures { λ r. ⌜ r ≡ probeConsole .next probe (record { chars = now (line .entry); fed = fed }) ⌝ }
 {
-    let said = thermostat_lines::answer(probe, line, fed, out);
+    let said = thermostat_session::answer(probe, line, fed, out);
     let count = said.count;
     write_answer(&out[..count]);
     said.probe

@@ -1,15 +1,17 @@
 // Why a device is on the list of an alarm search, or is not. Asking changes nothing.
+pub mod rules;
+
 ghost use mathlib.Core.Path.{_≡_};
-ghost use Rattle.why_rules.specs.Why.{bandOf, reasonNumber, silent, limitsDiffer, toldBy, whyOf};
-ghost use Rattle.why_rules.specs.Book.{WhyPromise};
+ghost use Rattle.why.specs.Why.{bandOf, reasonNumber, silent, limitsDiffer, toldBy, whyOf};
+ghost use Rattle.why.specs.Book.{WhyPromise};
+use crate::rules::Reason;
+use crate::rules::Why;
 use bench::Bench;
 use device::Page;
 use scratchpad::EightBytes;
 use temperature::Reading;
 use temperature::Sixteenths;
 use temperature::WholeDegrees;
-use why_rules::Reason;
-use why_rules::Why;
 
 // A refusal, or a reason without numbers.
 fn silent(refusal: u8, reason: Reason) -> Why

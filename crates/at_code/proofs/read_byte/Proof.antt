@@ -5,15 +5,15 @@ use mathlib.Core.Bool.{true}
 use native.Mathlib.Nat.{mul-one}
 use native.Mathlib.Omega.{arith}
 use borrow.Author.Needs.{needs}
-use Rattle.bits.specs.Bits.{numberOf}
+use Rattle.basic_laws.specs.Bits.{numberOf}
 use Rattle.commands.specs.BytesLaws.{shifted-on}
-use Rattle.search_law.specs.Wire.{slots}
+use Rattle.search_laws.specs.Wire.{slots}
 use Rattle.bench.specs.Slot.{slotted}
 use Rattle.at_code.specs.Replies.{byteReadOf}
 use Rattle.master_rules.specs.Access.{afterSlots, byteShown}
-use Rattle.search_law.specs.Reads.{bitsShown}
-use Rattle.search_law.specs.ReadsLaws.{reads-more, shown-more}
-use Rattle.searching.specs.Buses.{calls}
+use Rattle.search_laws.specs.Reads.{bitsShown}
+use Rattle.search_laws.specs.ReadsLaws.{reads-more, shown-more}
+use Rattle.master_rules.specs.Buses.{calls}
 use Rattle.at_code.proofs.read_byte.Statement.{statement}
 use Rattle.at_code.proofs.read_byte.Tie as tie
 

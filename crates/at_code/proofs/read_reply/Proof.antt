@@ -4,9 +4,9 @@ use mathlib.Core.Path.{_≡_, refl}
 use native.Mathlib.Omega.{arith}
 use borrow.Author.Needs.{needs}
 use lib.ListN.{length, replicate}
-use Rattle.lists.specs.Laid.{laid}
-use Rattle.lists.specs.LaidLaws.{laid-none}
-use Rattle.search_law.specs.Wire.{slots}
+use Rattle.basic_laws.specs.Laid.{laid}
+use Rattle.basic_laws.specs.LaidLaws.{laid-none}
+use Rattle.search_laws.specs.Wire.{slots}
 use Rattle.at_code.specs.Replies.{byteReadOf, replied}
 use Rattle.master_rules.specs.Access.{afterSlots, bytesShown}
 use Rattle.at_code.specs.Laws.{bytes-bench, bytes-more, bytes-all}

@@ -3,8 +3,8 @@ use Prim.Native.Nat.{_≤_, _-_}
 use mathlib.Core.Path.{_≡_, _∙_, sym}
 use native.Mathlib.Omega.{arith}
 use borrow.Author.Needs.{needs}
-use Rattle.search_law.specs.ReadsLaws.{bits-turn, bits-end}
-use Rattle.searching.specs.Buses.{calls}
+use Rattle.search_laws.specs.ReadsLaws.{bits-turn, bits-end}
+use Rattle.master_rules.specs.Buses.{calls}
 use Rattle.master_rules.specs.Wire.{sent}
 use Rattle.at_code.proofs.send.Statement.{statement}
 use Rattle.at_code.proofs.send.Tie as tie

@@ -4,7 +4,7 @@ use mathlib.Core.Path.{_≡_}
 use native.Mathlib.Omega.{arith}
 use borrow.Author.Needs.{needs}
 use lib.ListN.{length, length-map}
-use Rattle.lists.specs.Places.{getD-within}
+use Rattle.basic_laws.specs.Places.{getD-within}
 use Rattle.bench.proofs.device_at.Statement.{statement}
 use Rattle.bench.proofs.device_at.Tie as tie
 

@@ -7,8 +7,8 @@ use borrow.Author.Needs.{needs}
 use borrow.Author.Tests.{eq-eqb, ne-eqb}
 use lib.Dec.{eqb}
 use lib.ListN.{length, length-map, length-take, take}
-use Rattle.lists.specs.First.{firstWith}
-use Rattle.lists.specs.FirstLaws.{onward, first-hit, first-miss, first-skip, first-end}
+use Rattle.basic_laws.specs.First.{firstWith}
+use Rattle.basic_laws.specs.FirstLaws.{onward, first-hit, first-miss, first-skip, first-end}
 use Rattle.bench.specs.Bench.{placeOf}
 use Rattle.bench.specs.declared.Place.the-variants.{At, Nowhere}
 use Rattle.bench.proofs.find.Statement.{statement}

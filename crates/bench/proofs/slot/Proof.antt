@@ -7,15 +7,15 @@ use mathlib.Core.Path.{_≡_, _∙_, sym, ap, refl}
 use native.Mathlib.Omega.{arith}
 use borrow.Author.Needs.{needs}
 use lib.ListN.{length, take, length-take, length-map}
-use Rattle.lists.specs.FirstLaws.{onward, all-onward, all-stopped}
-use Rattle.lists.specs.Fold.{fold, all}
-use Rattle.lists.specs.FoldLaws.{all-end, all-fold, fold-step}
-use Rattle.lists.specs.Front.{mapFront}
-use Rattle.lists.specs.FrontLaws.{front-none, front-more}
+use Rattle.basic_laws.specs.FirstLaws.{onward, all-onward, all-stopped}
+use Rattle.basic_laws.specs.Fold.{fold, all}
+use Rattle.basic_laws.specs.FoldLaws.{all-end, all-fold, fold-step}
+use Rattle.basic_laws.specs.Front.{mapFront}
+use Rattle.basic_laws.specs.FrontLaws.{front-none, front-more}
 use Rattle.device.specs.Hear.{hearOf}
 use Rattle.device.specs.Offer.{offerOf}
 use Rattle.device.specs.Record.{holdsWire}
-use Rattle.bench_wire.specs.Taken.{taken-most, front-most, front-kept}
+use Rattle.bench.specs.Taken.{taken-most, front-most, front-kept}
 use Rattle.bench.specs.Bench.{free}
 use Rattle.bench.specs.Slot.{lineBit, heard, slotted}
 use Rattle.bench.specs.StillLaws.{still-stays}

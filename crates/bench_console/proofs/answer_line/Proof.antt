@@ -3,7 +3,7 @@ use native.Mathlib.Omega.{arith}
 use denote.Ref.{now}
 use lib.ListN.{length-take}
 use Rattle.text.specs.Lines.{Line}
-use Rattle.settings_console.specs.SettingsSessionLaws.{told-front}
+use Rattle.bench_session.specs.SettingsSessionLaws.{told-front}
 use borrow.Author.Needs.{needs}
 use Rattle.bench_console.proofs.answer_line.Statement.{statement}
 use Rattle.bench_console.proofs.answer_line.Tie as tie

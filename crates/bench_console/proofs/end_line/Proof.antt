@@ -3,7 +3,7 @@ use mathlib.Core.Path.{refl, ap}
 use native.Mathlib.Omega.{arith}
 use lib.Seq.{length-take-le}
 use Rattle.sessions.specs.Session.{fresh}
-use Rattle.settings_console.specs.SettingsSession.{Both}
+use Rattle.bench_session.specs.SettingsSession.{Both}
 use borrow.Author.Needs.{needs}
 use Rattle.bench_console.proofs.end_line.Statement.{statement}
 use Rattle.bench_console.proofs.end_line.Tie as tie

@@ -5,7 +5,7 @@ use denote.Ref.{now}
 use lib.ListN.{length}
 use Rattle.sessions.specs.Session.{Standing}
 use Rattle.sessions.specs.SessionLaws.{begins}
-use Rattle.settings_console.specs.SettingsSession.{both, benchConsole, nothingYet}
+use Rattle.bench_session.specs.SettingsSession.{both, benchConsole, nothingYet}
 use borrow.Author.Needs.{needs}
 use Rattle.bench_console.proofs.run.Statement.{statement}
 use Rattle.bench_console.proofs.run.Tie as tie

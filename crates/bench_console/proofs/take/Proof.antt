@@ -7,7 +7,7 @@ use denote.Ref.{now}
 use lib.ListN.{length, drop}
 use Rattle.sessions.specs.Session.{after, runAt, Standing}
 use Rattle.sessions.specs.SessionLaws.{piece-done, line-taken}
-use Rattle.settings_console.specs.SettingsSession.{both, benchConsole, nothingYet}
+use Rattle.bench_session.specs.SettingsSession.{both, benchConsole, nothingYet}
 use borrow.Author.Needs.{needs}
 use Rattle.bench_console.proofs.take.Statement.{statement}
 use Rattle.bench_console.proofs.take.Tie as tie

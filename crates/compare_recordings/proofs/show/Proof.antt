@@ -5,7 +5,7 @@ use mathlib.Core.Path.{refl, sym}
 use native.Mathlib.Omega.{arith}
 use lib.ListN.{length, replicate}
 use lib.Seq.{length-take-le}
-use Rattle.comparing_answers.specs.HeadingLaws.{heading-shown}
+use Rattle.comparing.specs.HeadingLaws.{heading-shown}
 use borrow.Author.Needs.{needs}
 use Rattle.compare_recordings.proofs.show.Statement.{statement}
 use Rattle.compare_recordings.proofs.show.Tie as tie

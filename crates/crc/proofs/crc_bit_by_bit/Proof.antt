@@ -4,7 +4,7 @@ use Prim.Native.Nat.{_≤_, _-_}
 use mathlib.Core.Path.{_≡_, _∙_, sym}
 use native.Mathlib.Omega.{arith}
 use borrow.Author.Needs.{needs}
-use Rattle.bits.specs.Bits.{bitsOf}
+use Rattle.basic_laws.specs.Bits.{bitsOf}
 use Rattle.crc.specs.Crc.{crcBits}
 use Rattle.crc.specs.Laws.{crc-turn, crc-done}
 use Rattle.crc.proofs.crc_bit_by_bit.Statement.{statement}

@@ -2,7 +2,7 @@
 -- Assumes nothing.
 use mathlib.Core.Path.{_≡_, _∙_, refl}
 use borrow.Author.Needs.{needs}
-use Rattle.bits.specs.Bits.{bitsOf}
+use Rattle.basic_laws.specs.Bits.{bitsOf}
 use Rattle.crc.specs.Crc.{crcBits}
 use Rattle.crc.specs.Laws.{crc-byte-turn}
 use Rattle.crc.proofs.crc_bits.Statement.{statement}

@@ -5,8 +5,8 @@ use native.Mathlib.Omega.{arith}
 use borrow.Author.Needs.{needs}
 use lib.ListN.{length, take}
 use lib.Seq.{take-length}
-use Rattle.lists.specs.Fold.{fold}
-use Rattle.bits.specs.Bits.{bytesBits}
+use Rattle.basic_laws.specs.Fold.{fold}
+use Rattle.basic_laws.specs.Bits.{bytesBits}
 use Rattle.crc.specs.Crc.{crcBits, crcOf}
 use Rattle.crc.specs.Laws.{crc-byte-more}
 use Rattle.crc.proofs.crc_of.Statement.{statement}

@@ -1,7 +1,7 @@
 -- The test of the table: `refl` computes its rule at all 256 places and compares. Assumes nothing.
 use mathlib.Core.Path.{refl}
-use Rattle.lists.specs.Fold.{fold}
-use Rattle.bits.specs.Bits.{bitsOf}
+use Rattle.basic_laws.specs.Fold.{fold}
+use Rattle.basic_laws.specs.Bits.{bitsOf}
 use Rattle.crc.specs.Crc.{crcBits}
 use Rattle.crc.specs.Table.{registers}
 use Rattle.crc.proofs.registers.Statement.{statement}

@@ -3,7 +3,7 @@ use mathlib.Core.Path.{_≡_, refl, _∙_}
 use native.Mathlib.Omega.{arith}
 use borrow.Author.Tests.{not-false}
 use lib.ListN.{length}
-use Rattle.capture_text.specs.Transcript.{Reached, start}
+use Rattle.capture_laws.specs.Transcript.{Reached, start}
 use borrow.Author.Needs.{needs}
 use Rattle.edges_to_frames.proofs.print_capture.Statement.{statement}
 use Rattle.edges_to_frames.proofs.print_capture.Tie as tie

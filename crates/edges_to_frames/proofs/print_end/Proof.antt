@@ -1,5 +1,5 @@
 -- What stands in the buffer is what the end hands on. Assumes nothing.
-use Rattle.capture_text.specs.Transcript.{of-end}
+use Rattle.capture_laws.specs.Transcript.{of-end}
 use denote.Ref.{now}
 use mathlib.Core.Bool.{false≢true}
 use mathlib.Core.Path.{refl}

@@ -1,10 +1,10 @@
 -- What stands in the buffer is what the piece hands on, and the reader goes on behind it. Assumes nothing.
-use Rattle.capture_text.specs.Transcript.{more, of-piece}
-use Rattle.captures.specs.Taken.{Piece}
+use Rattle.capture_laws.specs.Transcript.{more, of-piece}
+use Rattle.capture_laws.specs.Taken.{Piece}
 use denote.Ref.{now}
 use mathlib.Core.Bool.{false≢true}
 use mathlib.Core.Path.{refl, sym, ap, _∙_}
-use Rattle.edge_printing.specs.declared.Printed.{Printed}
+use Rattle.captures.specs.declared.edge_printing.Printed.{Printed}
 use borrow.Author.Needs.{needs}
 use Rattle.edges_to_frames.proofs.print_piece.Statement.{statement}
 use Rattle.edges_to_frames.proofs.print_piece.Tie as tie

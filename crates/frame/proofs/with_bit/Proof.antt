@@ -4,7 +4,7 @@ use mathlib.Core.Path.{_≡_}
 use mathlib.Core.Bool.{Bool, true, false}
 use native.Mathlib.Omega.{arith}
 use lib.Pow.{pow-mono}
-use Rattle.bits.specs.Bits.{bitNumber}
+use Rattle.basic_laws.specs.Bits.{bitNumber}
 use Rattle.frame.specs.Frames.{withBit}
 use Rattle.frame.specs.FramesLaws.{with-sum, with-lt}
 use borrow.Author.Needs.{needs}

@@ -5,8 +5,8 @@ use mathlib.Core.Path.{sym, ap}
 use native.Mathlib.Omega.{arith}
 use lib.ListN.{length}
 use lib.Seq.{length-take-le}
-use Rattle.mending_text.specs.declared.TextMended.{TextMended}
-use Rattle.mending_text.specs.Laws.{text-said}
+use Rattle.mending.specs.declared.texts.TextMended.{TextMended}
+use Rattle.mending.specs.Laws.{text-said}
 use borrow.Author.Needs.{needs}
 use Rattle.mend_recording.proofs.mend_last.Statement.{statement}
 use Rattle.mend_recording.proofs.mend_last.Tie as tie

@@ -5,8 +5,8 @@ use mathlib.Core.Path.{sym, ap}
 use native.Mathlib.Omega.{arith}
 use lib.ListN.{length}
 use lib.Seq.{length-take-le}
-use Rattle.mending_text.specs.declared.PieceMended.{PieceMended}
-use Rattle.mending_text.specs.Laws.{piece-said}
+use Rattle.mending.specs.declared.texts.PieceMended.{PieceMended}
+use Rattle.mending.specs.Laws.{piece-said}
 use borrow.Author.Needs.{needs}
 use Rattle.mend_recording.proofs.mend_piece.Statement.{statement}
 use Rattle.mend_recording.proofs.mend_piece.Tie as tie

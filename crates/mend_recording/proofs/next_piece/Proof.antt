@@ -9,7 +9,7 @@ use Rattle.text.specs.Lines.{linesOf}
 use Rattle.pieces.specs.Pieces.{carried, ended, fed}
 use Rattle.pieces.specs.Walk.{read-behind}
 use Rattle.mending.specs.Claims.{longestHeld}
-use Rattle.mending_text.specs.Laws.{front-held, lines-few}
+use Rattle.mending.specs.Laws.{front-held, lines-few}
 use borrow.Author.Needs.{needs}
 use Rattle.mend_recording.proofs.next_piece.Statement.{statement}
 use Rattle.mend_recording.proofs.next_piece.Tie as tie

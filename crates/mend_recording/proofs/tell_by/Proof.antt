@@ -3,8 +3,8 @@ use denote.Ref.{now}
 use mathlib.Core.Path.{ap}
 use native.Mathlib.Omega.{arith}
 use lib.ListN.{length-take}
-use Rattle.mending_answers.specs.declared.Noticed.{Noticed}
-use Rattle.mending_answers.specs.NoticesLaws.{notices-tellable}
+use Rattle.mending.specs.declared.answers.Noticed.{Noticed}
+use Rattle.mending.specs.NoticesLaws.{notices-tellable}
 use borrow.Author.Needs.{needs}
 use Rattle.mend_recording.proofs.tell_by.Statement.{statement}
 use Rattle.mend_recording.proofs.tell_by.Tie as tie

@@ -1,7 +1,7 @@
 -- An empty text is laid. Assumes nothing.
 use Prim.Native.Nat.{_+_}
 use mathlib.Core.Path.{ap}
-use Rattle.laying.specs.declared.Written.{Written}
+use Rattle.text.specs.declared.laying.Written.{Written}
 use borrow.Author.Needs.{needs}
 use Rattle.mending.proofs.drop_line.Statement.{statement}
 use Rattle.mending.proofs.drop_line.Tie as tie

@@ -7,8 +7,8 @@ use mathlib.Core.Path.{_≡_, sym, ap, _∙_}
 use native.Mathlib.Omega.{arith}
 use lib.ListN.{length, take, replicate, length-map}
 use lib.Seq.{length-take-le}
-use Rattle.lists.specs.Choice.{if_then_else_}
-use Rattle.lists.specs.LaidLaws.{laid-length, laid-read}
+use Rattle.basic_laws.specs.Choice.{if_then_else_}
+use Rattle.basic_laws.specs.LaidLaws.{laid-length, laid-read}
 use Rattle.mending.specs.Mending.{raised}
 use Rattle.mending.specs.Repair.{return-place, repaired}
 use borrow.Author.Needs.{needs}

@@ -9,12 +9,12 @@ use native.Mathlib.Numerals.{add-one}
 use lib.Dec.{eqb}
 use lib.ListN.{length, take, set, length-set}
 use lib.Seq.{take-suc-set, length-take-le}
-use Rattle.lists.specs.Choice.{if_then_else_}
+use Rattle.basic_laws.specs.Choice.{if_then_else_}
 use Rattle.text.specs.Lines.{Line, lineFeed}
-use Rattle.laying.specs.declared.Written.{Written}
-use Rattle.laying.specs.Laying.{layAnswer, layLeaves}
-use Rattle.frame_lines.specs.declared.LineRead.{LineRead}
-use Rattle.frame_lines.specs.ReadLine.{readLine}
+use Rattle.text.specs.declared.laying.Written.{Written}
+use Rattle.text.specs.Laying.{layAnswer, layLeaves}
+use Rattle.frame.specs.declared.frame_lines.LineRead.{LineRead}
+use Rattle.frame.specs.ReadLine.{readLine}
 use Rattle.mending.specs.Mending.{mendedChars, alteredBy, lineRefusal, mendedLine}
 use Rattle.mending.specs.LineLaws.{answer-refusal, refusal-small, fate-dropped, line-dropped, line-written}
 use borrow.Author.Needs.{needs}

@@ -7,8 +7,8 @@ use native.Mathlib.Omega.{arith}
 use lib.ListN.{length, take, length-set, length-map, List·getD-map}
 use lib.Seq.{take-all}
 use borrow.Author.Needs.{needs}
-use Rattle.lists.specs.Laid.{laid}
-use Rattle.lists.specs.LaidLaws.{laid-next, laid-none}
+use Rattle.basic_laws.specs.Laid.{laid}
+use Rattle.basic_laws.specs.LaidLaws.{laid-next, laid-none}
 use Rattle.mending.specs.Mending.{raised}
 use Rattle.mending.proofs.put_raised.Statement.{statement}
 use Rattle.mending.proofs.put_raised.Tie as tie

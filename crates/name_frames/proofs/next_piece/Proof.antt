@@ -8,8 +8,8 @@ use lib.ListN.{length, take, drop, length-take}
 use lib.Seq.{length-take-le}
 use Rattle.pieces.specs.Pieces.{carried, ended, fed}
 use Rattle.pieces.specs.Walk.{front-carried, read-behind, room-part}
-use Rattle.printing.specs.Printing.{printedLine}
-use Rattle.streaming.specs.Streaming.{mostPrinted, longestCarried}
+use Rattle.naming.specs.Printing.{printedLine}
+use Rattle.naming.specs.Streaming.{mostPrinted, longestCarried}
 use borrow.Author.Needs.{needs}
 use Rattle.name_frames.proofs.next_piece.Statement.{statement}
 use Rattle.name_frames.proofs.next_piece.Tie as tie

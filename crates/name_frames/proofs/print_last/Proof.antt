@@ -3,10 +3,10 @@ use mathlib.Core.Path.{ap}
 use native.Mathlib.Omega.{arith}
 use denote.Ref.{now}
 use lib.ListN.{length-take}
-use Rattle.laying.specs.declared.Written.{Written}
+use Rattle.text.specs.declared.laying.Written.{Written}
 use Rattle.pieces.specs.Walk.{finish-said}
-use Rattle.printing.specs.Printing.{printedLine}
-use Rattle.streaming.specs.Streaming.{mostPrinted}
+use Rattle.naming.specs.Printing.{printedLine}
+use Rattle.naming.specs.Streaming.{mostPrinted}
 use borrow.Author.Needs.{needs}
 use Rattle.name_frames.proofs.print_last.Statement.{statement}
 use Rattle.name_frames.proofs.print_last.Tie as tie

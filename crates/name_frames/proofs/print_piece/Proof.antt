@@ -5,8 +5,8 @@ use lib.ListN.{length-take}
 use denote.Ref.{now}
 use Rattle.pieces.specs.declared.Fed.{Fed}
 use Rattle.pieces.specs.Walk.{feed-said}
-use Rattle.printing.specs.Printing.{printedLine}
-use Rattle.streaming.specs.Streaming.{mostPrinted, longestCarried}
+use Rattle.naming.specs.Printing.{printedLine}
+use Rattle.naming.specs.Streaming.{mostPrinted, longestCarried}
 use borrow.Author.Needs.{needs}
 use Rattle.name_frames.proofs.print_piece.Statement.{statement}
 use Rattle.name_frames.proofs.print_piece.Tie as tie

@@ -5,7 +5,7 @@ use mathlib.Core.Path.{_≡_, refl, _∙_}
 use native.Mathlib.Omega.{arith}
 use lib.ListN.{length, take}
 use Rattle.pieces.specs.Pieces.{Ran, start, more}
-use Rattle.streaming.specs.Streaming.{longestCarried}
+use Rattle.naming.specs.Streaming.{longestCarried}
 use borrow.Author.Needs.{needs}
 use Rattle.name_frames.proofs.print_pieces.Statement.{statement}
 use Rattle.name_frames.proofs.print_pieces.Tie as tie

@@ -5,8 +5,8 @@ use mathlib.Core.Path.{_≡_, sym, ap, _∙_}
 use native.Mathlib.Omega.{arith}
 use denote.Ref.{now}
 use lib.ListN.{length, getD}
-use Rattle.bits.specs.Bits.{bytesBits}
-use Rattle.bits.specs.BitsLaws.{byte-bit}
+use Rattle.basic_laws.specs.Bits.{bytesBits}
+use Rattle.basic_laws.specs.BitsLaws.{byte-bit}
 use borrow.Author.Needs.{needs}
 use Rattle.naming.proofs.bit_at.Statement.{statement}
 use Rattle.naming.proofs.bit_at.Tie as tie

@@ -6,7 +6,7 @@ use native.Mathlib.Omega.{arith}
 use borrow.Author.Tests.{not-true, not-false}
 use denote.Ref.{now}
 use lib.ListN.{drop, getD}
-use Rattle.bits.specs.Bits.{numberOf, bytesBits}
+use Rattle.basic_laws.specs.Bits.{numberOf, bytesBits}
 use Rattle.naming.specs.Naming.{tripleAllowed, triplesAllowed, thirds, passSlots}
 use Rattle.naming.specs.Laws.{one-at-most, pass-end, pass-before, pass-lt, triples-drop, triples-more, triples-none, thirds-more, thirds-none}
 use borrow.Author.Needs.{needs}

@@ -3,7 +3,7 @@ use native.Mathlib.Omega.{arith}
 use denote.Ref.{now}
 use lib.ListN.{length-take}
 use Rattle.text.specs.Lines.{Line}
-use Rattle.table_settings.specs.TableSessionLaws.{table-front}
+use Rattle.packed_session.specs.TableSessionLaws.{table-front}
 use borrow.Author.Needs.{needs}
 use Rattle.packed_console.proofs.answer_line.Statement.{statement}
 use Rattle.packed_console.proofs.answer_line.Tie as tie

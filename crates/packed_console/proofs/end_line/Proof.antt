@@ -3,7 +3,7 @@ use mathlib.Core.Path.{refl, ap}
 use native.Mathlib.Omega.{arith}
 use lib.Seq.{length-take-le}
 use Rattle.sessions.specs.Session.{fresh}
-use Rattle.table_settings.specs.TableSession.{TableState}
+use Rattle.packed_session.specs.TableSession.{TableState}
 use borrow.Author.Needs.{needs}
 use Rattle.packed_console.proofs.end_line.Statement.{statement}
 use Rattle.packed_console.proofs.end_line.Tie as tie

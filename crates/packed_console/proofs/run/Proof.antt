@@ -5,7 +5,7 @@ use denote.Ref.{now}
 use lib.ListN.{length}
 use Rattle.sessions.specs.Session.{Standing}
 use Rattle.sessions.specs.SessionLaws.{begins}
-use Rattle.table_settings.specs.TableSession.{tableState, tableConsole, firstState}
+use Rattle.packed_session.specs.TableSession.{tableState, tableConsole, firstState}
 use borrow.Author.Needs.{needs}
 use Rattle.packed_console.proofs.run.Statement.{statement}
 use Rattle.packed_console.proofs.run.Tie as tie

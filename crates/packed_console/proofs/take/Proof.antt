@@ -7,7 +7,7 @@ use denote.Ref.{now}
 use lib.ListN.{length, drop}
 use Rattle.sessions.specs.Session.{after, runAt, Standing}
 use Rattle.sessions.specs.SessionLaws.{piece-done, line-taken}
-use Rattle.table_settings.specs.TableSession.{tableState, tableConsole, firstState}
+use Rattle.packed_session.specs.TableSession.{tableState, tableConsole, firstState}
 use borrow.Author.Needs.{needs}
 use Rattle.packed_console.proofs.take.Statement.{statement}
 use Rattle.packed_console.proofs.take.Tie as tie

@@ -8,8 +8,8 @@ use native.Mathlib.Nat.{le-of-lt}
 use denote.Ref.{now}
 use lib.ListN.{length, take, drop, length-set, drop-of-length-le}
 use lib.Seq.{take-length, take-nil}
-use Rattle.lists.specs.Laid.{laid}
-use Rattle.lists.specs.LaidLaws.{laid-none, laid-next}
+use Rattle.basic_laws.specs.Laid.{laid}
+use Rattle.basic_laws.specs.LaidLaws.{laid-none, laid-next}
 use Rattle.pieces.specs.FrontLaws.{kept-length, kept-next}
 use borrow.Author.Needs.{needs}
 use Rattle.pieces.proofs.keep_front.Statement.{statement}

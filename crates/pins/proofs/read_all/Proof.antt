@@ -4,8 +4,8 @@ use mathlib.Core.Path.{_≡_, refl}
 use native.Mathlib.Omega.{arith}
 use lib.ListN.{length, take}
 use lib.Seq.{take-all}
-use Rattle.lists.specs.Fold.{fold}
-use Rattle.lists.specs.FoldLaws.{fold-step}
+use Rattle.basic_laws.specs.Fold.{fold}
+use Rattle.basic_laws.specs.FoldLaws.{fold-step}
 use Rattle.master_rules.specs.Pins.{pinsStep, nobodyRead}
 use Rattle.pins.specs.Reading.{Holds}
 use Rattle.pins.specs.ReadingLaws.{holds-none}

@@ -1,7 +1,7 @@
 -- Without room the refusal; with room the search and its reads. Assumes nothing.
 use denote.Ref.{now}
 use lib.ListN.{length}
-use Rattle.lists.specs.LaidLaws.{laid-none}
+use Rattle.basic_laws.specs.LaidLaws.{laid-none}
 use Rattle.pins.specs.OutcomeLaws.{few-places, enough-places}
 use borrow.Author.Needs.{needs}
 use Rattle.pins.proofs.read_pins.Statement.{statement}

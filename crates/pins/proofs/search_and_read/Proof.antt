@@ -4,7 +4,7 @@ use mathlib.Core.Path.{sym, ap, _∙_}
 use native.Mathlib.Omega.{arith}
 use lib.ListN.{take}
 use lib.Seq.{length-take-le}
-use Rattle.lists.specs.LaidLaws.{laid-none}
+use Rattle.basic_laws.specs.LaidLaws.{laid-none}
 use Rattle.master_rules.specs.Pins.{nobodyRead, pinnedOf, pinsListAfter}
 use Rattle.pins.specs.OutcomeLaws.{listed-most, listed-within, refused-is, done-is, read-few, holds-answer}
 use borrow.Author.Needs.{needs}

@@ -6,8 +6,8 @@ use borrow.Author.Needs.{needs}
 use borrow.Author.Tests.{eq-eqb, ne-eqb}
 use lib.Dec.{eqb}
 use lib.ListN.{length, drop}
-use Rattle.lists.specs.Fold.{all}
-use Rattle.lists.specs.FoldLaws.{all-passes, all-fails, all-end}
+use Rattle.basic_laws.specs.Fold.{all}
+use Rattle.basic_laws.specs.FoldLaws.{all-passes, all-fails, all-end}
 use Rattle.scratchpad.proofs.all_zeros.Statement.{statement}
 use Rattle.scratchpad.proofs.all_zeros.Tie as tie
 

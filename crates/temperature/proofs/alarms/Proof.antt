@@ -2,7 +2,7 @@
 use mathlib.Core.Bool.{true, false}
 use mathlib.Core.Path.{_≡_}
 use lib.Signed.{leZ}
-use Rattle.signed.specs.ComplementLaws.{held-back}
+use Rattle.basic_laws.specs.ComplementLaws.{held-back}
 use Rattle.temperature.proofs.alarms.Statement.{statement}
 use Rattle.temperature.proofs.alarms.Tie as tie
 

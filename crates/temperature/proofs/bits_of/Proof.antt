@@ -8,7 +8,7 @@ use mir.Syntax.{w16, w32}
 use mir.Val.{SFits, toZ, ofZ}
 use mir.ValLaws.{toZ-ofZ, ofZ-fits}
 use native.Mathlib.Omega.{arith}
-use Rattle.signed.specs.ComplementLaws.{read16, held16, held-back, held-below, bits-held, bits-positive, bits-negative, wider}
+use Rattle.basic_laws.specs.ComplementLaws.{read16, held16, held-back, held-below, bits-held, bits-positive, bits-negative, wider}
 use Rattle.temperature.proofs.bits_of.Statement.{statement}
 use Rattle.temperature.proofs.bits_of.Tie as tie
 

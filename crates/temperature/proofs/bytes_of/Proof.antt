@@ -1,6 +1,6 @@
 -- The low and the high byte of the number's bits. Assumes nothing.
 use borrow.Author.Needs.{needs}
-use Rattle.signed.specs.ComplementLaws.{held-back}
+use Rattle.basic_laws.specs.ComplementLaws.{held-back}
 use Rattle.temperature.proofs.bytes_of.Statement.{statement}
 use Rattle.temperature.proofs.bytes_of.Tie as tie
 

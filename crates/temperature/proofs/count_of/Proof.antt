@@ -1,5 +1,5 @@
 -- Unit by unit, on the numbers that their bits hold. Assumes nothing.
-use Rattle.signed.specs.ComplementLaws.{held-back}
+use Rattle.basic_laws.specs.ComplementLaws.{held-back}
 use borrow.Author.Needs.{needs}
 use Rattle.temperature.proofs.count_of.Statement.{statement}
 use Rattle.temperature.proofs.count_of.Tie as tie

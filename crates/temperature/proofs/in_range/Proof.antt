@@ -1,6 +1,6 @@
 -- Either unit's number lies between the ends of its unit. Assumes nothing.
 use borrow.Author.Needs.{needs}
-use Rattle.signed.specs.ComplementLaws.{held-back}
+use Rattle.basic_laws.specs.ComplementLaws.{held-back}
 use Rattle.temperature.proofs.in_range.Statement.{statement}
 use Rattle.temperature.proofs.in_range.Tie as tie
 

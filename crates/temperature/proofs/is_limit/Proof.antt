@@ -1,6 +1,6 @@
 -- The call's answer, on the number that the bits hold. Assumes nothing.
 use borrow.Author.Needs.{needs}
-use Rattle.signed.specs.ComplementLaws.{held-back}
+use Rattle.basic_laws.specs.ComplementLaws.{held-back}
 use Rattle.temperature.proofs.is_limit.Statement.{statement}
 use Rattle.temperature.proofs.is_limit.Tie as tie
 

@@ -10,8 +10,8 @@ use lib.Signed.{leZ}
 use mir.Syntax.{w8}
 use mir.Val.{SFits, ofZ}
 use mir.ValLaws.{ofZ-fits}
-use Rattle.signed.specs.Complement.{Fits16}
-use Rattle.signed.specs.ComplementLaws.{read16, held16, held-back, bits-held8, bits-positive, bits-negative}
+use Rattle.basic_laws.specs.Complement.{Fits16}
+use Rattle.basic_laws.specs.ComplementLaws.{read16, held16, held-back, bits-held8, bits-positive, bits-negative}
 use Rattle.temperature.specs.AlarmLaws.{limit-fits}
 use Rattle.temperature.specs.Range.{isLimit}
 use Rattle.temperature.specs.declared.WholeDegrees.{WholeDegrees}

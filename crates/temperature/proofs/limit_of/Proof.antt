@@ -8,8 +8,8 @@ use lib.Dec.{lit≤}
 use lib.IntN.{pos, _-ℤ_}
 use mir.Syntax.{w8, w16}
 use mir.ValLaws.{toZ-pos}
-use Rattle.signed.specs.Complement.{signed8, Fits16}
-use Rattle.signed.specs.ComplementLaws.{read16, held-back, signed-high, signed-read8, signed-fits8, wider}
+use Rattle.basic_laws.specs.Complement.{signed8, Fits16}
+use Rattle.basic_laws.specs.ComplementLaws.{read16, held-back, signed-high, signed-read8, signed-fits8, wider}
 use Rattle.temperature.proofs.limit_of.Statement.{statement}
 use Rattle.temperature.proofs.limit_of.Tie as tie
 

@@ -3,11 +3,11 @@ use mathlib.Core.Path.{ap, _∙_}
 use native.Mathlib.Omega.{arith}
 use lib.Dec.{lit<}
 use lib.IntN.{pos, _+ℤ_}
-use Rattle.signed.specs.Complement.{Fits16}
-use Rattle.signed.specs.ComplementLaws.{shift-code}
-use Rattle.signed.specs.DifferencesLaws.{plus-size}
-use Rattle.signed.specs.Rounding.{floorDiv}
-use Rattle.signed.specs.RoundingLaws.{div-size}
+use Rattle.basic_laws.specs.Complement.{Fits16}
+use Rattle.basic_laws.specs.ComplementLaws.{shift-code}
+use Rattle.basic_laws.specs.DifferencesLaws.{plus-size}
+use Rattle.basic_laws.specs.Rounding.{floorDiv}
+use Rattle.basic_laws.specs.RoundingLaws.{div-size}
 use Rattle.temperature.specs.MeasuredLaws.{nearest-halved}
 use Rattle.temperature.proofs.nearest_halves.Statement.{statement}
 use Rattle.temperature.proofs.nearest_halves.Tie as tie

@@ -4,8 +4,8 @@ use mathlib.Core.Path.{_≡_, ap, _∙_}
 use lib.IntN.{ℤ}
 use native.Mathlib.Omega.{arith}
 use borrow.Author.Needs.{needs}
-use Rattle.signed.specs.Complement.{signed16}
-use Rattle.signed.specs.ComplementLaws.{read16, held16, held-back, signed-fits}
+use Rattle.basic_laws.specs.Complement.{signed16}
+use Rattle.basic_laws.specs.ComplementLaws.{read16, held16, held-back, signed-fits}
 use Rattle.temperature.specs.Measured.{roundedOf}
 use Rattle.temperature.proofs.reading_of.Statement.{statement}
 use Rattle.temperature.proofs.reading_of.Tie as tie

@@ -1,6 +1,6 @@
 -- Either unit's number goes into the two bytes as it is. Assumes nothing.
 use borrow.Author.Needs.{needs}
-use Rattle.signed.specs.ComplementLaws.{held-back}
+use Rattle.basic_laws.specs.ComplementLaws.{held-back}
 use Rattle.temperature.proofs.register_of.Statement.{statement}
 use Rattle.temperature.proofs.register_of.Tie as tie
 

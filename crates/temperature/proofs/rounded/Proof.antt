@@ -3,9 +3,9 @@
 use mathlib.Core.Path.{refl}
 use borrow.Author.Tests.{ne-eqb}
 use lib.Dec.{lit<}
-use Rattle.signed.specs.Complement.{Fits16}
-use Rattle.signed.specs.ComplementLaws.{floor-code, floor-code-fits}
-use Rattle.signed.specs.RoundingLaws.{floor-one}
+use Rattle.basic_laws.specs.Complement.{Fits16}
+use Rattle.basic_laws.specs.ComplementLaws.{floor-code, floor-code-fits}
+use Rattle.basic_laws.specs.RoundingLaws.{floor-one}
 use Rattle.temperature.proofs.rounded.Statement.{statement}
 use Rattle.temperature.proofs.rounded.Tie as tie
 

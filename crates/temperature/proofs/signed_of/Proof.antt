@@ -8,8 +8,8 @@ use lib.IntN.{pos, _-ℤ_}
 use mir.Syntax.{w16, w32}
 use mir.Val.{SFits, toZ}
 use mir.ValLaws.{toZ-ofZ, toZ-pos, toZ-fits}
-use Rattle.signed.specs.Complement.{Fits16}
-use Rattle.signed.specs.ComplementLaws.{read16, held-back, signed-high, signed-read, wider}
+use Rattle.basic_laws.specs.Complement.{Fits16}
+use Rattle.basic_laws.specs.ComplementLaws.{read16, held-back, signed-high, signed-read, wider}
 use Rattle.temperature.proofs.signed_of.Statement.{statement}
 use Rattle.temperature.proofs.signed_of.Tie as tie
 

@@ -1,7 +1,7 @@
 -- The count fits sixteen bits, so the code's quotient is the nearest number, which is exact. Assumes nothing.
 use mathlib.Core.Path.{refl}
 use borrow.Author.Needs.{needs}
-use Rattle.signed.specs.ComplementLaws.{held-back}
+use Rattle.basic_laws.specs.ComplementLaws.{held-back}
 use Rattle.temperature.specs.DegreesLaws.{quotient, sixteen, sixteenths-exact}
 use Rattle.temperature.proofs.to_degrees.Statement.{statement}
 use Rattle.temperature.proofs.to_degrees.Tie as tie

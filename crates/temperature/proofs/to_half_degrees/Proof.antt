@@ -1,6 +1,6 @@
 -- A shift by three that copies the sign is division by 8, rounded down. Assumes nothing.
 use mathlib.Core.Path.{ap}
-use Rattle.signed.specs.ComplementLaws.{shift-code}
+use Rattle.basic_laws.specs.ComplementLaws.{shift-code}
 use Rattle.temperature.proofs.to_half_degrees.Statement.{statement}
 use Rattle.temperature.proofs.to_half_degrees.Tie as tie
 

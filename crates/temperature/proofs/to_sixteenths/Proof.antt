@@ -2,7 +2,7 @@
 use mathlib.Core.Bool.{true, false}
 use mathlib.Core.Path.{_≡_, sym, _∙_}
 use borrow.Author.Needs.{needs}
-use Rattle.signed.specs.ComplementLaws.{held-back}
+use Rattle.basic_laws.specs.ComplementLaws.{held-back}
 use Rattle.temperature.specs.Range.{inRange}
 use Rattle.temperature.specs.Units.{eightfold}
 use Rattle.temperature.specs.UnitsLaws.{eightfold-fits}

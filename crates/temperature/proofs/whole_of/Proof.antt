@@ -1,6 +1,6 @@
 -- A shift by four is division of sixteenths by 16, one by one of half degrees by 2, both rounded down. Assumes nothing.
 use borrow.Author.Needs.{needs}
-use Rattle.signed.specs.ComplementLaws.{shift-code}
+use Rattle.basic_laws.specs.ComplementLaws.{shift-code}
 use Rattle.temperature.proofs.whole_of.Statement.{statement}
 use Rattle.temperature.proofs.whole_of.Tie as tie
 

@@ -1,5 +1,5 @@
 -- The limit is what its byte stands for, and both numbers are held as they are. Assumes nothing.
-use Rattle.signed.specs.ComplementLaws.{held-back}
+use Rattle.basic_laws.specs.ComplementLaws.{held-back}
 use borrow.Author.Needs.{needs}
 use Rattle.thermostat.proofs.is_above.Statement.{statement}
 use Rattle.thermostat.proofs.is_above.Tie as tie

@@ -3,7 +3,7 @@ use native.Mathlib.Omega.{arith}
 use denote.Ref.{now}
 use lib.ListN.{length-take}
 use Rattle.text.specs.Lines.{Line}
-use Rattle.thermostat_lines.specs.ProbeSessionLaws.{said-front}
+use Rattle.thermostat_session.specs.ProbeSessionLaws.{said-front}
 use borrow.Author.Needs.{needs}
 use Rattle.thermostat_console.proofs.answer_line.Statement.{statement}
 use Rattle.thermostat_console.proofs.answer_line.Tie as tie

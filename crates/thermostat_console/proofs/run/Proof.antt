@@ -5,7 +5,7 @@ use denote.Ref.{now}
 use lib.ListN.{length}
 use Rattle.sessions.specs.Session.{Standing}
 use Rattle.sessions.specs.SessionLaws.{begins}
-use Rattle.thermostat_lines.specs.ProbeSession.{probeConsole, firstProbe}
+use Rattle.thermostat_session.specs.ProbeSession.{probeConsole, firstProbe}
 use borrow.Author.Needs.{needs}
 use Rattle.thermostat_console.proofs.run.Statement.{statement}
 use Rattle.thermostat_console.proofs.run.Tie as tie

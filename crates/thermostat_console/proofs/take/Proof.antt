@@ -7,7 +7,7 @@ use denote.Ref.{now}
 use lib.ListN.{length, drop}
 use Rattle.sessions.specs.Session.{after, runAt, Standing}
 use Rattle.sessions.specs.SessionLaws.{piece-done, line-taken}
-use Rattle.thermostat_lines.specs.ProbeSession.{probeConsole, firstProbe}
+use Rattle.thermostat_session.specs.ProbeSession.{probeConsole, firstProbe}
 use borrow.Author.Needs.{needs}
 use Rattle.thermostat_console.proofs.take.Statement.{statement}
 use Rattle.thermostat_console.proofs.take.Tie as tie

@@ -1,5 +1,5 @@
 -- Part by part, as the calls answer. Assumes nothing.
-use Rattle.why_rules.specs.Why.{toldBy}
+use Rattle.why.specs.Why.{toldBy}
 use borrow.Author.Tests.{not-true, not-false}
 use borrow.Author.Needs.{needs}
 use Rattle.why.proofs.say.Statement.{statement}

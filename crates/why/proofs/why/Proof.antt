@@ -6,10 +6,10 @@ use Rattle.refusals.specs.Refusals.{accepted}
 use Rattle.rom.specs.Code.{codeRefusal}
 use Rattle.bench.specs.Calls.{looked}
 use Rattle.bench.specs.declared.Looked.{Looked}
-use Rattle.why_rules.specs.Why.{silent, toldBy, whyOf}
-use Rattle.why_rules.specs.WhyLaws.{why-refused, why-absent, why-there}
-use Rattle.why_rules.specs.declared.Reason.the-variants.{NotOnBench}
-use Rattle.why_rules.specs.BookLaws.{why-promised}
+use Rattle.why.specs.Why.{silent, toldBy, whyOf}
+use Rattle.why.specs.WhyLaws.{why-refused, why-absent, why-there}
+use Rattle.why.specs.declared.rules.Reason.the-variants.{NotOnBench}
+use Rattle.why.specs.BookLaws.{why-promised}
 use borrow.Author.Needs.{needs}
 use Rattle.why.proofs.why.Statement.{statement}
 use Rattle.why.proofs.why.Tie as tie

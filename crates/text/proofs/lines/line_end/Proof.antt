@@ -4,7 +4,7 @@ use Prim.Native.Nat.{_+_, _-_}
 use mathlib.Core.Path.{_≡_, refl, sym, _∙_}
 use lib.ListN.{length, drop}
 use Rattle.text.specs.Lines.{lineFeed, feedAt}
-use Rattle.lists.specs.FirstLaws.{at-here, at-on, at-end}
+use Rattle.basic_laws.specs.FirstLaws.{at-here, at-on, at-end}
 use borrow.Author.Needs.{needs}
 use Rattle.text.proofs.lines.line_end.Statement.{statement}
 use Rattle.text.proofs.lines.line_end.Tie as tie

@@ -4,8 +4,8 @@ use Prim.Native.Nat.{_≤_, _-_}
 use mathlib.Core.Path.{_≡_, sym, _∙_}
 use native.Mathlib.Omega.{arith}
 use lib.ListN.{length, drop}
-use Rattle.lists.specs.Same.{same}
-use Rattle.lists.specs.SameLaws.{same-lengths, same-on, same-not, same-past}
+use Rattle.basic_laws.specs.Same.{same}
+use Rattle.basic_laws.specs.SameLaws.{same-lengths, same-on, same-not, same-past}
 use borrow.Author.Needs.{needs}
 use Rattle.text.proofs.lines.same.Statement.{statement}
 use Rattle.text.proofs.lines.same.Tie as tie

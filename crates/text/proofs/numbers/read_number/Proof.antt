@@ -7,8 +7,8 @@ use native.Mathlib.Omega.{arith}
 use denote.Ref.{now}
 use lib.ListN.{length, take, drop}
 use lib.Seq.{take-length}
-use Rattle.lists.specs.Fold.{fold}
-use Rattle.lists.specs.FoldLaws.{all-past}
+use Rattle.basic_laws.specs.Fold.{fold}
+use Rattle.basic_laws.specs.FoldLaws.{all-past}
 use Rattle.text.specs.Digits.{isDigit, spells, numberIn}
 use Rattle.text.specs.DigitsLaws.{number-next}
 use Rattle.text.specs.NumbersLaws.{turn-other, turn-digit, turn-past, digit-fits, digit-exceeds, read-number, read-other, read-past}

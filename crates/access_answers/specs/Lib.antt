@@ -1,2 +1,0 @@
-pub mod AccessLine
-pub mod AccessLineLaws

@@ -1,0 +1,16 @@
+pub mod Unrefused
+pub mod Course
+pub mod Laws
+pub mod Picked
+pub mod Reply
+pub mod Shown
+pub mod ShownLaws
+pub mod Lasting
+pub mod Bytewise
+pub mod ReadLaws
+pub mod NeverLaws
+pub mod FinishedLaws
+pub mod Pinning
+pub mod PinningLaws
+pub mod Names
+pub mod NamesLaws

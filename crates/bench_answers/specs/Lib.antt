@@ -1,0 +1,16 @@
+pub mod Answers
+pub mod AnswersLaws
+pub mod AccessLine
+pub mod AccessLineLaws
+pub mod WhyLine
+pub mod WhyLineLaws
+pub mod Said
+pub mod SaidLaws
+pub mod Whole
+pub mod WholeLaws
+pub mod Found
+pub mod FoundLaws
+pub mod PinLines
+pub mod PinLinesLaws
+pub mod SettingsLines
+pub mod SettingsLinesLaws

@@ -1,4 +1,0 @@
-pub mod Laws
-pub mod Everywhere
-pub mod Sound
-pub mod SoundLaws

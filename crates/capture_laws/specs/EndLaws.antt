@@ -1,0 +1,148 @@
+-- An end makes of reader and buffer what the course with its end says, where there is room for its frames.
+--     end-closed             the theorem
+--     ended-writable         a line can carry each of its frames
+-- Assumes nothing.
+use Prim.Native.Nat.{ℕ, _+_, _≤_}
+use mathlib.Core.Path.{_≡_, refl, sym, ap, _∙_}
+use mathlib.Core.Bool.{Bool, true, false, not}
+use mathlib.Core.List.{List, [], _∷_, _++_, append-nil}
+use native.Mathlib.Omega.{arith}
+use borrow.Author.Tests.{eqb-true, eqb-false}
+use lib.Dec.{eqb}
+use lib.ListN.{length, length-append}
+use Rattle.basic_laws.specs.Choice.{if_then_else_}
+use Rattle.basic_laws.specs.Laid.{laid}
+use Rattle.basic_laws.specs.LaidLaws.{laid-more, laid-length}
+use Rattle.refusals.specs.Refusals.{accepted, notHex}
+use Rattle.text.specs.declared.laying.Written.{Written}
+use Rattle.text.specs.LayingLaws.{lay-fits}
+use Rattle.frame.specs.Writing.{fedLine}
+use Rattle.frame.specs.declared.Frame.{Frame}
+use Rattle.frame.specs.Recording.{writeAll, Writable, none, one}
+use Rattle.frame.specs.RecordingLaws.{write-append}
+use Rattle.captures.specs.declared.pulses.Wire.{Wire}
+use Rattle.captures.specs.declared.pulses.Ending.{Ending}
+use Rattle.captures.specs.Rule.{endingAt}
+use Rattle.captures.specs.declared.edge_lines.Partial.{Partial}
+use Rattle.captures.specs.PartialLaws.{gathered-count}
+use Rattle.captures.specs.declared.edges.Reader.{Reader}
+use Rattle.captures.specs.declared.edges.Answer.{Answer}
+use Rattle.captures.specs.Edges.{refusedWith, frameWritten, closedLeaves, Reading, answers, finished, endAnswer, endLeaves}
+use Rattle.captures.specs.EdgesLaws.{last-done, end-again, end-in-line, end-low, end-closes, end-nothing}
+use Rattle.capture_laws.specs.Capture.{Course, refusedEnd, lastClosed, endedAt, ended, Sound}
+use Rattle.capture_laws.specs.StepLaws.{Kept}
+use Rattle.capture_laws.specs.Claims.{Filled, Closed}
+
+module _ (n : ℕ) (out : List ℕ) (c : Course) (x : Reading) (k : Filled n out c x) (sound : Sound (c .wire .frame)) where
+  abbrev at-end : Reader
+  at-end = x .reader
+
+  abbrev Done : Course → Type 0
+  Done d = n + length (writeAll (d .frames)) ≤ length out → Closed n out d (endAnswer at-end (x .out)) (endLeaves at-end (x .out))
+
+  -- the answer is the reader's own, with some refusal
+  own-closed : (m : ℕ) (a : Answer) (l : List ℕ) → (m ≡ accepted → ⊥) → answers (refusedWith at-end m) ≡ a → x .out ≡ l → Closed n out (refusedEnd c m) a l
+  own-closed m a l h e f = rw (← e, ← f) record { refusal = refl; written = k .written; laid-out = k .laid-out; restarted = λ z. absurd (h z) }
+
+  refused-before : (c .refusal ≡ accepted → ⊥) → Done c
+  refused-before h room =
+      let again = end-again at-end (x .out) (rw (k .refusal) h) in
+      rw (← again .0, ← again .1) record { refusal = k .refusal; written = k .written; laid-out = k .laid-out; restarted = λ z. absurd (h z) }
+
+  module _ (well : c .refusal ≡ accepted) where
+    reader-well : at-end .refusal ≡ accepted
+    reader-well = k .refusal ∙ well
+
+    in-line : (length (c .left) ≡ 0 → ⊥) → Done (refusedEnd c notHex)
+    in-line h room =
+        let count = ap (λ (p : Partial). p .count) (k .line well) ∙ gathered-count (c .left) in
+        let some : at-end .line .count ≡ 0 → ⊥ = λ z. h (omega arith) in
+        let cut = end-in-line at-end (x .out) reader-well some in
+        own-closed notHex (endAnswer at-end (x .out)) (endLeaves at-end (x .out)) (λ z. omega arith) (cut .0) (cut .1)
+
+    module _ (bare : length (c .left) ≡ 0) where
+      no-line : at-end .line .count ≡ 0
+      no-line = let count = ap (λ (p : Partial). p .count) (k .line well) ∙ gathered-count (c .left) in omega arith
+
+      abbrev ending : Ending
+      ending = endingAt (c .wire .stage)
+
+      same-ending : ending ≡ endingAt (at-end .wire .stage)
+      same-ending = ap (λ (w : Wire). endingAt (w .stage)) (sym (k .wire))
+
+      in-low : (ending .refusal ≡ accepted → ⊥) → Done (refusedEnd c (ending .refusal))
+      in-low h room =
+          let low = end-low at-end (x .out) reader-well no-line ending same-ending h in
+          own-closed (ending .refusal) (endAnswer at-end (x .out)) (endLeaves at-end (x .out)) h (low .0) (low .1)
+
+      nothing-open : ending .refusal ≡ accepted → ending .closes ≡ false → Done c
+      nothing-open h e room =
+          let none = end-nothing at-end (x .out) reader-well no-line ending same-ending h e in
+          rw (← none .0, ← none .1) record { refusal = sym well; written = k .written; laid-out = k .laid-out; restarted = λ z. refl }
+
+      last-open : ending .refusal ≡ accepted → ending .closes ≡ true → Done (lastClosed c)
+      unfolding writeAll
+      last-open h e room =
+          let f = c .wire .frame in
+          let before = writeAll (c .frames) in
+          let line = fedLine f in
+          let text : writeAll (c .frames ++ (f ∷ [])) ≡ before ++ line = write-append (c .frames) (f ∷ []) ∙ ap (λ (t : List ℕ). before ++ t) (append-nil line) in
+          let sum = ap length text ∙ length-append before line in
+          let fits-before : n + length before ≤ length out = omega arith in
+          let size = laid-length out n before fits-before in
+          let there : n + length before + length line ≤ length (laid out n before) = omega arith in
+          let put = lay-fits (laid out n before) (n + length before) line there in
+          let wrote : frameWritten at-end (x .out) ≡ record { refusal = accepted; next = n + length before + length line } =
+          rw (k .wire, k .written, k .laid-out, sound .carried) (put .0) in
+          let last = end-closes at-end (x .out) reader-well no-line ending same-ending h e in
+          let done = last-done at-end (x .out) (ap (λ (a : Written). a .refusal) wrote) in
+          let left : closedLeaves at-end (x .out) ≡ laid out n (before ++ line) =
+          rw (k .wire, k .written, k .laid-out, sound .carried) (put .1 ∙ laid-more out n before line fits-before) in
+          let answered : endAnswer at-end (x .out) ≡ finished (n + length before + length line) =
+          sym (last .0) ∙ sym done ∙ ap (λ (a : Written). finished (a .next)) wrote in
+          record {
+            refusal = ap (λ (a : Answer). a .refusal) answered ∙ sym well;
+            written = ap (λ (a : Answer). a .written) answered ∙ omega arith;
+            laid-out = sym (last .1) ∙ left ∙ ap (laid out n) (sym text);
+            restarted = λ z. ap (λ (a : Answer). a .reader) answered;
+          }
+
+      by-ending : Done (endedAt c ending)
+      by-ending = by-refusal (eqb (ending .refusal) accepted) refl
+        where
+          by-closes : (t : Bool) → ending .closes ≡ t → ending .refusal ≡ accepted → Done (if t then lastClosed c else c)
+          by-closes true e h = last-open h e
+          by-closes false e h = nothing-open h e
+
+          by-refusal : (t : Bool) → eqb (ending .refusal) accepted ≡ t → Done (if not t then refusedEnd c (ending .refusal) else if ending .closes then lastClosed c else c)
+          by-refusal true h = by-closes (ending .closes) refl (eqb-true (ending .refusal) accepted h)
+          by-refusal false h = in-low (eqb-false (ending .refusal) accepted h)
+
+  pub end-closed : Done (ended c)
+  end-closed = by-refusal (eqb (c .refusal) accepted) refl
+    where
+      by-line : (t : Bool) → eqb (length (c .left)) 0 ≡ t → c .refusal ≡ accepted → Done (if not t then refusedEnd c notHex else endedAt c (endingAt (c .wire .stage)))
+      by-line true e h = by-ending h (eqb-true (length (c .left)) 0 e)
+      by-line false e h = in-line h (eqb-false (length (c .left)) 0 e)
+
+      by-refusal : (t : Bool) → eqb (c .refusal) accepted ≡ t
+          → Done (if not t then c else if not (eqb (length (c .left)) 0) then refusedEnd c notHex else endedAt c (endingAt (c .wire .stage)))
+      by-refusal true h = by-line (eqb (length (c .left)) 0) refl (eqb-true (c .refusal) accepted h)
+      by-refusal false h = refused-before (eqb-false (c .refusal) accepted h)
+
+-- ## The frames with the last one can be written
+
+writable-last : {fs : List Frame} → Writable fs → (f : Frame) → Sound f → Writable (fs ++ (f ∷ []))
+writable-last none f sound = one (sound .held) (sound .carried) none
+writable-last (one held carried rest) f sound = one held carried (writable-last rest f sound)
+
+pub ended-writable : (c : Course) → Kept c → Writable (ended c .frames)
+ended-writable c k = by-test (eqb (c .refusal) accepted) (eqb (length (c .left)) 0) (eqb (endingAt (c .wire .stage) .refusal) accepted) (endingAt (c .wire .stage) .closes)
+  where
+    by-test : (t u v x : Bool)
+        → Writable ((if not t then c else if not u then refusedEnd c notHex else if not v then refusedEnd c (endingAt (c .wire .stage) .refusal) else if x then lastClosed c else c) .frames)
+    by-test false u v x = k .writable
+    by-test true false v x = k .writable
+    by-test true true false x = k .writable
+    by-test true true true true = writable-last (k .writable) (c .wire .frame) (k .last)
+    by-test true true true false = k .writable

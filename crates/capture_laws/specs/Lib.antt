@@ -1,0 +1,13 @@
+pub mod Capture
+pub mod Claims
+pub mod StepLaws
+pub mod FillLaws
+pub mod CutLaws
+pub mod EndLaws
+pub mod Taken
+pub mod Room
+pub mod RoomLaws
+pub mod Theorem
+pub mod Cases
+pub mod Transcript
+pub mod TranscriptLaws

@@ -1,2 +1,0 @@
-pub mod Transcript
-pub mod TranscriptLaws

@@ -1,0 +1,39 @@
+-- A line of a capture, character by character: just what tells, at its feed, whether it is eight digits, and of which number.
+--     timeDigits             the digits of a time
+--     noLine                 a line without a character
+--     counted n              one character more; nine are already too many, and more are not counted
+--     longer l c             the line with one character more
+--     gathered cs            what is known of a line of the characters cs
+-- Assumes nothing.
+use Prim.Native.Nat.{ℕ, _+_, _%_}
+use mathlib.Core.Bool.{true, _&&_}
+use mathlib.Core.List.{List}
+use lib.Dec.{ltb}
+use Rattle.basic_laws.specs.Choice.{if_then_else_}
+use Rattle.basic_laws.specs.Fold.{fold}
+use Rattle.text.specs.Digits.{isDigit, thenDigit}
+use Rattle.captures.specs.declared.edge_lines.Partial.{Partial}
+
+-- the digits of a time
+abbrev pub timeDigits : ℕ
+timeDigits = 8
+
+-- the numbers of eight digits
+abbrev pub timeBound : ℕ
+timeBound = 0x100000000
+
+-- a line without a character
+abbrev pub noLine : Partial
+noLine = record { count = 0; spelt = true; number = 0 }
+
+-- one character more; nine are already too many, and more are not counted
+abbrev pub counted : ℕ → ℕ
+counted n = if ltb n 9 then n + 1 else n
+
+-- the line with one character more
+abbrev pub longer : Partial → ℕ → Partial
+longer l c = record { count = counted (l .count); spelt = l .spelt && isDigit 16 c; number = thenDigit 16 (l .number) c % timeBound }
+
+-- what is known of a line of some characters
+abbrev pub gathered : List ℕ → Partial
+gathered cs = fold longer noLine cs

@@ -1,3 +1,0 @@
-pub mod Celsius
-pub mod CelsiusLaws
-pub mod Cases

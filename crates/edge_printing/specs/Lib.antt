@@ -1,2 +1,0 @@
-pub mod EdgePrinting
-pub mod EdgePrintingLaws

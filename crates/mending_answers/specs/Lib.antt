@@ -1,3 +1,0 @@
-pub mod Notice
-pub mod NoticeLaws
-pub mod NoticesLaws

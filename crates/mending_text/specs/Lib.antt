@@ -1,2 +1,0 @@
-pub mod MendingText
-pub mod Laws

@@ -1,0 +1,52 @@
+-- Unpacked, called, packed: the one law. Assumes nothing.
+use mathlib.Core.Path.{_∙_}
+use borrow.Author.Needs.{needs}
+use denote.Ref.{now}
+use Rattle.bench.specs.Calls.{copyFinished}
+use Rattle.packed_bench.specs.ThroughLaws.{copy-keeps, refused-done, accepted-done}
+use Rattle.packed_bench.proofs.calls.finish_copy.Statement.{statement}
+use Rattle.packed_bench.proofs.calls.finish_copy.Tie as tie
+
+unpack-requires : tie.Need-unpack-requires
+unpack-requires c κs = search needs
+
+same-length : tie.Need-same-length
+same-length c = search needs
+
+returns : tie.Need-returns
+returns c =
+    let u = c .before in
+    let a = u .before .before .before .args in
+    refused-done (λ b. copyFinished b (a .code)) (λ r. r .refusal) (λ r. r .bench) (λ n. n) (now (a .t)) (u .unpack .result) (u .unpack .ensures) (c .if1 .taken)
+
+finish-copy-requires : tie.Need-finish-copy-requires
+finish-copy-requires c κs = search needs
+
+keep-requires : tie.Need-keep-requires
+keep-requires c κs = search needs
+
+same-length-2 : tie.Need-same-length-2
+same-length-2 c = search needs
+
+returns-2 : tie.Need-returns-2
+returns-2 c =
+    let k = c .before .before in
+    let d = k .before .before in
+    let u = d .before .before in
+    let a = u .before .before .before .args in
+    let done =
+    accepted-done (λ b. copyFinished b (a .code)) (λ r. r .refusal) (λ r. r .bench) (λ n. n) (now (a .t)) (u .unpack .result) (u .unpack .ensures) (copy-keeps (a .code)) (d .before .if1 .left)
+    (d .finish-copy .result) (d .finish-copy .ensures) _ (k .keep .ensures .1 .0) (k .keep .ensures .1 .1) in
+    (k .keep .ensures .0 ∙ done .0, done .1)
+
+pub finish-copy-spec : {M : Type 1} → statement M
+finish-copy-spec =
+    tie.close
+    (tie.spec
+    unpack-requires
+    same-length
+    returns
+    finish-copy-requires
+    keep-requires
+    same-length-2
+    returns-2)

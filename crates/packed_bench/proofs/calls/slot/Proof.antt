@@ -1,0 +1,50 @@
+-- Unpacked, called, packed: the one law. Assumes nothing.
+use borrow.Author.Needs.{needs}
+use denote.Ref.{now}
+use Rattle.bench.specs.Slot.{slotted}
+use Rattle.packed_bench.specs.Answers.{noSlot, slotSeen}
+use Rattle.packed_bench.specs.ThroughLaws.{slot-keeps, refused-done, accepted-done}
+use Rattle.packed_bench.proofs.calls.slot.Statement.{statement}
+use Rattle.packed_bench.proofs.calls.slot.Tie as tie
+
+unpack-requires : tie.Need-unpack-requires
+unpack-requires c κs = search needs
+
+same-length : tie.Need-same-length
+same-length c = search needs
+
+returns : tie.Need-returns
+returns c =
+    let u = c .before in
+    let a = u .before .before .before .args in
+    refused-done (λ b. slotted b (a .bit)) slotSeen (λ r. r .bench) noSlot (now (a .t)) (u .unpack .result) (u .unpack .ensures) (c .if1 .taken)
+
+slot-requires : tie.Need-slot-requires
+slot-requires c κs = search needs
+
+pack-requires : tie.Need-pack-requires
+pack-requires c κs = search needs
+
+same-length-2 : tie.Need-same-length-2
+same-length-2 c = search needs
+
+returns-2 : tie.Need-returns-2
+returns-2 c =
+    let k = c .before .before in
+    let d = k .before .before .before in
+    let u = d .before .before in
+    let a = u .before .before .before .args in
+    accepted-done (λ b. slotted b (a .bit)) slotSeen (λ r. r .bench) noSlot (now (a .t)) (u .unpack .result) (u .unpack .ensures) (slot-keeps (a .bit)) (d .before .if1 .left)
+    (d .slot .result) (d .slot .ensures) _ (k .pack .ensures .1 .0) (k .pack .ensures .1 .1)
+
+pub slot-spec : {M : Type 1} → statement M
+slot-spec =
+    tie.close
+    (tie.spec
+    unpack-requires
+    same-length
+    returns
+    slot-requires
+    pack-requires
+    same-length-2
+    returns-2)

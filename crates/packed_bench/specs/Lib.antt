@@ -1,0 +1,16 @@
+pub mod Bytes
+pub mod BytesLaws
+pub mod Parts
+pub mod PartsLaws
+pub mod Packed
+pub mod Types
+pub mod Laws
+pub mod Table
+pub mod Tabled
+pub mod TableLaws
+pub mod LoopLaws
+pub mod Claims
+pub mod ClaimsLaws
+pub mod Through
+pub mod Answers
+pub mod ThroughLaws

@@ -1,0 +1,133 @@
+-- Turns of the loops over entries, on plain values.
+--     copy-more                      a copy of the front of a list, one element longer
+--     each-more                      what holds of the front of a list, one element further
+--     entry-there, entry-none        the entry of one place
+--     table-turn, table-end          writing, entry by entry
+--     read-turn, read-stop, read-end, vacant-turn, bench-read      reading, entry by entry
+--     codes-unsound, codes-twice, codes-onward, codes-end          the codes, device by device
+-- Assumes nothing.
+use Prim.Native.Nat.{ℕ, zero, suc, _+_, _*_, _-_, _<_, _≤_}
+use mathlib.Core.Path.{_≡_, refl, sym, ap, _∙_}
+use mathlib.Core.Bool.{true, false}
+use mathlib.Core.List.{List, [], _∷_, _++_, append-assoc, append-nil}
+use native.Mathlib.Omega.{arith}
+use native.Mathlib.Numerals.{add-one}
+use borrow.Author.Tests.{eq-eqb, ne-eqb}
+use lib.ListN.{length, getD, set, take, drop, replicate, length-take, drop-of-length-le, take-append-drop}
+use lib.Seq.{take-suc, take-suc-set, drop-cons, drop-drop, drop-set-lt, getD-take, length-take-le}
+use Rattle.basic_laws.specs.Each.{Each}
+use Rattle.basic_laws.specs.Laid.{laid}
+use Rattle.basic_laws.specs.LaidLaws.{laid-none, laid-then}
+use Rattle.basic_laws.specs.Places.{drop-replicate}
+use Rattle.rom.specs.Code.{sound}
+use Rattle.device.specs.declared.Device.{Device}
+use Rattle.packed_bench.specs.Packed.{packed, fieldsOf}
+use Rattle.bench.specs.Bench.{vacant}
+use Rattle.packed_bench.specs.Table.{entryOf, tableOf, devicesIn, absent, codesFit, benchOf}
+use Rattle.packed_bench.specs.TableLaws.{entry-length, table-length}
+
+pub copy-more : (e s : List ℕ) (i : ℕ) → i < length e → i < length s → take i e ≡ take i s
+    → take (i + 1) (set e i (getD s i 0)) ≡ take (i + 1) s
+copy-more e s i h k p = rw (add-one i, take-suc-set e i (getD s i 0) h, take-suc s i 0 k, p)
+
+each-next : {A : Type 0} (P : A → Type 0) (l : List A) (i : ℕ) (z : A) → (i < length l → P (getD l i z)) → Each P (take i l) → Each P (take (suc i) l)
+each-next P [] i z h e = tt
+each-next P (x ∷ l) zero z h e = (h (omega arith), tt)
+each-next P (x ∷ l) (suc i) z h e = (e .0, each-next P l i z (λ k. h (omega arith)) (e .1))
+
+pub each-more : {A : Type 0} (P : A → Type 0) (l : List A) (i : ℕ) (z : A) → (i < length l → P (getD l i z)) → Each P (take i l) → Each P (take (i + 1) l)
+each-more P l i z h e = rw (add-one i) (each-next P l i z h e)
+
+-- ## The entry of one place
+
+module _ (devices : List Device) (count place : ℕ) where
+  pub entry-there : (z : Device) → place < count → place < length devices → packed (getD devices place z) ≡ entryOf (drop place (take count devices))
+  entry-there z h k =
+      let few = length-take count devices in
+      let l : place < length (take count devices) = omega arith in
+      sym (rw (drop-cons (take count devices) place z l, getD-take count devices place z h) refl)
+
+  pub entry-none : count ≤ place → replicate 48 0 ≡ entryOf (drop place (take count devices))
+  entry-none h =
+      let few = length-take count devices in
+      let l : length (take count devices) ≤ place = omega arith in
+      sym (rw (drop-of-length-le (take count devices) l) refl)
+
+-- ## Writing, entry by entry: what stands there with the rest laid behind it is the whole
+
+pub table-turn : (t : List ℕ) (ds : List Device) (i : ℕ) → i < 32 → 48 * i + 48 ≤ length t
+    → laid t (48 * i) (tableOf (32 - i) (drop i ds)) ≡ laid (laid t (48 * i) (entryOf (drop i ds))) (48 * (i + 1)) (tableOf (32 - (i + 1)) (drop (i + 1) ds))
+unfolding tableOf
+table-turn t ds i h room =
+    let n : 32 - i ≡ suc (32 - (i + 1)) = omega arith in
+    let e = entry-length (drop i ds) in
+    let at : 48 * i + length (entryOf (drop i ds)) ≡ 48 * (i + 1) = omega arith in
+    let l : 48 * (i + 1) ≤ length t = omega arith in
+    rw n (rw (drop-drop 1 i ds) (sym (laid-then t (48 * i) (entryOf (drop i ds)) (tableOf (32 - (i + 1)) (drop (i + 1) ds)) (48 * (i + 1)) at l)))
+
+pub table-end : (t : List ℕ) (ds : List Device) (i : ℕ) → i ≡ 32 → laid t (48 * i) (tableOf (32 - i) (drop i ds)) ≡ t
+unfolding tableOf
+table-end t ds i e = let n : 32 - i ≡ 0 = omega arith in rw n (sym (laid-none t (48 * i)))
+
+-- over zeros as long as a table
+pub laid-whole : (t : List ℕ) (ds : List Device) → length t ≡ 1536 → laid t 0 (tableOf 32 ds) ≡ tableOf 32 ds
+unfolding laid
+laid-whole t ds long =
+    let l : length (tableOf 32 ds) ≡ 1536 = table-length 32 ds in
+    let h : length t ≤ 0 + length (tableOf 32 ds) = omega arith in
+    rw (drop-of-length-le t h) (append-nil (tableOf 32 ds))
+
+-- ## Reading, entry by entry: the devices so far and those of the entries that are left
+
+module _ (t : List ℕ) (devices : List Device) (i : ℕ) (d : Device) (is : d ≡ fieldsOf (take 48 (drop (48 * i) t))) (h : i < 32) where
+  next : 32 - i ≡ suc (32 - (i + 1))
+  next = omega arith
+
+  pub read-turn : length devices ≡ 32 → (d .code ≡ 0 → ⊥)
+      → take i devices ++ devicesIn (32 - i) (drop (48 * i) t) ≡ take (i + 1) (set devices i d) ++ devicesIn (32 - (i + 1)) (drop (48 * (i + 1)) t)
+  unfolding devicesIn
+  read-turn long used =
+      let k : i < length devices = omega arith in
+      let at : 48 * i + 48 ≡ 48 * (i + 1) = omega arith in
+      rw (next, ← is, ne-eqb (d .code) 0 used, drop-drop 48 (48 * i) t, at, add-one i, take-suc-set devices i d k)
+      (sym (append-assoc (take i devices) (d ∷ []) (devicesIn (32 - suc i) (drop (48 * suc i) t))))
+
+  pub read-stop : d .code ≡ 0 → take i devices ++ devicesIn (32 - i) (drop (48 * i) t) ≡ take i devices
+  unfolding devicesIn
+  read-stop none = rw (next, ← is, eq-eqb (d .code) 0 none) (append-nil (take i devices))
+
+pub read-end : (t : List ℕ) (devices : List Device) (i : ℕ) → i ≡ 32 → take i devices ++ devicesIn (32 - i) (drop (48 * i) t) ≡ take i devices
+unfolding devicesIn
+read-end t devices i e = let n : 32 - i ≡ 0 = omega arith in rw n (append-nil (take i devices))
+
+-- the places behind the devices stay vacant
+pub vacant-turn : (devices : List Device) (i : ℕ) (d : Device) → i < 32 → drop i devices ≡ replicate (32 - i) vacant
+    → drop (i + 1) (set devices i d) ≡ replicate (32 - (i + 1)) vacant
+vacant-turn devices i d h e =
+    let n : 32 - i - 1 ≡ 32 - (i + 1) = omega arith in
+    drop-set-lt (i + 1) devices i d (omega arith) ∙ sym (drop-drop 1 i devices) ∙ ap (drop 1) e ∙ drop-replicate 1 (32 - i) vacant ∙ rw n refl
+
+pub bench-read : (devices : List Device) (i : ℕ) → i ≤ 32 → length devices ≡ 32 → drop i devices ≡ replicate (32 - i) vacant
+    → benchOf (take i devices) ≡ record { devices = devices; count = i }
+bench-read devices i h long rest =
+    let k : i ≤ length devices = omega arith in
+    rw (length-take-le i devices k, ← rest, take-append-drop i devices)
+
+-- ## The codes, device by device
+
+module _ (ds : List Device) (i : ℕ) (z : Device) (h : i < length ds) where
+  pub codes-unsound : sound (getD ds i z .code) ≡ false → codesFit (drop i ds) ≡ false
+  unfolding codesFit
+  codes-unsound e = rw (drop-cons ds i z h, e)
+
+  pub codes-twice : sound (getD ds i z .code) ≡ true → absent (getD ds i z .code) (drop (i + 1) ds) ≡ false → codesFit (drop i ds) ≡ false
+  unfolding codesFit
+  codes-twice e n = let n' = rw (add-one i) at n in rw (drop-cons ds i z h, e, n')
+
+  pub codes-onward : sound (getD ds i z .code) ≡ true → absent (getD ds i z .code) (drop (i + 1) ds) ≡ true → codesFit (drop i ds) ≡ codesFit (drop (i + 1) ds)
+  unfolding codesFit
+  codes-onward e n = let n' = rw (add-one i) at n in rw (drop-cons ds i z h, e, n', add-one i)
+
+pub codes-end : (ds : List Device) (i : ℕ) → length ds ≤ i → codesFit (drop i ds) ≡ true
+unfolding codesFit
+codes-end ds i h = rw (drop-of-length-le ds h)

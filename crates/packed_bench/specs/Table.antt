@@ -1,0 +1,89 @@
+-- The table of a bench in bytes (docs/TABLE.md): 32 entries of 48 bytes, the devices in the leading ones, zeros in the others.
+--     entryOf ds          the entry of the first of ds; 48 zeros where there is none
+--     tableOf n ds        n entries, those of ds from the first on
+--     devicesIn n t       the devices that n entries hold: as they are read, up to the first with the code 0
+--     codesFit ds         whether each device has a sound code, and one that none after it has
+--     isTable t           whether t begins with the very table of the devices that are read from it, and their codes fit
+--     benchOf ds          the bench of these devices; every other place is vacant
+--     unpacked t          the bench that t holds; 1 for fewer than 1,536 bytes, then 22 for bytes that are no table, with the empty bench
+--     packRefusal t       1 where less than a table is lent
+--     packedInto t b      the lent bytes once a bench is packed into them: its table from byte 0 on, all others as they were
+-- Assumes nothing.
+use Prim.Native.Nat.{ℕ, zero, suc, _-_}
+use mathlib.Core.Bool.{Bool, true, not, _&&_}
+use mathlib.Core.List.{List, [], _∷_, _++_}
+use lib.Dec.{eqb, ltb}
+use lib.ListN.{length, take, drop, replicate}
+use Rattle.basic_laws.specs.Choice.{if_then_else_}
+use Rattle.basic_laws.specs.Fold.{all}
+use Rattle.basic_laws.specs.Laid.{laid}
+use Rattle.basic_laws.specs.Same.{same}
+use Rattle.refusals.specs.Refusals.{accepted, noRoom, notATable}
+use Rattle.rom.specs.Code.{sound}
+use Rattle.device.specs.declared.Device.{Device}
+use Rattle.packed_bench.specs.Packed.{packed, fieldsOf}
+use Rattle.bench.specs.Bench.{live, vacant, emptyBench}
+use Rattle.bench.specs.declared.Bench.{Bench}
+use Rattle.packed_bench.specs.declared.table.Unpacked.{Unpacked}
+
+-- 32 entries of 48 bytes
+abbrev pub tableBytes : ℕ
+tableBytes = 1536
+
+-- ## Devices to bytes
+
+abbrev pub entryOf : List Device → List ℕ
+entryOf [] = replicate 48 0
+entryOf (d ∷ ds) = packed d
+
+unfoldable pub tableOf : ℕ → List Device → List ℕ
+tableOf zero ds = []
+tableOf (suc n) ds = entryOf ds ++ tableOf n (drop 1 ds)
+
+-- ## Bytes to devices
+
+-- d before the others, unless its code is 0: such an entry is in no use, and none after it
+abbrev pub inUse : Device → List Device → List Device
+inUse d ds = if eqb (d .code) 0 then [] else d ∷ ds
+
+unfoldable pub devicesIn : ℕ → List ℕ → List Device
+devicesIn zero t = []
+devicesIn (suc n) t = inUse (fieldsOf (take 48 t)) (devicesIn n (drop 48 t))
+
+-- ## What is accepted
+
+abbrev pub absent : ℕ → List Device → Bool
+absent code ds = all (λ d. not (eqb (d .code) code)) ds
+
+unfoldable pub codesFit : List Device → Bool
+codesFit [] = true
+codesFit (d ∷ ds) = (sound (d .code) && absent (d .code) ds) && codesFit ds
+
+abbrev pub holds : List ℕ → List Device → Bool
+holds t ds = same (tableOf 32 ds) (take tableBytes t) && codesFit ds
+
+abbrev pub isTable : List ℕ → Bool
+isTable t = holds t (devicesIn 32 t)
+
+-- ## The bench
+
+abbrev pub benchOf : List Device → Bench
+benchOf ds = record { devices = ds ++ replicate (32 - length ds) vacant; count = length ds }
+
+abbrev pub refused : ℕ → Unpacked
+refused n = record { refusal = n; bench = emptyBench }
+
+abbrev pub held : Bench → Unpacked
+held b = record { refusal = accepted; bench = b }
+
+unfoldable pub unpacked : List ℕ → Unpacked
+unpacked t =
+    if ltb (length t) tableBytes then refused noRoom
+    else if isTable t then held (benchOf (devicesIn 32 t))
+    else refused notATable
+
+abbrev pub packRefusal : List ℕ → ℕ
+packRefusal t = if ltb (length t) tableBytes then noRoom else accepted
+
+unfoldable pub packedInto : List ℕ → Bench → List ℕ
+packedInto t b = if ltb (length t) tableBytes then t else laid t 0 (tableOf 32 (live b))

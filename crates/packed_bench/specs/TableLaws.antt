@@ -1,0 +1,260 @@
+-- Packing and unpacking undo each other, and 22 is for the bytes that no records pack to, and for no others.
+--     unpack-pack        a bench packed unpacks to itself, whatever stands behind the table
+--     pack-unpack        accepted bytes pack back to themselves
+--     unpacked-tabled    what is accepted is a bench that a table can hold, with numbers of their types
+--     refused-none       22 is given only where no records, at most 32 with different sound codes, pack to the bytes
+-- Assumes nothing.
+use Prim.Native.Nat.{ℕ, zero, suc, _+_, _*_, _-_, _<_, _≤_}
+use mathlib.Core.Path.{_≡_, refl, sym, ap, _∙_}
+use mathlib.Core.Logic.{_≢_}
+use mathlib.Core.Bool.{Bool, true, false, not, _&&_, false≢true}
+use mathlib.Core.List.{List, [], _∷_, _++_, append-assoc, map}
+use native.Mathlib.Omega.{arith}
+use borrow.Author.Tests.{ne-eqb, eqb-true, eqb-false, ltb-true, ltb-false, le-ltb}
+use lib.Dec.{eqb, ltb, lit<}
+use lib.ListN.{length, getD, take, drop, replicate, length-append, length-replicate, take-append-drop}
+use lib.Seq.{take-at, drop-at, length-take-le, getD-drop}
+use Rattle.basic_laws.specs.Choice.{if_then_else_}
+use Rattle.basic_laws.specs.ChoiceLaws.{and-left, and-right}
+use Rattle.basic_laws.specs.Each.{Each, Distinct}
+use Rattle.basic_laws.specs.Fold.{all, fold}
+use Rattle.basic_laws.specs.Laid.{laid}
+use Rattle.basic_laws.specs.Same.{same}
+use Rattle.basic_laws.specs.SameLaws.{same-equal, same-itself}
+use Rattle.basic_laws.specs.Bits.{bitsOf}
+use Rattle.crc.specs.Crc.{crcBits}
+use Rattle.refusals.specs.Refusals.{accepted, noRoom, wrongKind, notATable}
+use Rattle.rom.specs.Code.{codeRefusal, sound}
+use Rattle.device.specs.declared.Device.{Device}
+use Rattle.packed_bench.specs.Bytes.{codeOf}
+use Rattle.packed_bench.specs.Packed.{packed, fieldsOf}
+use Rattle.packed_bench.specs.Types.{InTypes}
+use Rattle.packed_bench.specs.Laws.{packed-length, fields-back, fields-in-types}
+use Rattle.bench.specs.Bench.{live, vacant}
+use Rattle.bench.specs.declared.Bench.{Bench}
+use Rattle.packed_bench.specs.declared.table.Unpacked.{Unpacked}
+use Rattle.packed_bench.specs.Table.{tableBytes, entryOf, tableOf, inUse, devicesIn, absent, codesFit, isTable, benchOf, refused, held, unpacked, packedInto}
+use Rattle.packed_bench.specs.Tabled.{Tabled}
+
+-- what holds of both ways of a choice holds of the choice
+either-way : {A : Type 0} (P : A → Type 0) (u : Bool) (x y : A) → P x → P y → P (if u then x else y)
+either-way P true x y p q = p
+either-way P false x y p q = q
+
+-- ## An unused entry: nothing is read from it on
+
+vacant-none : (ds : List Device) → inUse (fieldsOf (replicate 48 0)) ds ≡ []
+unfolding fieldsOf codeOf
+vacant-none ds = refl
+
+-- ## Lengths
+
+pub entry-length : (ds : List Device) → length (entryOf ds) ≡ 48
+entry-length [] = refl
+entry-length (d ∷ ds) = packed-length d
+
+pub table-length : (n : ℕ) (ds : List Device) → length (tableOf n ds) ≡ 48 * n
+unfolding tableOf
+table-length zero ds = refl
+table-length (suc n) ds =
+    let i = table-length n (drop 1 ds) in
+    let e = entry-length ds in
+    length-append (entryOf ds) (tableOf n (drop 1 ds)) ∙ omega arith
+
+pub devices-few : (n : ℕ) (t : List ℕ) → length (devicesIn n t) ≤ n
+unfolding devicesIn
+devices-few zero t = omega arith
+devices-few (suc n) t =
+    let i = devices-few n (drop 48 t) in
+    either-way (λ l. length l ≤ suc n) (eqb (fieldsOf (take 48 t) .code) 0) [] (fieldsOf (take 48 t) ∷ devicesIn n (drop 48 t)) (omega arith) (omega arith)
+
+-- ## The codes
+
+codeless : codeRefusal 0 ≡ wrongKind
+unfolding codeRefusal crcBits bitsOf fold
+codeless = refl
+
+sound-used : (code : ℕ) → sound code ≡ true → code ≢ 0
+sound-used code s z = let e : wrongKind ≡ accepted = sym codeless ∙ sym (ap codeRefusal z) ∙ eqb-true (codeRefusal code) accepted s in omega arith
+
+-- the claim that the test of the codes makes
+pub record Fits (ds : List Device) : Type 0 where
+  pub each-sound : Each (λ c. sound c ≡ true) (map (λ d. d .code) ds)
+  pub each-own : Distinct (map (λ d. d .code) ds)
+
+absent-told : (code : ℕ) (ds : List Device) → absent code ds ≡ true → Each (λ c. code ≢ c) (map (λ d. d .code) ds)
+unfolding all
+absent-told code [] h = tt
+absent-told code (d ∷ ds) h =
+    let here = and-left (not (eqb (d .code) code)) (absent code ds) h in
+    let there = and-right (not (eqb (d .code) code)) (absent code ds) h in
+    (differ (eqb (d .code) code) refl here, absent-told code ds there)
+  where
+    differ : (u : Bool) → eqb (d .code) code ≡ u → not u ≡ true → code ≢ d .code
+    differ true e k z = false≢true k
+    differ false e k z = eqb-false (d .code) code e (sym z)
+
+absent-tells : (code : ℕ) (ds : List Device) → Each (λ c. code ≢ c) (map (λ d. d .code) ds) → absent code ds ≡ true
+unfolding all
+absent-tells code [] h = refl
+absent-tells code (d ∷ ds) h =
+    let n = ne-eqb (d .code) code (λ z. h .0 (sym z)) in
+    rw n (absent-tells code ds (h .1))
+
+pub codes-told : (ds : List Device) → codesFit ds ≡ true → Fits ds
+unfolding codesFit
+codes-told [] h = record { each-sound = tt; each-own = tt }
+codes-told (d ∷ ds) h =
+    let here = and-left (sound (d .code) && absent (d .code) ds) (codesFit ds) h in
+    let f = codes-told ds (and-right (sound (d .code) && absent (d .code) ds) (codesFit ds) h) in
+    record {
+      each-sound = (and-left (sound (d .code)) (absent (d .code) ds) here, f .each-sound);
+      each-own = (absent-told (d .code) ds (and-right (sound (d .code)) (absent (d .code) ds) here), f .each-own);
+    }
+
+pub codes-tell : (ds : List Device) → Fits ds → codesFit ds ≡ true
+unfolding codesFit
+codes-tell [] f = refl
+codes-tell (d ∷ ds) f =
+    let s : sound (d .code) ≡ true = f .each-sound .0 in
+    let n = absent-tells (d .code) ds (f .each-own .0) in
+    let i = codes-tell ds (record { each-sound = f .each-sound .1; each-own = f .each-own .1 }) in
+    rw (s, n) i
+
+-- ## Devices, their table, the devices
+
+-- whatever stands behind the table
+pub devices-back : (n : ℕ) (ds : List Device) (rest : List ℕ) → length ds ≤ n → Each InTypes ds → Each (λ c. sound c ≡ true) (map (λ d. d .code) ds)
+    → devicesIn n (tableOf n ds ++ rest) ≡ ds
+unfolding tableOf devicesIn
+devices-back zero [] rest h p s = refl
+devices-back zero (d ∷ ds) rest h p s = absurd (omega arith)
+devices-back (suc n) [] rest h p s = vacant-none (devicesIn n (tableOf n [] ++ rest))
+devices-back (suc n) (d ∷ ds) rest h p s =
+    let i = devices-back n ds rest (omega arith) (p .1) (s .1) in
+    let q = tableOf n ds ++ rest in
+    rw (
+      append-assoc (packed d) (tableOf n ds) rest,
+      take-at (packed d) q 48 (packed-length d),
+      drop-at (packed d) q 48 (packed-length d),
+      fields-back d (p .0),
+      ne-eqb (d .code) 0 (sound-used (d .code) (s .0)),
+      i,
+    )
+
+-- ## A bench and its devices
+
+pub bench-live : (ds : List Device) → live (benchOf ds) ≡ ds
+bench-live ds = take-at ds (replicate (32 - length ds) vacant) (length ds) refl
+
+pub live-length : (b : Bench) → Tabled b → length (live b) ≡ b .count
+live-length b t = let h : b .count ≤ length (b .devices) = omega (arith, t .few, t .places) in length-take-le (b .count) (b .devices) h
+
+pub bench-back : (b : Bench) → Tabled b → benchOf (live b) ≡ b
+bench-back b t = rw (live-length b t, ← t .rest-vacant, take-append-drop (b .count) (b .devices))
+
+pub tabled-fits : (b : Bench) → Tabled b → Fits (live b)
+tabled-fits b t = record { each-sound = t .codes-sound; each-own = t .codes-distinct }
+
+pub bench-tabled : (ds : List Device) → length ds ≤ 32 → Fits ds → Tabled (benchOf ds)
+bench-tabled ds h f =
+    let r = replicate (32 - length ds) vacant in
+    record {
+      places = length-append ds r ∙ (let l = length-replicate (32 - length ds) vacant in omega arith);
+      few = h;
+      codes-sound = rw (bench-live ds) (f .each-sound);
+      codes-distinct = rw (bench-live ds) (f .each-own);
+      rest-vacant = drop-at ds r (length ds) refl;
+    }
+
+-- ## Both ways
+
+module _ (b : Bench) (t : List ℕ) (tabled : Tabled b) (typed : Each InTypes (live b)) where
+  live-few : length (live b) ≤ 32
+  live-few = let e = live-length b tabled in omega (arith, tabled .few)
+
+  live-back : (rest : List ℕ) → devicesIn 32 (tableOf 32 (live b) ++ rest) ≡ live b
+  live-back rest = devices-back 32 (live b) rest live-few typed (tabled .codes-sound)
+
+  table-holds : (rest : List ℕ) → isTable (tableOf 32 (live b) ++ rest) ≡ true
+  table-holds rest =
+      rw (live-back rest, take-at (tableOf 32 (live b)) rest tableBytes (table-length 32 (live b)), same-itself (tableOf 32 (live b)))
+      (codes-tell (live b) (tabled-fits b tabled))
+
+  pub unpack-pack : tableBytes ≤ length t → unpacked (packedInto t b) ≡ held b
+  unfolding unpacked packedInto laid
+  unpack-pack h =
+      let long : length (tableOf 32 (live b)) ≡ 1536 = table-length 32 (live b) in
+      let rest = drop (0 + length (tableOf 32 (live b))) t in
+      let whole = length-append (tableOf 32 (live b)) rest in
+      let short = le-ltb (length t) tableBytes h in
+      let much : tableBytes ≤ length (tableOf 32 (live b) ++ rest) = omega arith in
+      let room = le-ltb (length (tableOf 32 (live b) ++ rest)) tableBytes much in
+      rw (short, room, table-holds rest, live-back rest, bench-back b tabled)
+
+-- what is accepted was long enough and is a table
+module _ (t : List ℕ) (P : Unpacked → Type 0) where
+  pub unpacked-cases : (length t < tableBytes → P (refused noRoom))
+      → (tableBytes ≤ length t → isTable t ≡ false → P (refused notATable))
+      → (tableBytes ≤ length t → isTable t ≡ true → P (held (benchOf (devicesIn 32 t)))) → P (unpacked t)
+  unfolding unpacked
+  unpacked-cases short other taken = by-room (ltb (length t) tableBytes) refl
+    where
+      by-test : (u : Bool) → isTable t ≡ u → tableBytes ≤ length t → P (if u then held (benchOf (devicesIn 32 t)) else refused notATable)
+      by-test true e h = taken h e
+      by-test false e h = other h e
+
+      by-room : (u : Bool) → ltb (length t) tableBytes ≡ u
+          → P (if u then refused noRoom else if isTable t then held (benchOf (devicesIn 32 t)) else refused notATable)
+      by-room true e = short (ltb-true (length t) tableBytes e)
+      by-room false e = by-test (isTable t) refl (ltb-false (length t) tableBytes e)
+
+pub pack-unpack : (t : List ℕ) → unpacked t .refusal ≡ accepted → packedInto t (unpacked t .bench) ≡ t
+unfolding packedInto laid
+pack-unpack t = unpacked-cases t (λ u. u .refusal ≡ accepted → packedInto t (u .bench) ≡ t)
+    (λ h e. absurd (omega arith))
+    (λ h n e. absurd (omega arith))
+    (λ h y e.
+    let same-bytes = same-equal (tableOf 32 (devicesIn 32 t)) (take tableBytes t) (and-left (same (tableOf 32 (devicesIn 32 t)) (take tableBytes t)) (codesFit (devicesIn 32 t)) y) in
+    let long : length (tableOf 32 (devicesIn 32 t)) ≡ 1536 = table-length 32 (devicesIn 32 t) in
+    rw (le-ltb (length t) tableBytes h, bench-live (devicesIn 32 t), long, same-bytes) (take-append-drop tableBytes t))
+
+pub unpacked-tabled : (t : List ℕ) → unpacked t .refusal ≡ accepted → Tabled (unpacked t .bench)
+unpacked-tabled t = unpacked-cases t (λ u. u .refusal ≡ accepted → Tabled (u .bench))
+    (λ h e. absurd (omega arith))
+    (λ h n e. absurd (omega arith))
+    (λ h y e.
+    bench-tabled (devicesIn 32 t) (devices-few 32 t)
+    (codes-told (devicesIn 32 t) (and-right (same (tableOf 32 (devicesIn 32 t)) (take tableBytes t)) (codesFit (devicesIn 32 t)) y)))
+
+-- bytes that are refused with 22 are those of no records
+pub refused-none : (t : List ℕ) → unpacked t .refusal ≡ notATable
+    → (ds : List Device) → length ds ≤ 32 → Each InTypes ds → Fits ds → tableOf 32 ds ≡ take tableBytes t → ⊥
+refused-none t = unpacked-cases t (λ u. u .refusal ≡ notATable → (ds : List Device) → length ds ≤ 32 → Each InTypes ds → Fits ds → tableOf 32 ds ≡ take tableBytes t → ⊥)
+    (λ h e ds few typed fits is. omega arith)
+    (λ h n e ds few typed fits is.
+    let b = benchOf ds in
+    let l = bench-live ds in
+    let whole : tableOf 32 (live b) ++ drop tableBytes t ≡ t = rw (l, is) (take-append-drop tableBytes t) in
+    let is-one = table-holds b t (bench-tabled ds few fits) (rw l typed) (drop tableBytes t) in
+    false≢true (sym n ∙ ap isTable (sym whole) ∙ is-one))
+    (λ h y e ds few typed fits is. omega arith)
+
+-- ## The types
+
+-- what is read from bytes is a record of the types
+devices-typed : (n : ℕ) (t : List ℕ) → ((i : ℕ) → getD t i 0 < 256) → Each InTypes (devicesIn n t)
+unfolding devicesIn
+devices-typed zero t h = tt
+devices-typed (suc n) t h =
+    let later = devices-typed n (drop 48 t) (λ i. rw (getD-drop 48 t i 0) (h (48 + i))) in
+    either-way (Each InTypes) (eqb (fieldsOf (take 48 t) .code) 0) [] (fieldsOf (take 48 t) ∷ devicesIn n (drop 48 t)) tt (fields-in-types (take 48 t) (front t 48 h), later)
+  where
+    front : (l : List ℕ) (k : ℕ) → ((i : ℕ) → getD l i 0 < 256) → (i : ℕ) → getD (take k l) i 0 < 256
+    front l zero b i = lit< tt
+    front [] (suc k) b i = lit< tt
+    front (x ∷ l) (suc k) b zero = b 0
+    front (x ∷ l) (suc k) b (suc i) = front l k (λ j. b (suc j)) i
+
+pub unpacked-typed : (t : List ℕ) → ((i : ℕ) → getD t i 0 < 256) → Each InTypes (live (unpacked t .bench))
+unpacked-typed t bytes = unpacked-cases t (λ u. Each InTypes (live (u .bench))) (λ h. tt) (λ h n. tt) (λ h y. rw (bench-live (devicesIn 32 t)) (devices-typed 32 t bytes))

@@ -1,0 +1,12 @@
+pub mod TableRequests
+pub mod TableAnswers
+pub mod TableAnswersLaws
+pub mod TableConsole
+pub mod TellsLaws
+pub mod KeptLaws
+pub mod OnBenchLaws
+pub mod HistoryLaws
+pub mod TableSettings
+pub mod TableSettingsLaws
+pub mod TableSession
+pub mod TableSessionLaws

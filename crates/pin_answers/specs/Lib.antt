@@ -1,2 +1,0 @@
-pub mod PinLines
-pub mod PinLinesLaws

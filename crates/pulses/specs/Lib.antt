@@ -1,5 +1,0 @@
-pub mod Bounds
-pub mod BoundsLaws
-pub mod Rule
-pub mod RuleLaws
-pub mod Cases

@@ -1,4 +1,0 @@
-pub mod Bytes
-pub mod BytesLaws
-pub mod Parts
-pub mod PartsLaws

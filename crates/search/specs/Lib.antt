@@ -1,0 +1,5 @@
+pub mod Place
+pub mod PlaceLaws
+pub mod Standing
+pub mod Pass
+pub mod Sweep

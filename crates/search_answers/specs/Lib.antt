@@ -1,4 +1,0 @@
-pub mod Whole
-pub mod WholeLaws
-pub mod Found
-pub mod FoundLaws

@@ -1,4 +1,0 @@
-pub mod Buses
-pub mod Course
-pub mod Thermometers
-pub mod OnTheBench

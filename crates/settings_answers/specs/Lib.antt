@@ -1,2 +1,0 @@
-pub mod SettingsLines
-pub mod SettingsLinesLaws

@@ -1,2 +1,0 @@
-pub mod StoreCalls
-pub mod StoreCallsLaws

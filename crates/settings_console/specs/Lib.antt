@@ -1,3 +1,0 @@
-pub mod SettingsConsole
-pub mod SettingsSession
-pub mod SettingsSessionLaws

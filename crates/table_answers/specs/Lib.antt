@@ -1,2 +1,0 @@
-pub mod TableAnswers
-pub mod TableAnswersLaws

@@ -1,3 +1,0 @@
-pub mod Through
-pub mod Answers
-pub mod ThroughLaws

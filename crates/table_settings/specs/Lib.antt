@@ -1,4 +1,0 @@
-pub mod TableSettings
-pub mod TableSettingsLaws
-pub mod TableSession
-pub mod TableSessionLaws

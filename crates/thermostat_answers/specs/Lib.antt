@@ -1,2 +1,0 @@
-pub mod ProbeLines
-pub mod ProbeLinesLaws

@@ -1,4 +1,0 @@
-pub mod ProbeConsole
-pub mod ProbeConsoleLaws
-pub mod ProbeSession
-pub mod ProbeSessionLaws

@@ -1,2 +1,0 @@
-pub mod ProbeRequests
-pub mod ProbeRequestsLaws

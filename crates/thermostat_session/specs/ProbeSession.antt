@@ -1,0 +1,20 @@
+-- The thermostat console as a console whose state is the probe.
+--     probeConsole       to a line it says the text of the reply, and it leads to the probe after it
+--     firstProbe         the probe of `start 0 0 0 0 0`, on which a run begins
+-- Assumes nothing.
+use mathlib.Core.Bool.{false}
+use Rattle.sessions.specs.Session.{Console}
+use Rattle.thermostat.specs.Power.{poweredUp}
+use Rattle.thermostat.specs.declared.Thermostat.{Thermostat}
+use Rattle.thermostat_session.specs.ProbeLines.{replyLine}
+use Rattle.thermostat_session.specs.ProbeConsole.{responded, probeAsked}
+
+abbrev pub probeConsole : Console
+probeConsole = record {
+  State = Thermostat;
+  says = λ p l. replyLine (responded p (probeAsked l) .reply);
+  next = λ p l. responded p (probeAsked l) .probe;
+}
+
+abbrev pub firstProbe : Thermostat
+firstProbe = poweredUp record { high = 0; low = 0; mode = false; polarity = false; oneshot = false }

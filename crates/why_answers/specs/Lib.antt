@@ -1,2 +1,0 @@
-pub mod WhyLine
-pub mod WhyLineLaws
