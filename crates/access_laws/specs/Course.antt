@@ -3,7 +3,7 @@
 --     Calm x d           hearing the bit x leaves it as it is whether d holds the wire
 --     Hears E bits d     d offers 1 at each of these bits, hears them calmly, and then E holds of it
 --     Settled d          d sends its scratchpad, takes settings or is quiet: so it stays, whatever the line shows
---     addressed          every device hears 55h, the code and BEh or 4Eh calmly, and is then settled
+--     address-heard          every device hears 55h, the code and BEh or 4Eh calmly, and is then settled
 -- Assumes nothing.
 use Prim.Native.Nat.{ℕ, suc, _+_, _<_}
 use mathlib.Core.Bool.{Bool, true, false, not, Bool·beq, _&&_, true≢false, false≢true}
@@ -231,8 +231,8 @@ function-hears {command} a d (inr q) = quiet-hears Settled (bitsOf 8 command) d 
 
 -- ## All of it
 
-pub addressed : {command : ℕ} → Access command → (code : ℕ) (d : Device) → Hears Settled (addressBits code command) (resetOf d)
-addressed {command} a code d =
+pub address-heard : {command : ℕ} → Access command → (code : ℕ) (d : Device) → Hears Settled (addressBits code command) (resetOf d)
+address-heard {command} a code d =
     hears-append Settled (bitsOf 8 matchRom) (codeBits code ++ bitsOf 8 command) (resetOf d)
     (hears-then (AtBit 0) (Hears Settled (codeBits code ++ bitsOf 8 command)) code-then (bitsOf 8 matchRom) (resetOf d) (rom-hears d))
   where

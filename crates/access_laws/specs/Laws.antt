@@ -41,7 +41,7 @@ use Rattle.master_rules.specs.Access.{refusedAt, addressed, afterSlots, bytesSh
 use Rattle.master_rules.specs.Issued.{issued, Granted}
 use Rattle.master_rules.specs.IssuedLaws.{slots-presence, granted-run}
 use Rattle.access_laws.specs.Unrefused.{addressBits, readBits, settingsBits, writeBits, Unrefused, ReadClaim, WriteClaim}
-use Rattle.access_laws.specs.Course.{Calm, Hears, Settled, settled-calm, settled-hears, Access, reading, writing, addressed as address-heard}
+use Rattle.access_laws.specs.Course.{Calm, Hears, Settled, settled-calm, settled-hears, Access, reading, writing, address-heard}
 
 -- ## One slot
 

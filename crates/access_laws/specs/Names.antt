@@ -16,7 +16,7 @@ use Rattle.naming.specs.declared.Name.{Name}
 use Rattle.naming.specs.declared.Name.the-variants.{Empty, Search, Alarm, Nobody}
 use Rattle.naming.specs.declared.Named.{Named}
 use Rattle.naming.specs.Naming.{plain, lineNamed}
-use Rattle.naming.specs.Passes.{lists}
+use Rattle.naming.specs.Passes.{listsCode}
 use Rattle.bench.specs.Bench.{free}
 use Rattle.master_rules.specs.Search.{fewestPlaces, fewestBytes, Outcome, searchOutcome, answerOf, recordingAfter}
 use Rattle.history_laws.specs.History.{Call, Typed, after, added}
@@ -24,7 +24,7 @@ use Rattle.history_laws.specs.History.{Call, Typed, after, added}
 abbrev pub namesOf : Name → List ℕ → List ℕ → List Named
 namesOf name [] listed = plain Empty ∷ []
 namesOf name (n ∷ ns) [] = plain Nobody ∷ []
-namesOf name (n ∷ ns) (k ∷ ks) = map (lists name) (k ∷ ks)
+namesOf name (n ∷ ns) (k ∷ ks) = map (listsCode name) (k ∷ ks)
 
 abbrev pub recorded : List ℕ → Outcome → List ℕ
 recorded recording o = take (answerOf o .bytes) (recordingAfter recording o)

@@ -21,7 +21,7 @@ use Rattle.frame.specs.FramesLaws.{recorded-all, blank-held, blank-lineable}
 use Rattle.naming.specs.declared.Name.{Name}
 use Rattle.naming.specs.declared.Name.the-variants.{Search, Alarm}
 use Rattle.naming.specs.Naming.{named, tripleAllowed, triplesAllowed, thirds, readNamed, lineNamed}
-use Rattle.naming.specs.Passes.{lists, Listing}
+use Rattle.naming.specs.Passes.{listsCode, PassListing}
 use Rattle.naming.specs.PassesLaws.{search-named, alarm-named, nobody-named, empty-named}
 use Rattle.search_laws.specs.Codes.{Code}
 use Rattle.basic_laws.specs.ChoiceLaws.{beq-true, beq-false}
@@ -29,7 +29,7 @@ use Rattle.basic_laws.specs.Each.{Each, Along}
 use Rattle.search_laws.specs.Complete.{allowed, PassShown, Complete}
 use Rattle.basic_laws.specs.EachLaws.{each-perm, perm-length}
 use Rattle.search_laws.specs.Numbers.{Below}
-use Rattle.search_laws.specs.OnTheWire.{shown}
+use Rattle.search_laws.specs.OnTheWire.{triplesShown}
 use Rattle.search_laws.specs.Pass.{Triple, triple, found}
 use Rattle.bench.specs.Bench.{live, free}
 use Rattle.bench.specs.Sound.{codesOf, BenchSound}
@@ -61,13 +61,13 @@ pub record Fits (c : Code) : Type 0 where
 
 -- ## The triples of a pass, as the naming reads them
 
-shown-length : (ts : List Triple) → length (shown ts) ≡ 3 * length (found ts)
-unfolding shown found
+shown-length : (ts : List Triple) → length (triplesShown ts) ≡ 3 * length (found ts)
+unfolding triplesShown found
 shown-length [] = refl
 shown-length (t ∷ ts) = let i = shown-length ts in omega arith
 
-shown-thirds : (ts : List Triple) → thirds (shown ts) ≡ found ts
-unfolding shown found thirds
+shown-thirds : (ts : List Triple) → thirds (triplesShown ts) ≡ found ts
+unfolding triplesShown found thirds
 shown-thirds [] = refl
 shown-thirds (t ∷ ts) = let i = shown-thirds ts in rw i
 
@@ -77,31 +77,31 @@ same-triples false true c h = sym (beq-false c) ∙ h
 same-triples true false c h = sym (beq-true c) ∙ h
 same-triples true true c h = h
 
-shown-allowed : (ts : List Triple) → Each (λ t. allowed t ≡ true) ts → triplesAllowed (shown ts) ≡ true
-unfolding shown triplesAllowed
+shown-allowed : (ts : List Triple) → Each (λ t. allowed t ≡ true) ts → triplesAllowed (triplesShown ts) ≡ true
+unfolding triplesShown triplesAllowed
 shown-allowed [] h = refl
 shown-allowed (t ∷ ts) h = rw (same-triples (t .bit) (t .coBit) (t .sent) (h .0), shown-allowed ts (h .1))
 
 -- ## One pass
 
-module _ (command : ℕ) (name : Name) (reads : (code : ℕ) (ss : List Bool) → Listing code ss → (f : Frame) → Recorded (bitsOf 8 command ++ ss) f → named f ≡ lists name code) where
-  pass-named : (c : Code) (l : List Bool) → Fits c → PassShown (bitsOf 8 command) c l → named (frameOf l) ≡ lists name (numberOf c)
+module _ (command : ℕ) (name : Name) (reads : (code : ℕ) (ss : List Bool) → PassListing code ss → (f : Frame) → Recorded (bitsOf 8 command ++ ss) f → named f ≡ listsCode name code) where
+  pass-named : (c : Code) (l : List Bool) → Fits c → PassShown (bitsOf 8 command) c l → named (frameOf l) ≡ listsCode name (numberOf c)
   pass-named c l h p =
       let ts = p .triples in
-      let n : length (shown ts) ≡ 192 = shown-length ts ∙ ap (λ (d : Code). 3 * length d) (p .code-is) ∙ ap (λ (k : ℕ). 3 * k) (h .long) in
+      let n : length (triplesShown ts) ≡ 192 = shown-length ts ∙ ap (λ (d : Code). 3 * length d) (p .code-is) ∙ ap (λ (k : ℕ). 3 * k) (h .long) in
       let eight = bits-length 8 command in
-      let few : length (bitsOf 8 command ++ shown ts) ≤ 512 = simp length-append (omega arith) in
-      let listing : Listing (numberOf c) (shown ts) = record {
+      let few : length (bitsOf 8 command ++ triplesShown ts) ≤ 512 = simp length-append (omega arith) in
+      let listing : PassListing (numberOf c) (triplesShown ts) = record {
         long = n;
         allowed = shown-allowed ts (p .all-allowed);
         bits-are = shown-thirds ts ∙ p .code-is ∙ sym (h .bits-are);
         small = h .small;
         sound = h .sound-is;
       } in
-      ap (λ (m : List Bool). named (frameOf m)) (p .lines-are) ∙ reads (numberOf c) (shown ts) listing (frameOf (bitsOf 8 command ++ shown ts)) (recorded-all (bitsOf 8 command ++ shown ts) few)
+      ap (λ (m : List Bool). named (frameOf m)) (p .lines-are) ∙ reads (numberOf c) (triplesShown ts) listing (frameOf (bitsOf 8 command ++ triplesShown ts)) (recorded-all (bitsOf 8 command ++ triplesShown ts) few)
 
   passes-named : (cs : List Code) (ls : List (List Bool)) → Each Fits cs → Along (PassShown (bitsOf 8 command)) cs ls
-      → map named (map frameOf ls) ≡ map (lists name) (map numberOf cs)
+      → map named (map frameOf ls) ≡ map (listsCode name) (map numberOf cs)
   passes-named [] [] h a = refl
   passes-named [] (l ∷ ls) h a = absurd a
   passes-named (c ∷ cs) [] h a = absurd a
@@ -156,14 +156,14 @@ lonely-reads name o e = record { writable = rw e (one (blank-held false) (blank-
 
 -- a search that lists codes, by what is known of its run
 module _ (command : ℕ) (name : Name)
-    (reads : (code : ℕ) (ss : List Bool) → Listing code ss → (f : Frame) → Recorded (bitsOf 8 command ++ ss) f → named f ≡ lists name code)
+    (reads : (code : ℕ) (ss : List Bool) → PassListing code ss → (f : Frame) → Recorded (bitsOf 8 command ++ ss) f → named f ≡ listsCode name code)
     (b : Bench) (r : SearchBy Bench) (same : searchRun command b ≡ r) (ns : List ℕ) (fits : Each Fits (map (bitsOf 64) ns))
     (complete : Complete slotRule (bitsOf 8 command) 64 (map (bitsOf 64) ns) b r)
   where
     wide : Each (λ l. length l ≡ 200) (r .lines)
     wide = rw (bits-length 8 command) at (complete .slots-are)
 
-    frames-named : map named (map frameOf (r .lines)) ≡ map (lists name) (map numberOf (r .codes))
+    frames-named : map named (map frameOf (r .lines)) ≡ map (listsCode name) (map numberOf (r .codes))
     frames-named = passes-named command name reads (r .codes) (r .lines) (each-perm Fits (complete .all-listed) fits) (complete .frames)
 
     -- somebody is listed
@@ -178,7 +178,7 @@ module _ (command : ℕ) (name : Name)
             let l = length-map (r .codes) numberOf in
             omega arith
 
-        by-listed : (ks : List ℕ) → 0 < length ks → map (lists name) ks ≡ namesOf name (n ∷ everybody) ks
+        by-listed : (ks : List ℕ) → 0 < length ks → map (listsCode name) ks ≡ namesOf name (n ∷ everybody) ks
         by-listed [] z = absurd (omega arith)
         by-listed (k ∷ ks) z = refl
 

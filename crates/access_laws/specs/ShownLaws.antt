@@ -41,7 +41,7 @@ use Rattle.master_rules.specs.OnTheBench.{Free, restarted-keeps, free-restarted
 use Rattle.master_rules.specs.Thermometers.{unstaged}
 use Rattle.master_rules.specs.Access.{refusedAt, addressed, afterSlots, readBack, admission, readAt}
 use Rattle.access_laws.specs.Unrefused.{addressBits}
-use Rattle.access_laws.specs.Course.{Hears, hears-end, Settled, reading, addressed as address-heard}
+use Rattle.access_laws.specs.Course.{Hears, hears-end, Settled, reading, address-heard}
 use Rattle.access_laws.specs.Laws.{Ends, heard-runs, heard-live-all, calls-rule, addressed-run, fetched-bench, admitted-free}
 use Rattle.access_laws.specs.Picked.{picked, read-picks}
 use Rattle.access_laws.specs.Reply.{IsQuiet, Sends, reply-shown, sending, silence, Replying, sends, silent, slots-kept}

@@ -29,10 +29,10 @@ slots-then m n b =
 pub bytes-bench : (n : ℕ) (b : Bench) → afterSlots 8 (afterSlots (8 * n) b) ≡ afterSlots (8 * (n + 1)) b
 bytes-bench n b = let e : 8 * n + 8 ≡ 8 * (n + 1) = omega arith in slots-then (8 * n) 8 b ∙ ap (λ (k : ℕ). afterSlots k b) e
 
-pub bytes-length : (n : ℕ) (b : Bench) → length (bytesShown n b) ≡ n
+pub shown-length : (n : ℕ) (b : Bench) → length (bytesShown n b) ≡ n
 unfolding bytesShown
-bytes-length zero b = refl
-bytes-length (suc n) b = ap suc (bytes-length n (afterSlots 8 b))
+shown-length zero b = refl
+shown-length (suc n) b = ap suc (shown-length n (afterSlots 8 b))
 
 bytes-snoc : (n : ℕ) (b : Bench) → bytesShown (suc n) b ≡ bytesShown n b ++ (byteShown (afterSlots (8 * n) b) ∷ [])
 unfolding bytesShown slots
@@ -46,7 +46,7 @@ bytes-snoc (suc n) b =
 pub bytes-more : (n : ℕ) (b : Bench) (pad : List ℕ) → n < length pad
     → set (laid pad 0 (bytesShown n b)) n (byteShown (afterSlots (8 * n) b)) ≡ laid pad 0 (bytesShown (n + 1) b)
 bytes-more n b pad h =
-    let e : 0 + length (bytesShown n b) ≡ n = omega (arith, bytes-length n b) in
+    let e : 0 + length (bytesShown n b) ≡ n = omega (arith, shown-length n b) in
     laid-store pad 0 (bytesShown n b) (byteShown (afterSlots (8 * n) b)) n e h
     ∙ ap (laid pad 0) (sym (ap (λ (k : ℕ). bytesShown k b) (add-one n) ∙ bytes-snoc n b))
 

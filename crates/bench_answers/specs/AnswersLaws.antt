@@ -71,12 +71,12 @@ record-short r pad eeprom alarm activity h k =
 
 -- ## The lines of several codes
 
-pub codes-length : (cs : List ℕ) → length (codeLines cs) ≡ 17 * length cs
+pub code-lines-length : (cs : List ℕ) → length (codeLines cs) ≡ 17 * length cs
 unfolding codeLines
-codes-length [] = omega arith
-codes-length (c ∷ cs) =
+code-lines-length [] = omega arith
+code-lines-length (c ∷ cs) =
     let one = code-length c in
-    let more = codes-length cs in
+    let more = code-lines-length cs in
     simp length-append (omega arith)
 
 pub codes-append : (a b : List ℕ) → codeLines (a ++ b) ≡ codeLines a ++ codeLines b

@@ -21,7 +21,7 @@ use Rattle.master_rules.specs.Search.{fewestPlaces, fewestBytes, Outcome, searc
 use Rattle.master_rules.specs.declared.Searched.{Searched}
 use Rattle.search.specs.Sweep.{search-bounded}
 use Rattle.bench_answers.specs.Answers.{searchLine, codeLine, codeLines}
-use Rattle.bench_answers.specs.AnswersLaws.{code-length, codes-length, codes-next}
+use Rattle.bench_answers.specs.AnswersLaws.{code-length, code-lines-length, codes-next}
 use Rattle.text.specs.Putting.{lineRoom, lineAnswer, lineLeaves}
 use Rattle.bench_answers.specs.Said.{says}
 use Rattle.bench_answers.specs.declared.call_answers.Said.{Said}
@@ -62,7 +62,7 @@ module _ (d head codes frames d₁ d₂ d₃ : List ℕ) (first last : Written) 
       record { said = ap (λ (m : ℕ). record { refusal = accepted; count = m; bench = b }) count; laid-is = all; fits = omega arith }
 
 pub codes-few : (cs : List ℕ) → length cs ≤ 32 → length (codeLines cs) ≤ 544
-codes-few cs h = let l = codes-length cs in omega arith
+codes-few cs h = let l = code-lines-length cs in omega arith
 
 -- ## The lines of codes, as a loop lays them
 
@@ -76,7 +76,7 @@ module _ (out₀ : List ℕ) (at : ℕ) (cs : List ℕ) (fits : at + 17 * length
       → (w .next ≡ at + 17 * (i + 1)) × (out' ≡ laid out₀ at (codeLines (take (i + 1) cs)))
   codes-turn i to out out' w within place so answer leaves =
       let front : length (take i cs) ≡ i = length-take-le i cs (omega arith) in
-      let long : length (codeLines (take i cs)) ≡ 17 * i = codes-length (take i cs) ∙ ap (λ (n : ℕ). 17 * n) front in
+      let long : length (codeLines (take i cs)) ≡ 17 * i = code-lines-length (take i cs) ∙ ap (λ (n : ℕ). 17 * n) front in
       let size : length out ≡ length out₀ = ap length so ∙ laid-length out₀ at (codeLines (take i cs)) (omega arith) in
       let done = line-laid out to (codeLine (getD cs i 0)) out' w answer leaves (omega arith) in
       let one = code-length (getD cs i 0) in
@@ -90,7 +90,7 @@ module _ (out₀ : List ℕ) (at : ℕ) (cs : List ℕ) (fits : at + 17 * length
 
   pub codes-size : (i : ℕ) (out : List ℕ) → i ≤ length cs → out ≡ laid out₀ at (codeLines (take i cs)) → length out ≡ length out₀
   codes-size i out h so =
-      let long : length (codeLines (take i cs)) ≡ 17 * i = codes-length (take i cs) ∙ ap (λ (n : ℕ). 17 * n) (length-take-le i cs h) in
+      let long : length (codeLines (take i cs)) ≡ 17 * i = code-lines-length (take i cs) ∙ ap (λ (n : ℕ). 17 * n) (length-take-le i cs h) in
       ap length so ∙ laid-length out₀ at (codeLines (take i cs)) (omega arith)
 
   pub codes-end : (i to : ℕ) (out : List ℕ) → length cs ≤ i → i ≤ length cs → to ≡ at + 17 * i → out ≡ laid out₀ at (codeLines (take i cs))

@@ -54,9 +54,9 @@ counts-short refusal codes pins h k =
     let c = shared-digits 16 0 pins (lit≤ tt) in
     simp length-append (omega arith)
 
-pub refusal-short : (refusal : ℕ) → refusal < 256 → length (pinsLine refusal 0 NoPin) ≤ lineRoom
+pub pins-refusal-short : (refusal : ℕ) → refusal < 256 → length (pinsLine refusal 0 NoPin) ≤ lineRoom
 unfolding pinsLine
-refusal-short refusal h =
+pins-refusal-short refusal h =
     let a = byte-digits refusal h in
     let b = byte-digits 0 (lit< tt) in
     simp length-append (omega arith)
@@ -172,5 +172,5 @@ module _ (b : Bench) (list list' : List ℕ) (r : Pinned) (is : r ≡ pinnedOf (
       (rw (codes-front, pins-front) at h)
 
 -- a list of 32 places is as good as a longer one
-pub just-enough : (b : Bench) (places : ℕ) → 32 ≤ places → pinsOutcome b 32 ≡ pinsOutcome b places
-just-enough b places h = enough-places b 32 (lit≤ tt) ∙ sym (enough-places b places h)
+pub pins-just-enough : (b : Bench) (places : ℕ) → 32 ≤ places → pinsOutcome b 32 ≡ pinsOutcome b places
+pins-just-enough b places h = enough-places b 32 (lit≤ tt) ∙ sym (enough-places b places h)

@@ -10,12 +10,12 @@ use Rattle.text.specs.Putting.{line}
 use Rattle.settings.specs.declared.Current.{Current}
 
 -- the five fields
-unfoldable pub fieldsLine : ℕ → ℕ → ℕ → ℕ → ℕ → List ℕ
-fieldsLine refusal high low configuration version =
+unfoldable pub settingsFields : ℕ → ℕ → ℕ → ℕ → ℕ → List ℕ
+settingsFields refusal high low configuration version =
     line (decimal refusal ∷ hexDigits 2 high ∷ hexDigits 2 low ∷ hexDigits 2 configuration ∷ decimal version ∷ [])
 
 abbrev pub currentLine : Current → List ℕ
-currentLine c = fieldsLine (c .refusal) (c .settings .high) (c .settings .low) (c .settings .configuration) (c .version)
+currentLine c = settingsFields (c .refusal) (c .settings .high) (c .settings .low) (c .settings .configuration) (c .version)
 
 unfoldable pub changeLine : ℕ → ℕ → List ℕ
 changeLine refusal version = line (decimal refusal ∷ decimal version ∷ [])

@@ -6,11 +6,11 @@ use lib.ListN.{length, length-append}
 use Rattle.text.specs.DigitsLaws.{digits-length}
 use Rattle.text.specs.Putting.{lineRoom}
 use Rattle.text.specs.FieldsLaws.{byte-digits, word-digits}
-use Rattle.bench_answers.specs.SettingsLines.{fieldsLine, changeLine}
+use Rattle.bench_answers.specs.SettingsLines.{settingsFields, changeLine}
 
-pub fields-short : (refusal high low configuration version : ℕ) → refusal < 256 → version < 65536 → length (fieldsLine refusal high low configuration version) ≤ lineRoom
-unfolding fieldsLine
-fields-short refusal high low configuration version p q =
+pub settings-fields-short : (refusal high low configuration version : ℕ) → refusal < 256 → version < 65536 → length (settingsFields refusal high low configuration version) ≤ lineRoom
+unfolding settingsFields
+settings-fields-short refusal high low configuration version p q =
     let a = byte-digits refusal p in
     let b = word-digits version q in
     let h = digits-length 16 2 high in

@@ -12,12 +12,12 @@ use Rattle.basic_laws.specs.Complement.{Fits16}
 use Rattle.basic_laws.specs.ComplementLaws.{wider}
 use Rattle.text.specs.Putting.{lineRoom}
 use Rattle.text.specs.FieldsLaws.{byte-digits, signed-digits, flag-length}
-use Rattle.bench_answers.specs.WhyLine.{fieldsLine}
+use Rattle.bench_answers.specs.WhyLine.{whyFields}
 
-pub fields-short : (refusal reason : ℕ) (count high low : ℤ) (differs : Bool) → refusal < 256 → reason < 256 → Fits16 count → Fits16 high → Fits16 low
-    → length (fieldsLine refusal reason count high low differs) ≤ lineRoom
-unfolding fieldsLine
-fields-short refusal reason count high low differs p q f g h =
+pub why-fields-short : (refusal reason : ℕ) (count high low : ℤ) (differs : Bool) → refusal < 256 → reason < 256 → Fits16 count → Fits16 high → Fits16 low
+    → length (whyFields refusal reason count high low differs) ≤ lineRoom
+unfolding whyFields
+why-fields-short refusal reason count high low differs p q f g h =
     let a = byte-digits refusal p in
     let b = byte-digits reason q in
     let c = signed-digits count (wide f) in

@@ -3,7 +3,7 @@ ghost use mathlib.Core.Path.{_≡_};
 ghost use Prim.Native.Nat.{_+_, _≤_};
 ghost use lib.ListN.{length};
 ghost use Rattle.text.specs.Putting.{Puts, lineRoom, lineAnswer, lineLeaves};
-ghost use Rattle.bench_answers.specs.SettingsLines.{fieldsLine, currentLine, changeLine};
+ghost use Rattle.bench_answers.specs.SettingsLines.{settingsFields, currentLine, changeLine};
 use settings::Current;
 use text::LINE_FEED;
 use text::SPACE;
@@ -22,7 +22,7 @@ fn put_current(
     configuration: u8,
     version: u16,
 ) -> usize
-    ensures { λ r. ⌜ Puts (now (out .entry)) at (fieldsLine refusal high low configuration version) (now (out .exit)) r × (length (fieldsLine refusal high low configuration version) ≤ lineRoom) ⌝ }
+    ensures { λ r. ⌜ Puts (now (out .entry)) at (settingsFields refusal high low configuration version) (now (out .exit)) r × (length (settingsFields refusal high low configuration version) ≤ lineRoom) ⌝ }
 {
     let behind_refusal = putting::put_number(out, at, refusal as u64, SPACE);
     let behind_high = putting::put_digits(out, behind_refusal, 2, high as u64, SPACE);

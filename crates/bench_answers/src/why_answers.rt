@@ -3,7 +3,7 @@ ghost use mathlib.Core.Path.{_≡_};
 ghost use Prim.Native.Nat.{_+_, _≤_};
 ghost use lib.ListN.{length};
 ghost use Rattle.text.specs.Putting.{Puts, lineRoom, lineAnswer, lineLeaves};
-ghost use Rattle.bench_answers.specs.WhyLine.{fieldsLine, whyLine};
+ghost use Rattle.bench_answers.specs.WhyLine.{whyFields, whyLine};
 use text::LINE_FEED;
 use text::SPACE;
 use text::laying;
@@ -23,7 +23,7 @@ fn put_fields(
     low: i16,
     differs: bool,
 ) -> usize
-    ensures { λ r. ⌜ Puts (now (out .entry)) at (fieldsLine refusal reason count high low differs) (now (out .exit)) r × (length (fieldsLine refusal reason count high low differs) ≤ lineRoom) ⌝ }
+    ensures { λ r. ⌜ Puts (now (out .entry)) at (whyFields refusal reason count high low differs) (now (out .exit)) r × (length (whyFields refusal reason count high low differs) ≤ lineRoom) ⌝ }
 {
     let behind_refusal = putting::put_number(out, at, refusal as u64, SPACE);
     let behind_reason = putting::put_number(out, behind_refusal, reason as u64, SPACE);

@@ -7,7 +7,7 @@ ghost use lib.ListN.{length};
 ghost use Rattle.text.specs.Lines.{Line};
 ghost use Rattle.bench_answers.specs.Whole.{room};
 ghost use Rattle.sessions.specs.Gathering.{mostHeld};
-ghost use Rattle.sessions.specs.Session.{ended, endSaid, after, runAt, Standing, Answerable};
+ghost use Rattle.sessions.specs.Session.{heldEnded, endSaid, runAfter, runAt, Standing, Answerable};
 ghost use Rattle.bench_session.specs.SettingsSession.{both, benchConsole, nothingYet};
 use bench::Bench;
 use bench_answers::search_answers::ROOM;
@@ -57,7 +57,7 @@ fn end_line(
     out: &mut [u8],
 ) -> Session
     requires { ⌜ (held ≤ length (now line)) × (room ≤ length (now out)) × Answerable benchConsole nothingYet (endSaid benchConsole (runAt (both bench store) (now line) held) whole) ⌝ }
-    ensures { λ r. ⌜ (runAt (both (r .bench) (r .store)) (now (line .entry)) (r .held) ≡ ended benchConsole (runAt (both bench store) (now (line .entry)) held) whole) × (r .held ≤ held) ⌝ }
+    ensures { λ r. ⌜ (runAt (both (r .bench) (r .store)) (now (line .entry)) (r .held) ≡ heldEnded benchConsole (runAt (both bench store) (now (line .entry)) held) whole) × (r .held ≤ held) ⌝ }
 {
     if whole {
         let told = answer_line(bench, store, &line[..held], true, out);
@@ -82,7 +82,7 @@ fn end_line(
 // All that was read, line by line.
 fn take(start: Session, line: &mut [u8], chunk: &[u8], out: &mut [u8]) -> Session
     requires { ⌜ (room ≤ length (now out)) × Standing benchConsole nothingYet (both (start .bench) (start .store)) (now line) (start .held) ⌝ }
-    ensures session { λ r. ⌜ runAt (both (r .bench) (r .store)) (now (line .exit)) (r .held) ≡ after benchConsole (runAt (both (start .bench) (start .store)) (now (line .entry)) (start .held)) (now (chunk .entry)) ⌝ }
+    ensures session { λ r. ⌜ runAt (both (r .bench) (r .store)) (now (line .exit)) (r .held) ≡ runAfter benchConsole (runAt (both (start .bench) (start .store)) (now (line .entry)) (start .held)) (now (chunk .entry)) ⌝ }
     ensures standing { λ r. ⌜ Standing benchConsole nothingYet (both (r .bench) (r .store)) (now (line .exit)) (r .held) ⌝ }
 {
     let mut s = start;

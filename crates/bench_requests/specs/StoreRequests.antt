@@ -44,14 +44,14 @@ alterationsIn h l c = record {
 
 -- ## The requests, by what was read of their fields
 
-abbrev pub atCode : (ℕ → StoreRequest) → NumberRead → StoreRequest
-atCode request code = if code .valid then request (code .number) else Other
+abbrev pub storeAtCode : (ℕ → StoreRequest) → NumberRead → StoreRequest
+storeAtCode request code = if code .valid then request (code .number) else Other
 
-abbrev pub addAsked : NumberRead → SettingsRead → StoreRequest
-addAsked code s = if code .valid && s .valid then Add (code .number) (s .settings) else Other
+abbrev pub storeAddAsked : NumberRead → SettingsRead → StoreRequest
+storeAddAsked code s = if code .valid && s .valid then Add (code .number) (s .settings) else Other
 
-abbrev pub changeAsked : NumberRead → NumberRead → AlterationsRead → StoreRequest
-changeAsked code version a = if code .valid && version .valid && a .valid then Change (code .number) (version .number) (a .alterations) else Other
+abbrev pub storeChangeAsked : NumberRead → NumberRead → AlterationsRead → StoreRequest
+storeChangeAsked code version a = if code .valid && version .valid && a .valid then Change (code .number) (version .number) (a .alterations) else Other
 
 -- ## The table
 
@@ -62,11 +62,11 @@ asksStore name n ws = same (wordOf ws 0) (ascii "settings") && same (wordOf ws 1
 unfoldable pub ofStore : List (List ℕ) → StoreRequest
 ofStore ws =
     let field = wordOf ws in
-    if asksStore (ascii "add") 6 ws then addAsked (codeIn (field 2)) (threeBytesIn (field 3) (field 4) (field 5))
-    else if asksStore (ascii "remove") 3 ws then atCode Remove (codeIn (field 2))
-    else if asksStore (ascii "read") 3 ws then atCode Read (codeIn (field 2))
-    else if asksStore (ascii "change") 7 ws then changeAsked (codeIn (field 2)) (versionIn (field 3)) (alterationsIn (field 4) (field 5) (field 6))
-    else if asksStore (ascii "write") 3 ws then atCode Write (codeIn (field 2))
+    if asksStore (ascii "add") 6 ws then storeAddAsked (codeIn (field 2)) (threeBytesIn (field 3) (field 4) (field 5))
+    else if asksStore (ascii "remove") 3 ws then storeAtCode Remove (codeIn (field 2))
+    else if asksStore (ascii "read") 3 ws then storeAtCode Read (codeIn (field 2))
+    else if asksStore (ascii "change") 7 ws then storeChangeAsked (codeIn (field 2)) (versionIn (field 3)) (alterationsIn (field 4) (field 5) (field 6))
+    else if asksStore (ascii "write") 3 ws then storeAtCode Write (codeIn (field 2))
     else Other
 
 -- what a line, without its feed, asks for; one that is over-long asks for nothing that the store knows

@@ -3,7 +3,7 @@ ghost use mathlib.Core.Path.{_≡_};
 ghost use Rattle.lines.specs.Words.{wordsOf, wordOf};
 ghost use Rattle.lines.specs.Fields.{codeIn, threeBytesIn};
 ghost use Rattle.bench_requests.specs.declared.settings_requests.StoreRequest.the-variants.{Remove, Read, Write};
-ghost use Rattle.bench_requests.specs.StoreRequests.{versionIn, alterIn, alterationsIn, asksStore, atCode, addAsked, changeAsked, ofStore, storeRequestOf};
+ghost use Rattle.bench_requests.specs.StoreRequests.{versionIn, alterIn, alterationsIn, asksStore, storeAtCode, storeAddAsked, storeChangeAsked, ofStore, storeRequestOf};
 use crate::LONGEST;
 use device::Settings;
 use lines::fields::both;
@@ -93,7 +93,7 @@ fn alterations_in(high: &[u8], low: &[u8], configuration: &[u8]) -> AlterationsR
 
 // `settings add CODE HIGH LOW CONFIGURATION`
 fn add(line: &[u8]) -> StoreRequest
-    ensures { λ r. ⌜ r ≡ addAsked (codeIn (wordOf (wordsOf (now (line .entry))) 2)) (threeBytesIn (wordOf (wordsOf (now (line .entry))) 3) (wordOf (wordsOf (now (line .entry))) 4) (wordOf (wordsOf (now (line .entry))) 5)) ⌝ }
+    ensures { λ r. ⌜ r ≡ storeAddAsked (codeIn (wordOf (wordsOf (now (line .entry))) 2)) (threeBytesIn (wordOf (wordsOf (now (line .entry))) 3) (wordOf (wordsOf (now (line .entry))) 4) (wordOf (wordsOf (now (line .entry))) 5)) ⌝ }
 {
     let code = code_in(word(line, 2));
     let s = settings_in(word(line, 3), word(line, 4), word(line, 5));
@@ -111,7 +111,7 @@ fn add(line: &[u8]) -> StoreRequest
 
 // `settings remove CODE`
 fn remove(line: &[u8]) -> StoreRequest
-    ensures { λ r. ⌜ r ≡ atCode Remove (codeIn (wordOf (wordsOf (now (line .entry))) 2)) ⌝ }
+    ensures { λ r. ⌜ r ≡ storeAtCode Remove (codeIn (wordOf (wordsOf (now (line .entry))) 2)) ⌝ }
 {
     let code = code_in(word(line, 2));
     if code.valid {
@@ -122,7 +122,7 @@ fn remove(line: &[u8]) -> StoreRequest
 
 // `settings read CODE`
 fn read(line: &[u8]) -> StoreRequest
-    ensures { λ r. ⌜ r ≡ atCode Read (codeIn (wordOf (wordsOf (now (line .entry))) 2)) ⌝ }
+    ensures { λ r. ⌜ r ≡ storeAtCode Read (codeIn (wordOf (wordsOf (now (line .entry))) 2)) ⌝ }
 {
     let code = code_in(word(line, 2));
     if code.valid {
@@ -133,7 +133,7 @@ fn read(line: &[u8]) -> StoreRequest
 
 // `settings change CODE VERSION HIGH LOW CONFIGURATION`
 fn change(line: &[u8]) -> StoreRequest
-    ensures { λ r. ⌜ r ≡ changeAsked (codeIn (wordOf (wordsOf (now (line .entry))) 2)) (versionIn (wordOf (wordsOf (now (line .entry))) 3)) (alterationsIn (wordOf (wordsOf (now (line .entry))) 4) (wordOf (wordsOf (now (line .entry))) 5) (wordOf (wordsOf (now (line .entry))) 6)) ⌝ }
+    ensures { λ r. ⌜ r ≡ storeChangeAsked (codeIn (wordOf (wordsOf (now (line .entry))) 2)) (versionIn (wordOf (wordsOf (now (line .entry))) 3)) (alterationsIn (wordOf (wordsOf (now (line .entry))) 4) (wordOf (wordsOf (now (line .entry))) 5) (wordOf (wordsOf (now (line .entry))) 6)) ⌝ }
 {
     let code = code_in(word(line, 2));
     let version = version_in(word(line, 3));
@@ -155,7 +155,7 @@ fn change(line: &[u8]) -> StoreRequest
 
 // `settings write CODE`
 fn write(line: &[u8]) -> StoreRequest
-    ensures { λ r. ⌜ r ≡ atCode Write (codeIn (wordOf (wordsOf (now (line .entry))) 2)) ⌝ }
+    ensures { λ r. ⌜ r ≡ storeAtCode Write (codeIn (wordOf (wordsOf (now (line .entry))) 2)) ⌝ }
 {
     let code = code_in(word(line, 2));
     if code.valid {

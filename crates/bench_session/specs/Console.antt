@@ -2,7 +2,7 @@
 --     answered b q           the answer to the request q on the bench b
 --     asked l                what a line asks for; one that has no feed asks for nothing that there is
 --     answer b l out         what the call for a line answers: how many bytes of text there are and the bench, or refusal 1 where less than the room is lent
---     leaves b l out         the lent bytes after it: the text from byte 0 on, or as they were
+--     benchLeaves b l out         the lent bytes after it: the text from byte 0 on, or as they were
 -- Assumes nothing.
 use Prim.Native.Nat.{ℕ}
 use mathlib.Core.List.{List}
@@ -55,5 +55,5 @@ asked l = if l .fed then requestOf (l .chars) else Bad
 abbrev pub answer : Bench → Line → List ℕ → Said
 answer b l out = wholeSaid b (answered b (asked l)) out
 
-abbrev pub leaves : Bench → Line → List ℕ → List ℕ
-leaves b l out = wholeLeft (answered b (asked l)) out
+abbrev pub benchLeaves : Bench → Line → List ℕ → List ℕ
+benchLeaves b l out = wholeLeft (answered b (asked l)) out

@@ -15,7 +15,7 @@ use Rattle.lines.specs.Words.{wordsOf}
 use Rattle.bench_requests.specs.declared.Request.{Request}
 use Rattle.bench_requests.specs.declared.Request.the-variants.{Bad}
 use Rattle.sessions.specs.GatheringLaws.{held-reads, held-tells}
-use Rattle.sessions.specs.Session.{inTurn, fresh, session, cut, Enough}
+use Rattle.sessions.specs.Session.{inTurn, freshRun, session, cut, HeldEnough}
 use Rattle.sessions.specs.SessionLaws.{session-cuts}
 use Rattle.bench.specs.declared.Bench.{Bench}
 use Rattle.bench_answers.specs.Said.{Answered}
@@ -49,7 +49,7 @@ responded-same b s l (Write code) = refl
 answer-same : (b : Bench) (s : Store) (l : Line) → responded b s (cut l) (storeAsked (cut l)) ≡ responded b s l (storeAsked l)
 answer-same b s l = ap (responded b s (cut l)) (store-asked-same l) ∙ responded-same b s l (storeAsked l)
 
-bench-enough : Enough benchConsole
+bench-enough : HeldEnough benchConsole
 bench-enough = record {
   says-same = λ v l. ap (λ (a : Answered). a .text) (answer-same (v .bench) (v .store) l);
   next-same = λ v l.
@@ -58,7 +58,7 @@ bench-enough = record {
 }
 
 -- whatever the cuts, each line is answered on the bench and the store that the lines before it left
-pub bench-session : (v : Both) (cs : List (List ℕ)) → session benchConsole (fresh v) cs ≡ inTurn benchConsole v (linesOf (together cs))
+pub bench-session : (v : Both) (cs : List (List ℕ)) → session benchConsole (freshRun v) cs ≡ inTurn benchConsole v (linesOf (together cs))
 bench-session = session-cuts benchConsole bench-enough
 
 -- what the call for a line leaves at the front of a buffer with room, and the bench and the store

@@ -1,11 +1,11 @@
 -- What becomes of a capture, line by line, with no reader and no buffer: the lines as text cuts them, the edges by the rule over edges.
 --     lineStep w cs          what a line of the characters cs comes to: refusal 2 for another character, then 3 for another length than eight, then the edge
---     Course                 the frames that were closed, the refusal or 0, where the line stands, and the characters behind the last feed
+--     EdgeCourse                 the frames that were closed, the refusal or 0, where the line stands, and the characters behind the last feed
 --     courseOf w ls          the course of lines from a line w on; it ends at the first refusal
---     onward w s c           the course of a line that comes to the step s, where c is that of the lines behind it
+--     courseOnward w s c           the course of a line that comes to the step s, where c is that of the lines behind it
 --     capture s              the course of a whole capture
---     ended c                the course with its end
---     Sound f                a frame that the program can hold and a line can carry
+--     courseEnded c                the course with its end
+--     FrameSound f                a frame that the program can hold and a line can carry
 -- Assumes nothing.
 use Prim.Native.Nat.{ℕ}
 use mathlib.Core.Path.{_≡_}
@@ -33,7 +33,7 @@ lineStep w cs =
     else edgeStep w (numberIn 16 cs)
 
 -- what becomes of lines
-pub record Course : Type 0 where
+pub record EdgeCourse : Type 0 where
   -- the frames that were closed, in order
   pub frames : List Frame
   pub refusal : ℕ
@@ -42,46 +42,46 @@ pub record Course : Type 0 where
   pub left : List ℕ
 
 -- nothing is closed
-abbrev pub quiet : Wire → ℕ → List ℕ → Course
-quiet w n cs = record { frames = []; refusal = n; wire = w; left = cs }
+abbrev pub courseStopped : Wire → ℕ → List ℕ → EdgeCourse
+courseStopped w n cs = record { frames = []; refusal = n; wire = w; left = cs }
 
 -- a frame closed before the rest
-abbrev pub closing : Frame → Course → Course
+abbrev pub closing : Frame → EdgeCourse → EdgeCourse
 closing f c = record { frames = f ∷ c .frames; refusal = c .refusal; wire = c .wire; left = c .left }
 
 -- a line, and the course of those behind it
-abbrev pub onward : Wire → Step → Course → Course
-onward w s behind =
-    if not (eqb (s .refusal) accepted) then quiet w (s .refusal) []
+abbrev pub courseOnward : Wire → Step → EdgeCourse → EdgeCourse
+courseOnward w s behind =
+    if not (eqb (s .refusal) accepted) then courseStopped w (s .refusal) []
     else if s .closes then closing (w .frame) behind
     else behind
 
 -- the course of lines
-unfoldable pub courseOf : Wire → List Line → Course
-courseOf w [] = quiet w accepted []
-courseOf w (l ∷ ls) = if l .fed then onward w (lineStep w (l .chars)) (courseOf (lineStep w (l .chars) .wire) ls) else quiet w accepted (l .chars)
+unfoldable pub courseOf : Wire → List Line → EdgeCourse
+courseOf w [] = courseStopped w accepted []
+courseOf w (l ∷ ls) = if l .fed then courseOnward w (lineStep w (l .chars)) (courseOf (lineStep w (l .chars) .wire) ls) else courseStopped w accepted (l .chars)
 
 -- the course of a whole capture
-abbrev pub capture : List ℕ → Course
+abbrev pub capture : List ℕ → EdgeCourse
 capture s = courseOf untouched (linesOf s)
 
 -- ## With the end
 
 -- an end that is refused
-abbrev pub refusedEnd : Course → ℕ → Course
+abbrev pub refusedEnd : EdgeCourse → ℕ → EdgeCourse
 refusedEnd c n = record { frames = c .frames; refusal = n; wire = c .wire; left = c .left }
 
 -- an end that closes the open frame
-abbrev pub lastClosed : Course → Course
+abbrev pub lastClosed : EdgeCourse → EdgeCourse
 lastClosed c = record { frames = c .frames ++ (c .wire .frame ∷ []); refusal = c .refusal; wire = c .wire; left = c .left }
 
 -- an end by where the line stands
-abbrev pub endedAt : Course → Ending → Course
+abbrev pub endedAt : EdgeCourse → Ending → EdgeCourse
 endedAt c e = if not (eqb (e .refusal) accepted) then refusedEnd c (e .refusal) else if e .closes then lastClosed c else c
 
 -- after a refusal it is that; in a line it is refused with 2; else it goes by where the line stands
-abbrev pub ended : Course → Course
-ended c =
+abbrev pub courseEnded : EdgeCourse → EdgeCourse
+courseEnded c =
     if not (eqb (c .refusal) accepted) then c
     else if not (eqb (length (c .left)) 0) then refusedEnd c notHex
     else endedAt c (endingAt (c .wire .stage))
@@ -89,6 +89,6 @@ ended c =
 -- ## Frames
 
 -- a frame that the program can hold and a line can carry
-pub record Sound (f : Frame) : Type 0 where
+pub record FrameSound (f : Frame) : Type 0 where
   pub held : Held f
   pub carried : lineable f ≡ true

@@ -12,7 +12,7 @@ use Rattle.basic_laws.specs.Bits.{numberOf, bitsOf, bytesBits}
 use Rattle.frame.specs.Frames.{noBits, packed}
 use Rattle.frame.specs.Writing.{charactersOf}
 use Rattle.frame.specs.Recording.{writeAll}
-use Rattle.capture_laws.specs.Capture.{courseOf, capture, ended}
+use Rattle.capture_laws.specs.Capture.{courseOf, capture, courseEnded}
 
 -- a line with its feed
 abbrev fed : List ℕ → List ℕ
@@ -28,7 +28,7 @@ answered = fed (ascii "00000200") ++ fed (ascii "00000260") ++ fed (ascii "00000
 
 -- what an ended capture prints, and its refusal
 abbrev Prints : List ℕ → List ℕ → ℕ → Type 0
-Prints s lines n = (writeAll (ended (capture s) .frames) ≡ lines) × (ended (capture s) .refusal ≡ n)
+Prints s lines n = (writeAll (courseEnded (capture s) .frames) ≡ lines) × (courseEnded (capture s) .refusal ≡ n)
 
 pub record CaptureCases : Type 0 where
   pub nothing : Prints [] [] accepted

@@ -18,31 +18,31 @@ use Rattle.pieces.specs.Cuts.{lines-split, rest-plain}
 use Rattle.frame.specs.declared.Frame.{Frame}
 use Rattle.captures.specs.declared.pulses.Wire.{Wire}
 use Rattle.captures.specs.declared.pulses.Step.{Step}
-use Rattle.capture_laws.specs.Capture.{lineStep, Course, quiet, closing, onward, courseOf}
+use Rattle.capture_laws.specs.Capture.{lineStep, EdgeCourse, courseStopped, closing, courseOnward, courseOf}
 
 -- frames closed before a course
-abbrev pub behind : List Frame → Course → Course
+abbrev pub behind : List Frame → EdgeCourse → EdgeCourse
 behind fs c = record { frames = fs ++ c .frames; refusal = c .refusal; wire = c .wire; left = c .left }
 
 -- one line before two parts: c is the course of the first part, d that of both
-module _ (w : Wire) (s : Step) (c d : Course) (more : Wire → Course) where
+module _ (w : Wire) (s : Step) (c d : EdgeCourse) (more : Wire → EdgeCourse) where
   onward-on : (c .refusal ≡ accepted → d ≡ behind (c .frames) (more (c .wire)))
-      → onward w s c .refusal ≡ accepted → onward w s d ≡ behind (onward w s c .frames) (more (onward w s c .wire))
+      → courseOnward w s c .refusal ≡ accepted → courseOnward w s d ≡ behind (courseOnward w s c .frames) (more (courseOnward w s c .wire))
   onward-on h = by-test (eqb (s .refusal) accepted) refl (s .closes)
     where
       by-test : (t : Bool) → eqb (s .refusal) accepted ≡ t → (u : Bool) →
-          let first = if not t then quiet w (s .refusal) [] else if u then closing (w .frame) c else c in
+          let first = if not t then courseStopped w (s .refusal) [] else if u then closing (w .frame) c else c in
           first .refusal ≡ accepted
-          → (if not t then quiet w (s .refusal) [] else if u then closing (w .frame) d else d) ≡ behind (first .frames) (more (first .wire))
+          → (if not t then courseStopped w (s .refusal) [] else if u then closing (w .frame) d else d) ≡ behind (first .frames) (more (first .wire))
       by-test true e true k = ap (closing (w .frame)) (h k)
       by-test true e false k = h k
       by-test false e u k = absurd (eqb-false (s .refusal) accepted e k)
 
-  onward-stop : ((c .refusal ≡ accepted → ⊥) → d ≡ c) → (onward w s c .refusal ≡ accepted → ⊥) → onward w s d ≡ onward w s c
+  onward-stop : ((c .refusal ≡ accepted → ⊥) → d ≡ c) → (courseOnward w s c .refusal ≡ accepted → ⊥) → courseOnward w s d ≡ courseOnward w s c
   onward-stop h = by-test (not (eqb (s .refusal) accepted)) (s .closes)
     where
-      by-test : (t u : Bool) → ((if t then quiet w (s .refusal) [] else if u then closing (w .frame) c else c) .refusal ≡ accepted → ⊥)
-          → (if t then quiet w (s .refusal) [] else if u then closing (w .frame) d else d) ≡ (if t then quiet w (s .refusal) [] else if u then closing (w .frame) c else c)
+      by-test : (t u : Bool) → ((if t then courseStopped w (s .refusal) [] else if u then closing (w .frame) c else c) .refusal ≡ accepted → ⊥)
+          → (if t then courseStopped w (s .refusal) [] else if u then closing (w .frame) d else d) ≡ (if t then courseStopped w (s .refusal) [] else if u then closing (w .frame) c else c)
       by-test true u k = refl
       by-test false true k = ap (closing (w .frame)) (h k)
       by-test false false k = h k
@@ -54,7 +54,7 @@ lines-on w (l ∷ ls) ms h = by-feed (l .fed) refl h (lines-on (lineStep w (l .c
   where
     by-feed : (t : Bool) → l .fed ≡ t →
         let s = lineStep w (l .chars) in
-        let first = if t then onward w s (courseOf (s .wire) ls) else quiet w accepted (l .chars) in
+        let first = if t then courseOnward w s (courseOf (s .wire) ls) else courseStopped w accepted (l .chars) in
         first .refusal ≡ accepted
         → (courseOf (s .wire) ls .refusal ≡ accepted → courseOf (s .wire) (whole ls ++ ms) ≡ behind (courseOf (s .wire) ls .frames) (courseOf (courseOf (s .wire) ls .wire) ms))
         → courseOf w ((if t then l ∷ whole ls else []) ++ ms) ≡ behind (first .frames) (courseOf (first .wire) ms)
@@ -70,7 +70,7 @@ lines-stop w (l ∷ ls) ms h = by-feed (l .fed) refl h (lines-stop (lineStep w (
   where
     by-feed : (t : Bool) → l .fed ≡ t →
         let s = lineStep w (l .chars) in
-        let first = if t then onward w s (courseOf (s .wire) ls) else quiet w accepted (l .chars) in
+        let first = if t then courseOnward w s (courseOf (s .wire) ls) else courseStopped w accepted (l .chars) in
         (first .refusal ≡ accepted → ⊥)
         → ((courseOf (s .wire) ls .refusal ≡ accepted → ⊥) → courseOf (s .wire) (whole ls ++ ms) ≡ courseOf (s .wire) ls)
         → courseOf w ((if t then l ∷ whole ls else []) ++ ms) ≡ first
@@ -80,11 +80,11 @@ lines-stop w (l ∷ ls) ms h = by-feed (l .fed) refl h (lines-stop (lineStep w (
     by-feed false e k stop = absurd (k refl)
 
 -- the characters behind the last feed
-onward-left : (w : Wire) (s : Step) (c : Course) (u : List ℕ) → (c .refusal ≡ accepted → c .left ≡ u) → onward w s c .refusal ≡ accepted → onward w s c .left ≡ u
+onward-left : (w : Wire) (s : Step) (c : EdgeCourse) (u : List ℕ) → (c .refusal ≡ accepted → c .left ≡ u) → courseOnward w s c .refusal ≡ accepted → courseOnward w s c .left ≡ u
 onward-left w s c u h = by-test (eqb (s .refusal) accepted) refl (s .closes)
   where
     by-test : (t : Bool) → eqb (s .refusal) accepted ≡ t → (b : Bool) →
-        let first = if not t then quiet w (s .refusal) [] else if b then closing (w .frame) c else c in
+        let first = if not t then courseStopped w (s .refusal) [] else if b then closing (w .frame) c else c in
         first .refusal ≡ accepted → first .left ≡ u
     by-test true e true k = h k
     by-test true e false k = h k
@@ -97,7 +97,7 @@ lines-left w (l ∷ ls) h = by-feed (l .fed) h (lines-left (lineStep w (l .chars
   where
     by-feed : (t : Bool) →
         let s = lineStep w (l .chars) in
-        let first = if t then onward w s (courseOf (s .wire) ls) else quiet w accepted (l .chars) in
+        let first = if t then courseOnward w s (courseOf (s .wire) ls) else courseStopped w accepted (l .chars) in
         first .refusal ≡ accepted → (courseOf (s .wire) ls .refusal ≡ accepted → courseOf (s .wire) ls .left ≡ rest ls) → first .left ≡ (if t then rest ls else l .chars)
     by-feed true k on = let s = lineStep w (l .chars) in onward-left w s (courseOf (s .wire) ls) (rest ls) on k
     by-feed false k on = refl
@@ -105,7 +105,7 @@ lines-left w (l ∷ ls) h = by-feed (l .fed) h (lines-left (lineStep w (l .chars
 -- ## Texts
 
 module _ (w : Wire) (s t : List ℕ) where
-  abbrev first-part : Course
+  abbrev first-part : EdgeCourse
   first-part = courseOf w (linesOf s)
 
   pub course-on : first-part .refusal ≡ accepted → courseOf w (linesOf (s ++ t)) ≡ behind (first-part .frames) (courseOf (first-part .wire) (linesOf (first-part .left ++ t)))

@@ -27,21 +27,21 @@ use Rattle.captures.specs.declared.edge_lines.Partial.{Partial}
 use Rattle.captures.specs.PartialLaws.{gathered-count}
 use Rattle.captures.specs.declared.edges.Reader.{Reader}
 use Rattle.captures.specs.declared.edges.Answer.{Answer}
-use Rattle.captures.specs.Edges.{refusedWith, frameWritten, closedLeaves, Reading, answers, finished, endAnswer, endLeaves}
+use Rattle.captures.specs.Edges.{refusedWith, frameWritten, closedLeaves, Reading, answersOf, finishedWith, endAnswer, endLeaves}
 use Rattle.captures.specs.EdgesLaws.{last-done, end-again, end-in-line, end-low, end-closes, end-nothing}
-use Rattle.capture_laws.specs.Capture.{Course, refusedEnd, lastClosed, endedAt, ended, Sound}
+use Rattle.capture_laws.specs.Capture.{EdgeCourse, refusedEnd, lastClosed, endedAt, courseEnded, FrameSound}
 use Rattle.capture_laws.specs.StepLaws.{Kept}
 use Rattle.capture_laws.specs.Claims.{Filled, Closed}
 
-module _ (n : ℕ) (out : List ℕ) (c : Course) (x : Reading) (k : Filled n out c x) (sound : Sound (c .wire .frame)) where
+module _ (n : ℕ) (out : List ℕ) (c : EdgeCourse) (x : Reading) (k : Filled n out c x) (sound : FrameSound (c .wire .frame)) where
   abbrev at-end : Reader
   at-end = x .reader
 
-  abbrev Done : Course → Type 0
+  abbrev Done : EdgeCourse → Type 0
   Done d = n + length (writeAll (d .frames)) ≤ length out → Closed n out d (endAnswer at-end (x .out)) (endLeaves at-end (x .out))
 
   -- the answer is the reader's own, with some refusal
-  own-closed : (m : ℕ) (a : Answer) (l : List ℕ) → (m ≡ accepted → ⊥) → answers (refusedWith at-end m) ≡ a → x .out ≡ l → Closed n out (refusedEnd c m) a l
+  own-closed : (m : ℕ) (a : Answer) (l : List ℕ) → (m ≡ accepted → ⊥) → answersOf (refusedWith at-end m) ≡ a → x .out ≡ l → Closed n out (refusedEnd c m) a l
   own-closed m a l h e f = rw (← e, ← f) record { refusal = refl; written = k .written; laid-out = k .laid-out; restarted = λ z. absurd (h z) }
 
   refused-before : (c .refusal ≡ accepted → ⊥) → Done c
@@ -98,8 +98,8 @@ module _ (n : ℕ) (out : List ℕ) (c : Course) (x : Reading) (k : Filled n out
           let done = last-done at-end (x .out) (ap (λ (a : Written). a .refusal) wrote) in
           let left : closedLeaves at-end (x .out) ≡ laid out n (before ++ line) =
           rw (k .wire, k .written, k .laid-out, sound .carried) (put .1 ∙ laid-more out n before line fits-before) in
-          let answered : endAnswer at-end (x .out) ≡ finished (n + length before + length line) =
-          sym (last .0) ∙ sym done ∙ ap (λ (a : Written). finished (a .next)) wrote in
+          let answered : endAnswer at-end (x .out) ≡ finishedWith (n + length before + length line) =
+          sym (last .0) ∙ sym done ∙ ap (λ (a : Written). finishedWith (a .next)) wrote in
           record {
             refusal = ap (λ (a : Answer). a .refusal) answered ∙ sym well;
             written = ap (λ (a : Answer). a .written) answered ∙ omega arith;
@@ -118,7 +118,7 @@ module _ (n : ℕ) (out : List ℕ) (c : Course) (x : Reading) (k : Filled n out
           by-refusal true h = by-closes (ending .closes) refl (eqb-true (ending .refusal) accepted h)
           by-refusal false h = in-low (eqb-false (ending .refusal) accepted h)
 
-  pub end-closed : Done (ended c)
+  pub end-closed : Done (courseEnded c)
   end-closed = by-refusal (eqb (c .refusal) accepted) refl
     where
       by-line : (t : Bool) → eqb (length (c .left)) 0 ≡ t → c .refusal ≡ accepted → Done (if not t then refusedEnd c notHex else endedAt c (endingAt (c .wire .stage)))
@@ -132,11 +132,11 @@ module _ (n : ℕ) (out : List ℕ) (c : Course) (x : Reading) (k : Filled n out
 
 -- ## The frames with the last one can be written
 
-writable-last : {fs : List Frame} → Writable fs → (f : Frame) → Sound f → Writable (fs ++ (f ∷ []))
+writable-last : {fs : List Frame} → Writable fs → (f : Frame) → FrameSound f → Writable (fs ++ (f ∷ []))
 writable-last none f sound = one (sound .held) (sound .carried) none
 writable-last (one held carried rest) f sound = one held carried (writable-last rest f sound)
 
-pub ended-writable : (c : Course) → Kept c → Writable (ended c .frames)
+pub ended-writable : (c : EdgeCourse) → Kept c → Writable (courseEnded c .frames)
 ended-writable c k = by-test (eqb (c .refusal) accepted) (eqb (length (c .left)) 0) (eqb (endingAt (c .wire .stage) .refusal) accepted) (endingAt (c .wire .stage) .closes)
   where
     by-test : (t u v x : Bool)

@@ -29,12 +29,12 @@ use Rattle.frame.specs.Recording.{writeAll}
 use Rattle.captures.specs.declared.pulses.Wire.{Wire}
 use Rattle.captures.specs.declared.pulses.Step.{Step}
 use Rattle.captures.specs.Rule.{edgeStep}
-use Rattle.captures.specs.Partial.{timeDigits, noLine, gathered}
+use Rattle.captures.specs.Partial.{timeDigits, noLine, gatheredTime}
 use Rattle.captures.specs.PartialLaws.{gathered-count, gathered-spelt, gathered-time, gathered-more}
 use Rattle.captures.specs.declared.edges.Reader.{Reader}
 use Rattle.captures.specs.Edges.{refusedWith, takenSoFar, onEdge, lineEnded, frameWritten, fedLineReader, fedLineLeaves, Reading, onByte, fedBytes}
-use Rattle.captures.specs.EdgesLaws.{edge-refused, edge-taken, line-other, line-length, line-time, closing-refused, closing-done, feed-closes, feed-moves, stays, on-character, on-feed}
-use Rattle.capture_laws.specs.Capture.{lineStep, Course, quiet, closing, onward, courseOf, Sound}
+use Rattle.captures.specs.EdgesLaws.{edge-refused, edge-taken, line-other, line-length, line-time, closing-refused, closing-done, feed-closes, feed-moves, refused-stays, on-character, on-feed}
+use Rattle.capture_laws.specs.Capture.{lineStep, EdgeCourse, courseStopped, closing, courseOnward, courseOf, FrameSound}
 use Rattle.capture_laws.specs.Claims.{Filled}
 use Rattle.capture_laws.specs.StepLaws.{line-fair}
 
@@ -43,7 +43,7 @@ one-zero z = omega arith
 
 -- the reader at a line, with unfinished characters and n bytes written
 abbrev pub holding : Wire → List ℕ → ℕ → Reader
-holding w u n = record { refusal = accepted; written = n; line = gathered u; wire = w }
+holding w u n = record { refusal = accepted; written = n; line = gatheredTime u; wire = w }
 
 -- ## A feed
 
@@ -56,12 +56,12 @@ module _ (w : Wire) (u : List ℕ) (n : ℕ) where
           → lineEnded (holding w u n) ≡ onEdge (holding w u n) (if not t then record { refusal = malformed; closes = false; wire = w } else edgeStep w (numberIn 16 u))
       by-length true e spelt =
           let size = eqb-true (length u) timeDigits e in
-          let count : gathered u .count ≡ timeDigits = gathered-count u ∙ omega arith in
+          let count : gatheredTime u .count ≡ timeDigits = gathered-count u ∙ omega arith in
           sym (line-time (holding w u n) (gathered-spelt u ∙ spelt) count) ∙ ap (λ (t : ℕ). onEdge (holding w u n) (edgeStep w t)) (gathered-time u spelt size)
       by-length false e spelt =
           let size = eqb-false (length u) timeDigits e in
           let known = gathered-count u in
-          let count : gathered u .count ≡ timeDigits → ⊥ = λ z. size (omega arith) in
+          let count : gatheredTime u .count ≡ timeDigits → ⊥ = λ z. size (omega arith) in
           sym (line-length (holding w u n) (gathered-spelt u ∙ spelt) count)
 
       by-digits : (t : Bool) → spells 16 u ≡ t
@@ -90,7 +90,7 @@ module _ (w : Wire) (u : List ℕ) (n : ℕ) (out : List ℕ) where
         let m = feed-moves (holding w u n) out (rw known e) in
         rw (← m .0, ← m .1, known) refl
 
-    turn-closed : lineStep w u .closes ≡ true → Sound (w .frame) → n + length (fedLine (w .frame)) ≤ length out
+    turn-closed : lineStep w u .closes ≡ true → FrameSound (w .frame) → n + length (fedLine (w .frame)) ≤ length out
         → feed-made ≡ record { reader = record { refusal = accepted; written = n + length (fedLine (w .frame)); line = noLine; wire = lineStep w u .wire }; out = laid out n (fedLine (w .frame)) }
     turn-closed e sound room =
         let f = feed-closes (holding w u n) out (rw known e) in
@@ -103,7 +103,7 @@ module _ (w : Wire) (u : List ℕ) (n : ℕ) (out : List ℕ) where
         let out-is : fedLineLeaves r out ≡ laid out n x = sym (f .1) ∙ rw (sound .carried) (fits .1) in
         rw (reader-is, out-is) refl
 
-    turn-short : lineStep w u .closes ≡ true → Sound (w .frame) → length out < n + length (fedLine (w .frame))
+    turn-short : lineStep w u .closes ≡ true → FrameSound (w .frame) → length out < n + length (fedLine (w .frame))
         → feed-made ≡ record { reader = refusedWith (holding w u n) noRoom; out = out }
     turn-short e sound room =
         let f = feed-closes (holding w u n) out (rw known e) in
@@ -119,13 +119,13 @@ module _ (w : Wire) (u : List ℕ) (n : ℕ) (out : List ℕ) where
 -- ## A piece
 
 -- they do, where there is room for all frames; else refusal 1 has come
-pub data Came (n : ℕ) (out : List ℕ) (c : Course) (x : Reading) : Type 0 where
+pub data Came (n : ℕ) (out : List ℕ) (c : EdgeCourse) (x : Reading) : Type 0 where
   fits : n + length (writeAll (c .frames)) ≤ length out → Filled n out c x → Came n out c x
   short : length out < n + length (writeAll (c .frames)) → x .reader .refusal ≡ noRoom → Came n out c x
 
 -- nothing is closed
 quiet-came : (n : ℕ) (out : List ℕ) (w : Wire) (m : ℕ) (cs : List ℕ) (r : Reader) → n ≤ length out → r .refusal ≡ m → r .written ≡ n → r .wire ≡ w
-    → (m ≡ accepted → r .line ≡ gathered cs) → Came n out (quiet w m cs) record { reader = r; out = out }
+    → (m ≡ accepted → r .line ≡ gatheredTime cs) → Came n out (courseStopped w m cs) record { reader = r; out = out }
 unfolding writeAll
 quiet-came n out w m cs r room a b d e =
     let z : n + 0 ≤ length out = omega arith in
@@ -133,7 +133,7 @@ quiet-came n out w m cs r room a b d e =
     fits z record { refusal = a; written = b ∙ sum; wire = d; line = e; laid-out = laid-none out n }
 
 -- a frame is closed, and behind it the course c
-closing-came : (n : ℕ) (out : List ℕ) (f : Frame) (c : Course) (x : Reading) → n + length (fedLine f) ≤ length out
+closing-came : (n : ℕ) (out : List ℕ) (f : Frame) (c : EdgeCourse) (x : Reading) → n + length (fedLine f) ≤ length out
     → Came (n + length (fedLine f)) (laid out n (fedLine f)) c x → Came n out (closing f c) x
 unfolding writeAll
 closing-came n out f c x room (fits h k) =
@@ -151,21 +151,21 @@ closing-came n out f c x room (short h e) =
     let sum = length-append (fedLine f) (writeAll (c .frames)) in
     short (omega arith) e
 
-pub plain-course : (w : Wire) (u : List ℕ) → all notFeed u ≡ true → courseOf w (linesOf u) ≡ quiet w accepted u
+pub plain-course : (w : Wire) (u : List ℕ) → all notFeed u ≡ true → courseOf w (linesOf u) ≡ courseStopped w accepted u
 unfolding courseOf linesOf
 plain-course w [] h = refl
 plain-course w (c ∷ u) h = ap (courseOf w) (plain-lines c u h)
 
-came-as : {n : ℕ} {out : List ℕ} {c : Course} {x y : Reading} → x ≡ y → Came n out c y → Came n out c x
+came-as : {n : ℕ} {out : List ℕ} {c : EdgeCourse} {x y : Reading} → x ≡ y → Came n out c y → Came n out c x
 came-as e k = rw e k
 
 -- a feed, where the theorem holds of what stands behind it
-module _ (s : List ℕ) (behind : (w : Wire) (n : ℕ) (out : List ℕ) → Sound (w .frame) → n ≤ length out → Came n out (courseOf w (linesOf s)) (fedBytes (holding w [] n) out s))
-    (u : List ℕ) (w : Wire) (n : ℕ) (out : List ℕ) (sound : Sound (w .frame)) (room : n ≤ length out) where
+module _ (s : List ℕ) (behind : (w : Wire) (n : ℕ) (out : List ℕ) → FrameSound (w .frame) → n ≤ length out → Came n out (courseOf w (linesOf s)) (fedBytes (holding w [] n) out s))
+    (u : List ℕ) (w : Wire) (n : ℕ) (out : List ℕ) (sound : FrameSound (w .frame)) (room : n ≤ length out) where
   abbrev line-of : Step
   line-of = lineStep w u
 
-  abbrev later : Course
+  abbrev later : EdgeCourse
   later = courseOf (line-of .wire) (linesOf s)
 
   abbrev frame-line : List ℕ
@@ -174,10 +174,10 @@ module _ (s : List ℕ) (behind : (w : Wire) (n : ℕ) (out : List ℕ) → Soun
   abbrev fed-all : Reading
   fed-all = fold onByte (feed-made w u n out) s
 
-  refused-came : (line-of .refusal ≡ accepted → ⊥) → Came n out (quiet w (line-of .refusal) []) fed-all
+  refused-came : (line-of .refusal ≡ accepted → ⊥) → Came n out (courseStopped w (line-of .refusal) []) fed-all
   refused-came h =
       let r = refusedWith (holding w u n) (line-of .refusal) in
-      came-as (ap (λ (x : Reading). fold onByte x s) (turn-refused w u n out h) ∙ stays record { reader = r; out = out } h s)
+      came-as (ap (λ (x : Reading). fold onByte x s) (turn-refused w u n out h) ∙ refused-stays record { reader = r; out = out } h s)
       (quiet-came n out w (line-of .refusal) [] r room refl refl refl (λ z. absurd (h z)))
 
   moved-came : line-of .refusal ≡ accepted → line-of .closes ≡ false → Came n out later fed-all
@@ -196,9 +196,9 @@ module _ (s : List ℕ) (behind : (w : Wire) (n : ℕ) (out : List ℕ) → Soun
   short-came h e k =
       let r = refusedWith (holding w u n) noRoom in
       let sum = length-append frame-line (writeAll (later .frames)) in
-      came-as (ap (λ (x : Reading). fold onByte x s) (turn-short w u n out h e sound k) ∙ stays record { reader = r; out = out } one-zero s) (short (omega arith) refl)
+      came-as (ap (λ (x : Reading). fold onByte x s) (turn-short w u n out h e sound k) ∙ refused-stays record { reader = r; out = out } one-zero s) (short (omega arith) refl)
 
-  feed-came : Came n out (onward w line-of later) fed-all
+  feed-came : Came n out (courseOnward w line-of later) fed-all
   feed-came = by-refusal (eqb (line-of .refusal) accepted) refl
     where
       by-room : (t : Bool) → leb (n + length frame-line) (length out) ≡ t → line-of .refusal ≡ accepted → line-of .closes ≡ true → Came n out (closing (w .frame) later) fed-all
@@ -209,16 +209,16 @@ module _ (s : List ℕ) (behind : (w : Wire) (n : ℕ) (out : List ℕ) → Soun
       by-closes true e h = by-room (leb (n + length frame-line) (length out)) refl h e
       by-closes false e h = moved-came h e
 
-      by-refusal : (t : Bool) → eqb (line-of .refusal) accepted ≡ t → Came n out (if not t then quiet w (line-of .refusal) [] else if line-of .closes then closing (w .frame) later else later) fed-all
+      by-refusal : (t : Bool) → eqb (line-of .refusal) accepted ≡ t → Came n out (if not t then courseStopped w (line-of .refusal) [] else if line-of .closes then closing (w .frame) later else later) fed-all
       by-refusal true h = by-closes (line-of .closes) refl (eqb-true (line-of .refusal) accepted h)
       by-refusal false h = refused-came (eqb-false (line-of .refusal) accepted h)
 
 -- one byte, by whether it is a feed
-pub feed-first : (u s : List ℕ) (w : Wire) → all notFeed u ≡ true → courseOf w (linesOf (u ++ lineFeed ∷ s)) ≡ onward w (lineStep w u) (courseOf (lineStep w u .wire) (linesOf s))
+pub feed-first : (u s : List ℕ) (w : Wire) → all notFeed u ≡ true → courseOf w (linesOf (u ++ lineFeed ∷ s)) ≡ courseOnward w (lineStep w u) (courseOf (lineStep w u .wire) (linesOf s))
 unfolding courseOf
 feed-first u s w plain = ap (λ (t : List ℕ). courseOf w (linesOf t)) (sym (append-assoc u (lineFeed ∷ []) s)) ∙ ap (courseOf w) (lines-cut u s plain)
 
-pub piece-came : (s u : List ℕ) (w : Wire) (n : ℕ) (out : List ℕ) → all notFeed u ≡ true → Sound (w .frame) → n ≤ length out
+pub piece-came : (s u : List ℕ) (w : Wire) (n : ℕ) (out : List ℕ) → all notFeed u ≡ true → FrameSound (w .frame) → n ≤ length out
     → Came n out (courseOf w (linesOf (u ++ s))) (fedBytes (holding w u n) out s)
 unfolding fold all
 piece-came [] u w n out plain sound room =
@@ -227,8 +227,8 @@ piece-came (c ∷ s) u w n out plain sound room =
     by-feed (eqb c lineFeed) refl (piece-came s (u ++ (c ∷ [])) w n out) (λ v m d. piece-came s [] v m d refl)
   where
     by-feed : (t : Bool) → eqb c lineFeed ≡ t
-        → (all notFeed (u ++ (c ∷ [])) ≡ true → Sound (w .frame) → n ≤ length out → Came n out (courseOf w (linesOf ((u ++ (c ∷ [])) ++ s))) (fedBytes (holding w (u ++ (c ∷ [])) n) out s))
-        → ((v : Wire) (m : ℕ) (d : List ℕ) → Sound (v .frame) → m ≤ length d → Came m d (courseOf v (linesOf s)) (fedBytes (holding v [] m) d s))
+        → (all notFeed (u ++ (c ∷ [])) ≡ true → FrameSound (w .frame) → n ≤ length out → Came n out (courseOf w (linesOf ((u ++ (c ∷ [])) ++ s))) (fedBytes (holding w (u ++ (c ∷ [])) n) out s))
+        → ((v : Wire) (m : ℕ) (d : List ℕ) → FrameSound (v .frame) → m ≤ length d → Came m d (courseOf v (linesOf s)) (fedBytes (holding v [] m) d s))
         → Came n out (courseOf w (linesOf (u ++ c ∷ s))) (fold onByte (onByte record { reader = holding w u n; out = out } c) s)
     by-feed true e here behind =
         let feed = eqb-true c lineFeed e in
@@ -241,5 +241,5 @@ piece-came (c ∷ s) u w n out plain sound room =
         came-as (ap (λ (x : Reading). fold onByte x s) took) (rw (append-assoc u (c ∷ []) s) at (here still sound room))
 
 -- the reader that holds an accepted course
-pub holds : (n : ℕ) (out : List ℕ) (c : Course) (x : Reading) → Filled n out c x → c .refusal ≡ accepted → takenSoFar (x .reader) ≡ holding (c .wire) (c .left) 0
-holds n out c x k h = rw (k .refusal, h, k .line h, k .wire) refl
+pub fill-holds : (n : ℕ) (out : List ℕ) (c : EdgeCourse) (x : Reading) → Filled n out c x → c .refusal ≡ accepted → takenSoFar (x .reader) ≡ holding (c .wire) (c .left) 0
+fill-holds n out c x k h = rw (k .refusal, h, k .line h, k .wire) refl

@@ -27,11 +27,11 @@ use Rattle.captures.specs.declared.pulses.Wire.{Wire}
 use Rattle.captures.specs.Rule.{untouched, refuses, edgeStep}
 use Rattle.captures.specs.Partial.{timeDigits}
 use Rattle.captures.specs.declared.edges.Reader.{Reader}
-use Rattle.captures.specs.Edges.{fresh, takenSoFar, Reading, fedBytes}
-use Rattle.captures.specs.EdgesLaws.{stays}
-use Rattle.capture_laws.specs.Capture.{lineStep, Course, quiet, closing, onward, courseOf, Sound}
+use Rattle.captures.specs.Edges.{freshReader, takenSoFar, Reading, fedBytes}
+use Rattle.captures.specs.EdgesLaws.{refused-stays}
+use Rattle.capture_laws.specs.Capture.{lineStep, EdgeCourse, courseStopped, closing, courseOnward, courseOf, FrameSound}
 use Rattle.capture_laws.specs.StepLaws.{blank-sound, openBytes, Fair, line-fair, course-kept}
-use Rattle.capture_laws.specs.FillLaws.{holding, Came, fits, short, plain-course, feed-first, piece-came, holds}
+use Rattle.capture_laws.specs.FillLaws.{holding, Came, fits, short, plain-course, feed-first, piece-came, fill-holds}
 use Rattle.capture_laws.specs.CutLaws.{left-plain}
 use Rattle.capture_laws.specs.Taken.{Piece, afterPiece, Roomy}
 use Rattle.capture_laws.specs.Room.{pieceRoom, Ample}
@@ -51,8 +51,8 @@ line-eight w cs = by-digits (spells 16 cs)
     by-digits false h = absurd (omega arith)
 
 -- one line with its feed, and the frames behind it
-onward-room : (w : Wire) (cs : List ℕ) (c : Course) (n : ℕ) → Fair w (lineStep w cs) → length (writeAll (c .frames)) ≤ openBytes (lineStep w cs .wire) + n
-    → length (writeAll (onward w (lineStep w cs) c .frames)) ≤ openBytes w + (length (cs ++ (lineFeed ∷ [])) + n)
+onward-room : (w : Wire) (cs : List ℕ) (c : EdgeCourse) (n : ℕ) → Fair w (lineStep w cs) → length (writeAll (c .frames)) ≤ openBytes (lineStep w cs .wire) + n
+    → length (writeAll (courseOnward w (lineStep w cs) c .frames)) ≤ openBytes w + (length (cs ++ (lineFeed ∷ [])) + n)
 unfolding writeAll
 onward-room w cs c n fair h = by-refusal (eqb (lineStep w cs .refusal) accepted) refl
   where
@@ -69,11 +69,11 @@ onward-room w cs c n fair h = by-refusal (eqb (lineStep w cs .refusal) accepted)
         omega arith
 
     by-refusal : (t : Bool) → eqb (lineStep w cs .refusal) accepted ≡ t
-        → length (writeAll ((if not t then quiet w (lineStep w cs .refusal) [] else if lineStep w cs .closes then closing (w .frame) c else c) .frames)) ≤ openBytes w + (length (cs ++ (lineFeed ∷ [])) + n)
+        → length (writeAll ((if not t then courseStopped w (lineStep w cs .refusal) [] else if lineStep w cs .closes then closing (w .frame) c else c) .frames)) ≤ openBytes w + (length (cs ++ (lineFeed ∷ [])) + n)
     by-refusal true e = by-closes (lineStep w cs .closes) refl (line-eight w cs (eqb-true (lineStep w cs .refusal) accepted e))
     by-refusal false e = omega arith
 
-pub course-room : (w : Wire) → Sound (w .frame) → (ls : List Line) → length (writeAll (courseOf w ls .frames)) ≤ openBytes w + length (linesBytes ls)
+pub course-room : (w : Wire) → FrameSound (w .frame) → (ls : List Line) → length (writeAll (courseOf w ls .frames)) ≤ openBytes w + length (linesBytes ls)
 unfolding courseOf writeAll linesBytes
 course-room w sound [] = omega arith
 course-room w sound (l ∷ ls) =
@@ -81,14 +81,14 @@ course-room w sound (l ∷ ls) =
     by-feed (l .fed) (onward-room w (l .chars) (courseOf (lineStep w (l .chars) .wire) ls) (length (linesBytes ls)) fair (course-room (lineStep w (l .chars) .wire) (fair .sound) ls))
   where
     by-feed : (t : Bool)
-        → length (writeAll (onward w (lineStep w (l .chars)) (courseOf (lineStep w (l .chars) .wire) ls) .frames)) ≤ openBytes w + (length (l .chars ++ (lineFeed ∷ [])) + length (linesBytes ls))
-        → length (writeAll ((if t then onward w (lineStep w (l .chars)) (courseOf (lineStep w (l .chars) .wire) ls) else quiet w accepted (l .chars)) .frames))
+        → length (writeAll (courseOnward w (lineStep w (l .chars)) (courseOf (lineStep w (l .chars) .wire) ls) .frames)) ≤ openBytes w + (length (l .chars ++ (lineFeed ∷ [])) + length (linesBytes ls))
+        → length (writeAll ((if t then courseOnward w (lineStep w (l .chars)) (courseOf (lineStep w (l .chars) .wire) ls) else courseStopped w accepted (l .chars)) .frames))
         ≤ openBytes w + length ((if t then l .chars ++ (lineFeed ∷ []) else l .chars) ++ linesBytes ls)
     by-feed true h = let sum = length-append (l .chars ++ (lineFeed ∷ [])) (linesBytes ls) in omega arith
     by-feed false h = omega arith
 
 -- an unfinished line that is too long closes nothing
-long-refused : (w : Wire) (u : List ℕ) (c : Course) → 8 < length u → onward w (lineStep w u) c .frames ≡ []
+long-refused : (w : Wire) (u : List ℕ) (c : EdgeCourse) → 8 < length u → courseOnward w (lineStep w u) c .frames ≡ []
 long-refused w u c long =
     let none : lineStep w u .refusal ≢ accepted = λ z. let eight = line-eight w u z in omega arith in
     rw (ne-eqb (lineStep w u .refusal) accepted none) refl
@@ -111,7 +111,7 @@ long-none (c ∷ s) u w plain long = by-feed (eqb c lineFeed) refl (long-none s 
         rw (append-assoc u (c ∷ []) s) at (more still (omega arith))
 
 -- the frames of a piece behind unfinished characters
-pub room-enough : (w : Wire) → Sound (w .frame) → (u s : List ℕ) → all notFeed u ≡ true → length (writeAll (courseOf w (linesOf (u ++ s)) .frames)) ≤ pieceRoom + length s
+pub room-enough : (w : Wire) → FrameSound (w .frame) → (u s : List ℕ) → all notFeed u ≡ true → length (writeAll (courseOf w (linesOf (u ++ s)) .frames)) ≤ pieceRoom + length s
 unfolding writeAll
 room-enough w sound u s plain = by-length (leb (length u) 8) refl
   where
@@ -130,13 +130,13 @@ room-enough w sound u s plain = by-length (leb (length u) 8) refl
 stopped-roomy : (r : Reader) → r .refusal ≢ accepted → r .refusal ≢ noRoom → (ps : List Piece) → Roomy r ps
 stopped-roomy r h k [] = tt
 stopped-roomy r h k (p ∷ ps) =
-    let same = stays record { reader = r; out = p .buffer } h (p .bytes) in
+    let same = refused-stays record { reader = r; out = p .buffer } h (p .bytes) in
     rw same (k, stopped-roomy (takenSoFar r) h k ps)
 
 -- a first piece, where the theorem holds of those behind it
-module _ (p : Piece) (ps : List Piece) (w : Wire) (u : List ℕ) (plain : all notFeed u ≡ true) (sound : Sound (w .frame)) (room : pieceRoom + length (p .bytes) ≤ length (p .buffer))
-    (later : (v : Wire) (x : List ℕ) → all notFeed x ≡ true → Sound (v .frame) → Roomy (holding v x 0) ps) where
-  abbrev first-course : Course
+module _ (p : Piece) (ps : List Piece) (w : Wire) (u : List ℕ) (plain : all notFeed u ≡ true) (sound : FrameSound (w .frame)) (room : pieceRoom + length (p .bytes) ≤ length (p .buffer))
+    (later : (v : Wire) (x : List ℕ) → all notFeed x ≡ true → FrameSound (v .frame) → Roomy (holding v x 0) ps) where
+  abbrev first-course : EdgeCourse
   first-course = courseOf w (linesOf (u ++ p .bytes))
 
   abbrev after-first : Reading
@@ -149,16 +149,16 @@ module _ (p : Piece) (ps : List Piece) (w : Wire) (u : List ℕ) (plain : all no
       by-test : (t : Bool) → eqb (first-course .refusal) accepted ≡ t → Roomy (afterPiece (holding w u 0) p) ps
       by-test true e =
           let well = eqb-true (first-course .refusal) accepted e in
-          rw (holds 0 (p .buffer) first-course after-first k well)
+          rw (fill-holds 0 (p .buffer) first-course after-first k well)
           (later (first-course .wire) (first-course .left) (left-plain w (u ++ p .bytes) well) (course-kept w sound (linesOf (u ++ p .bytes)) .last))
       by-test false e =
           stopped-roomy (afterPiece (holding w u 0) p) (rw (k .refusal) (eqb-false (first-course .refusal) accepted e)) (rw (k .refusal) (course-kept w sound (linesOf (u ++ p .bytes)) .roomless)) ps
 
-pieces-roomy : (ps : List Piece) (w : Wire) (u : List ℕ) → all notFeed u ≡ true → Sound (w .frame) → Ample ps → Roomy (holding w u 0) ps
+pieces-roomy : (ps : List Piece) (w : Wire) (u : List ℕ) → all notFeed u ≡ true → FrameSound (w .frame) → Ample ps → Roomy (holding w u 0) ps
 pieces-roomy [] w u plain sound room = tt
 pieces-roomy (p ∷ ps) w u plain sound room =
     first-roomy p ps w u plain sound (room .0) (λ v x plain′ sound′. pieces-roomy ps v x plain′ sound′ (room .1)) (piece-came (p .bytes) u w 0 (p .buffer) plain sound (omega arith))
 
-pub ample-roomy : (ps : List Piece) → Ample ps → Roomy fresh ps
+pub ample-roomy : (ps : List Piece) → Ample ps → Roomy freshReader ps
 unfolding fold all
 ample-roomy ps room = pieces-roomy ps untouched [] refl (blank-sound false) room

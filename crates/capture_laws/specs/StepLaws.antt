@@ -32,10 +32,10 @@ use Rattle.captures.specs.declared.pulses.Step.{Step}
 use Rattle.captures.specs.Bounds.{isReset, isWait, isSilence, isPresence, pulseOf}
 use Rattle.captures.specs.Rule.{begun, goes, refuses, moves, restarts, takesSlot, afterLow, afterLevel, edgeStep}
 use Rattle.captures.specs.Partial.{timeDigits}
-use Rattle.capture_laws.specs.Capture.{lineStep, Course, closing, onward, courseOf, quiet, Sound}
+use Rattle.capture_laws.specs.Capture.{lineStep, EdgeCourse, closing, courseOnward, courseOf, courseStopped, FrameSound}
 
 -- a blank frame
-pub blank-sound : (p : Bool) → Sound (blankFrame p)
+pub blank-sound : (p : Bool) → FrameSound (blankFrame p)
 blank-sound p = record { held = blank-held p; carried = blank-lineable p }
 
 blank-seven : (p : Bool) → length (fedLine (blankFrame p)) ≡ 7
@@ -50,7 +50,7 @@ abbrev pub closedBytes : Wire → Step → ℕ
 closedBytes w s = if s .closes then openBytes w else 0
 
 pub record Fair (w : Wire) (s : Step) : Type 0 where
-  pub sound : Sound (s .wire .frame)
+  pub sound : FrameSound (s .wire .frame)
   pub grows : closedBytes w s + openBytes (s .wire) ≤ openBytes w + 9
   pub roomless : s .refusal ≢ noRoom
   pub small : s .refusal < 256
@@ -59,7 +59,7 @@ chosen : (w : Wire) (t : Bool) (a b : Step) → Fair w a → Fair w b → Fair w
 chosen w true a b p q = p
 chosen w false a b p q = q
 
-module _ (w : Wire) (sound : Sound (w .frame)) (t : ℕ) where
+module _ (w : Wire) (sound : FrameSound (w .frame)) (t : ℕ) where
   refuses-fair : (n : ℕ) → n ≢ noRoom → n < 256 → Fair w (refuses w n)
   refuses-fair n h k = record { sound = sound; grows = omega arith; roomless = h; small = k }
 
@@ -79,7 +79,7 @@ module _ (w : Wire) (sound : Sound (w .frame)) (t : ℕ) where
   pushed-fair : (b : Bool) → w .frame .presence ≡ true → w .frame .count < mostSlots → Fair w (goes High t (pushed (w .frame) b))
   pushed-fair b shown room =
       let f = w .frame in
-      let more : Sound (pushed f b) =
+      let more : FrameSound (pushed f b) =
       record { held = push-held f b (sound .held) room; carried = push-lineable f b (sound .held) room shown (sound .carried) } in
       let before = fed-length f (sound .held .size) (sound .carried) in
       let after = fed-length (pushed f b) (more .held .size) (more .carried) in
@@ -116,35 +116,35 @@ module _ (w : Wire) (sound : Sound (w .frame)) (t : ℕ) where
       chosen w (begun (w .stage) && leb t (w .last)) (refuses w notLater) (afterLevel (w .stage) w t (t - w .last)) (refuses-fair notLater (λ z. omega arith) (omega arith))
       (level-fair (w .stage) (t - w .last))
 
-pub line-fair : (w : Wire) → Sound (w .frame) → (cs : List ℕ) → Fair w (lineStep w cs)
+pub line-fair : (w : Wire) → FrameSound (w .frame) → (cs : List ℕ) → Fair w (lineStep w cs)
 line-fair w sound cs =
     chosen w (not (spells 16 cs)) (refuses w notHex) (if not (eqb (length cs) timeDigits) then refuses w malformed else edgeStep w (numberIn 16 cs))
     (refuses-fair w sound 0 notHex (λ z. omega arith) (omega arith))
     (chosen w (not (eqb (length cs) timeDigits)) (refuses w malformed) (edgeStep w (numberIn 16 cs)) (refuses-fair w sound 0 malformed (λ z. omega arith) (omega arith)) (edge-fair w sound (numberIn 16 cs)))
 
 -- what is known of a course
-pub record Kept (c : Course) : Type 0 where
+pub record Kept (c : EdgeCourse) : Type 0 where
   pub writable : Writable (c .frames)
-  pub last : Sound (c .wire .frame)
+  pub last : FrameSound (c .wire .frame)
   pub roomless : c .refusal ≢ noRoom
   pub small : c .refusal < 256
 
-onward-kept : (w : Wire) → Sound (w .frame) → (s : Step) → Fair w s → (c : Course) → Kept c → Kept (onward w s c)
+onward-kept : (w : Wire) → FrameSound (w .frame) → (s : Step) → Fair w s → (c : EdgeCourse) → Kept c → Kept (courseOnward w s c)
 onward-kept w sound s fair c k = by-test (not (eqb (s .refusal) accepted)) (s .closes)
   where
-    by-test : (t u : Bool) → Kept (if t then quiet w (s .refusal) [] else if u then closing (w .frame) c else c)
+    by-test : (t u : Bool) → Kept (if t then courseStopped w (s .refusal) [] else if u then closing (w .frame) c else c)
     by-test true u = record { writable = none; last = sound; roomless = fair .roomless; small = fair .small }
     by-test false true = record { writable = one (sound .held) (sound .carried) (k .writable); last = k .last; roomless = k .roomless; small = k .small }
     by-test false false = k
 
-pub course-kept : (w : Wire) → Sound (w .frame) → (ls : List Line) → Kept (courseOf w ls)
+pub course-kept : (w : Wire) → FrameSound (w .frame) → (ls : List Line) → Kept (courseOf w ls)
 unfolding courseOf
 course-kept w sound [] = record { writable = none; last = sound; roomless = λ z. omega arith; small = omega arith }
 course-kept w sound (l ∷ ls) =
     let s = lineStep w (l .chars) in
     by-feed (l .fed) (onward-kept w sound s (line-fair w sound (l .chars)) (courseOf (s .wire) ls) (course-kept (s .wire) (line-fair w sound (l .chars) .sound) ls))
   where
-    by-feed : (t : Bool) → Kept (onward w (lineStep w (l .chars)) (courseOf (lineStep w (l .chars) .wire) ls))
-        → Kept (if t then onward w (lineStep w (l .chars)) (courseOf (lineStep w (l .chars) .wire) ls) else quiet w accepted (l .chars))
+    by-feed : (t : Bool) → Kept (courseOnward w (lineStep w (l .chars)) (courseOf (lineStep w (l .chars) .wire) ls))
+        → Kept (if t then courseOnward w (lineStep w (l .chars)) (courseOf (lineStep w (l .chars) .wire) ls) else courseStopped w accepted (l .chars))
     by-feed true k = k
     by-feed false k = record { writable = none; last = sound; roomless = λ z. omega arith; small = omega arith }

@@ -18,19 +18,19 @@ use Rattle.refusals.specs.Refusals.{accepted}
 use Rattle.frame.specs.Recording.{writeAll}
 use Rattle.captures.specs.declared.edges.Reader.{Reader}
 use Rattle.captures.specs.declared.edges.Answer.{Answer}
-use Rattle.captures.specs.Edges.{fresh, feedAnswer, feedLeaves, endAnswer, endLeaves}
+use Rattle.captures.specs.Edges.{freshReader, feedAnswer, feedLeaves, endAnswer, endLeaves}
 use Rattle.captures.specs.declared.edge_printing.Printed.{Printed}
 use Rattle.captures.specs.EdgePrinting.{refusedLine, printedFor, printedLeaves}
-use Rattle.capture_laws.specs.Capture.{Course, capture, ended}
+use Rattle.capture_laws.specs.Capture.{EdgeCourse, capture, courseEnded}
 use Rattle.capture_laws.specs.Taken.{Piece}
 
 -- the lines of the frames of a course, and that of its refusal
-abbrev pub textOf : Course → List ℕ
+abbrev pub textOf : EdgeCourse → List ℕ
 textOf c = if eqb (c .refusal) accepted then writeAll (c .frames) else writeAll (c .frames) ++ refusedLine (c .refusal)
 
 -- what has to be printed for a capture
 abbrev pub transcript : List ℕ → List ℕ
-transcript s = textOf (ended (capture s))
+transcript s = textOf (courseEnded (capture s))
 
 -- ## As a program hands it on
 
@@ -61,7 +61,7 @@ Lent ps = Each (λ p. enoughRoom + length (p .bytes) ≤ length (p .buffer)) ps
 
 -- the reader after some pieces, none of them refused
 pub data Reached : Reader → Type 0 where
-  start : Reached fresh
+  start : Reached freshReader
   more : {r : Reader} → Reached r → (p : Piece) → enoughRoom + length (p .bytes) ≤ length (p .buffer) → ofPiece r p .going ≡ true → Reached (ofPiece r p .reader)
 
 -- bytes that a program may hand to its output: what is handed on for the next piece, or for the end

@@ -33,14 +33,14 @@ use Rattle.captures.specs.declared.pulses.Stage.the-variants.{Idle, FirstLow, R
 use Rattle.captures.specs.declared.pulses.Ending.{Ending}
 use Rattle.captures.specs.Rule.{untouched, endingAt}
 use Rattle.captures.specs.declared.edges.Answer.{Answer}
-use Rattle.captures.specs.Edges.{fresh, Reading, fedBytes, feedAnswer, endAnswer, endLeaves}
+use Rattle.captures.specs.Edges.{freshReader, Reading, fedBytes, feedAnswer, endAnswer, endLeaves}
 use Rattle.captures.specs.declared.edge_printing.Printed.{Printed}
 use Rattle.captures.specs.EdgePrinting.{refusedLine, behindRefusal, printedFor, printedLeaves}
 use Rattle.captures.specs.EdgePrintingLaws.{refusal-laid, printed-refused, printed-on}
-use Rattle.capture_laws.specs.Capture.{Course, quiet, courseOf, refusedEnd, lastClosed, ended, Sound}
+use Rattle.capture_laws.specs.Capture.{EdgeCourse, courseStopped, courseOf, refusedEnd, lastClosed, courseEnded, FrameSound}
 use Rattle.capture_laws.specs.StepLaws.{blank-sound, openBytes, course-kept}
 use Rattle.capture_laws.specs.Claims.{Filled}
-use Rattle.capture_laws.specs.FillLaws.{holding, Came, fits, short, plain-course, piece-came, holds}
+use Rattle.capture_laws.specs.FillLaws.{holding, Came, fits, short, plain-course, piece-came, fill-holds}
 use Rattle.capture_laws.specs.CutLaws.{behind, course-on, course-stop, left-plain}
 use Rattle.capture_laws.specs.EndLaws.{end-closed}
 use Rattle.capture_laws.specs.Taken.{Piece, inOne}
@@ -72,7 +72,7 @@ module _ (a : Answer) (l out x : List ℕ) (count : a .written ≡ length x) (li
       sym (p .1) ∙ put .1 ∙ ap (λ (d : List ℕ). laid d (a .written) line) lies ∙ laid-then out 0 x line (a .written) (omega arith) (omega arith) in
       rw (n, leaves) (laid-read out 0 (x ++ line) (omega arith))
 
-pub handed-text : (a : Answer) (l out : List ℕ) (c : Course) → a .refusal ≡ c .refusal → a .written ≡ length (writeAll (c .frames)) → l ≡ laid out 0 (writeAll (c .frames))
+pub handed-text : (a : Answer) (l out : List ℕ) (c : EdgeCourse) → a .refusal ≡ c .refusal → a .written ≡ length (writeAll (c .frames)) → l ≡ laid out 0 (writeAll (c .frames))
     → c .refusal < 256 → length (writeAll (c .frames)) + 29 ≤ length out → handedOn a l ≡ textOf c
 handed-text a l out c same count lies small room = by-test (eqb (c .refusal) accepted) refl
   where
@@ -99,8 +99,8 @@ ending-small High = omega arith
 ending-small Low = omega arith
 
 -- its frames take at most the line of the open frame more, and its refusal is a byte
-ended-small : (c : Course) → c .refusal < 256
-    → (length (writeAll (ended c .frames)) ≤ length (writeAll (c .frames)) + openBytes (c .wire)) × (ended c .refusal < 256)
+ended-small : (c : EdgeCourse) → c .refusal < 256
+    → (length (writeAll (courseEnded c .frames)) ≤ length (writeAll (c .frames)) + openBytes (c .wire)) × (courseEnded c .refusal < 256)
 ended-small c small = by-test (eqb (c .refusal) accepted) (eqb (length (c .left)) 0) (eqb (e .refusal) accepted) (e .closes)
   where
     e : Ending
@@ -120,7 +120,7 @@ ended-small c small = by-test (eqb (c .refusal) accepted) (eqb (length (c .left)
     by-test true true true false = (omega arith, small)
 
 -- frames closed before a course are closed before the course with its end
-ended-behind : (fs : List Frame) (c : Course) → ended (behind fs c) ≡ behind fs (ended c)
+ended-behind : (fs : List Frame) (c : EdgeCourse) → courseEnded (behind fs c) ≡ behind fs (courseEnded c)
 ended-behind fs c = by-test (eqb (c .refusal) accepted) (eqb (length (c .left)) 0) (eqb (endingAt (c .wire .stage) .refusal) accepted) (endingAt (c .wire .stage) .closes)
   where
     by-test : (t u v x : Bool) →
@@ -133,7 +133,7 @@ ended-behind fs c = by-test (eqb (c .refusal) accepted) (eqb (length (c .left)) 
         ap (λ (gs : List Frame). record { frames = gs; refusal = c .refusal; wire = c .wire; left = c .left }) (append-assoc fs (c .frames) (c .wire .frame ∷ []))
     by-test true true true false = refl
 
-text-behind : (fs : List Frame) (c : Course) → textOf (behind fs c) ≡ writeAll fs ++ textOf c
+text-behind : (fs : List Frame) (c : EdgeCourse) → textOf (behind fs c) ≡ writeAll fs ++ textOf c
 text-behind fs c = by-test (eqb (c .refusal) accepted)
   where
     by-test : (t : Bool) → (if t then writeAll (fs ++ c .frames) else writeAll (fs ++ c .frames) ++ refusedLine (c .refusal))
@@ -144,10 +144,10 @@ text-behind fs c = by-test (eqb (c .refusal) accepted)
 -- ## Pieces one after the other
 
 -- the end, behind unfinished characters
-end-text : (w : Wire) (u out : List ℕ) → Sound (w .frame) → enoughRoom ≤ length out → handedOn (endAnswer (holding w u 0) out) (endLeaves (holding w u 0) out) ≡ textOf (ended (quiet w accepted u))
+end-text : (w : Wire) (u out : List ℕ) → FrameSound (w .frame) → enoughRoom ≤ length out → handedOn (endAnswer (holding w u 0) out) (endLeaves (holding w u 0) out) ≡ textOf (courseEnded (courseStopped w accepted u))
 unfolding writeAll
 end-text w u out sound room =
-    let c = quiet w accepted u in
+    let c = courseStopped w accepted u in
     let x : Reading = record { reader = holding w u 0; out = out } in
     let filled : Filled 0 out c x = record { refusal = refl; written = refl; wire = refl; line = λ z. refl; laid-out = laid-none out 0 } in
     let most = lineable-count (w .frame) (sound .carried) in
@@ -155,12 +155,12 @@ end-text w u out sound room =
     let small = ended-small c (omega arith) in
     let bound = small .0 in
     let k = end-closed 0 out c x filled sound (omega arith) in
-    handed-text (endAnswer (holding w u 0) out) (endLeaves (holding w u 0) out) out (ended c) (k .refusal) (k .written ∙ omega arith) (k .laid-out) (small .1) (omega arith)
+    handed-text (endAnswer (holding w u 0) out) (endLeaves (holding w u 0) out) out (courseEnded c) (k .refusal) (k .written ∙ omega arith) (k .laid-out) (small .1) (omega arith)
 
 -- a first piece, where the theorem holds of those behind it
-module _ (p : Piece) (ps : List Piece) (w : Wire) (u out : List ℕ) (plain : all notFeed u ≡ true) (sound : Sound (w .frame)) (room : enoughRoom + length (p .bytes) ≤ length (p .buffer))
-    (later : (v : Wire) (x : List ℕ) → all notFeed x ≡ true → Sound (v .frame) → printedRun (holding v x 0) ps out ≡ textOf (ended (courseOf v (linesOf (x ++ inOne ps))))) where
-  abbrev first-course : Course
+module _ (p : Piece) (ps : List Piece) (w : Wire) (u out : List ℕ) (plain : all notFeed u ≡ true) (sound : FrameSound (w .frame)) (room : enoughRoom + length (p .bytes) ≤ length (p .buffer))
+    (later : (v : Wire) (x : List ℕ) → all notFeed x ≡ true → FrameSound (v .frame) → printedRun (holding v x 0) ps out ≡ textOf (courseEnded (courseOf v (linesOf (x ++ inOne ps))))) where
+  abbrev first-course : EdgeCourse
   first-course = courseOf w (linesOf (u ++ p .bytes))
 
   abbrev after-first : Reading
@@ -172,7 +172,7 @@ module _ (p : Piece) (ps : List Piece) (w : Wire) (u out : List ℕ) (plain : al
   abbrev Whole : Type 0
   Whole =
       handedOn said-first (after-first .out) ++ (if ofPiece (holding w u 0) p .going then printedRun (ofPiece (holding w u 0) p .reader) ps out else [])
-      ≡ textOf (ended (courseOf w (linesOf (u ++ (p .bytes ++ inOne ps)))))
+      ≡ textOf (courseEnded (courseOf w (linesOf (u ++ (p .bytes ++ inOne ps)))))
 
   in-order : courseOf w (linesOf (u ++ (p .bytes ++ inOne ps))) ≡ courseOf w (linesOf ((u ++ p .bytes) ++ inOne ps))
   in-order = ap (λ (t : List ℕ). courseOf w (linesOf t)) (sym (append-assoc u (p .bytes) (inOne ps)))
@@ -187,22 +187,22 @@ module _ (p : Piece) (ps : List Piece) (w : Wire) (u out : List ℕ) (plain : al
     on h =
         let well : said-first .refusal ≡ accepted = k .refusal ∙ h in
         let next = sym (printed-on said-first (after-first .out) well .0) in
-        let at = holds 0 (p .buffer) first-course after-first k h in
+        let at = fill-holds 0 (p .buffer) first-course after-first k h in
         let more = courseOf (first-course .wire) (linesOf (first-course .left ++ inOne ps)) in
         let rest = later (first-course .wire) (first-course .left) (left-plain w (u ++ p .bytes) h) (course-kept w sound (linesOf (u ++ p .bytes)) .last) in
         let first-lines : textOf first-course ≡ writeAll (first-course .frames) = rw (eq-eqb (first-course .refusal) accepted h) refl in
-        let whole : textOf (ended (courseOf w (linesOf (u ++ (p .bytes ++ inOne ps))))) ≡ writeAll (first-course .frames) ++ textOf (ended more) =
-        ap (λ (c : Course). textOf (ended c)) (in-order ∙ course-on w (u ++ p .bytes) (inOne ps) h)
-        ∙ ap textOf (ended-behind (first-course .frames) more) ∙ text-behind (first-course .frames) (ended more) in
+        let whole : textOf (courseEnded (courseOf w (linesOf (u ++ (p .bytes ++ inOne ps))))) ≡ writeAll (first-course .frames) ++ textOf (courseEnded more) =
+        ap (λ (c : EdgeCourse). textOf (courseEnded c)) (in-order ∙ course-on w (u ++ p .bytes) (inOne ps) h)
+        ∙ ap textOf (ended-behind (first-course .frames) more) ∙ text-behind (first-course .frames) (courseEnded more) in
         rw (first-text, first-lines, next, at, rest) (sym whole)
 
     off : first-course .refusal ≢ accepted → Whole
     off h =
         let other : said-first .refusal ≢ accepted = rw (k .refusal) h in
         let next = sym (printed-refused said-first (after-first .out) other .0) in
-        let same : ended first-course ≡ first-course = rw (ne-eqb (first-course .refusal) accepted h) refl in
-        let whole : textOf (ended (courseOf w (linesOf (u ++ (p .bytes ++ inOne ps))))) ≡ textOf first-course =
-        ap (λ (c : Course). textOf (ended c)) (in-order ∙ course-stop w (u ++ p .bytes) (inOne ps) h) ∙ ap textOf same in
+        let same : courseEnded first-course ≡ first-course = rw (ne-eqb (first-course .refusal) accepted h) refl in
+        let whole : textOf (courseEnded (courseOf w (linesOf (u ++ (p .bytes ++ inOne ps))))) ≡ textOf first-course =
+        ap (λ (c : EdgeCourse). textOf (courseEnded c)) (in-order ∙ course-stop w (u ++ p .bytes) (inOne ps) h) ∙ ap textOf same in
         rw (first-text, next) (append-nil (textOf first-course) ∙ sym whole)
 
   first-run : Came 0 (p .buffer) first-course after-first → Whole
@@ -213,14 +213,14 @@ module _ (p : Piece) (ps : List Piece) (w : Wire) (u out : List ℕ) (plain : al
       by-test true e = on k (eqb-true (first-course .refusal) accepted e)
       by-test false e = off k (eqb-false (first-course .refusal) accepted e)
 
-run-text : (ps : List Piece) (w : Wire) (u out : List ℕ) → all notFeed u ≡ true → Sound (w .frame) → Lent ps → enoughRoom ≤ length out
-    → printedRun (holding w u 0) ps out ≡ textOf (ended (courseOf w (linesOf (u ++ inOne ps))))
+run-text : (ps : List Piece) (w : Wire) (u out : List ℕ) → all notFeed u ≡ true → FrameSound (w .frame) → Lent ps → enoughRoom ≤ length out
+    → printedRun (holding w u 0) ps out ≡ textOf (courseEnded (courseOf w (linesOf (u ++ inOne ps))))
 unfolding printedRun inOne
 run-text [] w u out plain sound lent room = rw (append-nil u, plain-course w u plain) (end-text w u out sound room)
 run-text (p ∷ ps) w u out plain sound lent room =
     first-run p ps w u out plain sound (lent .0) (λ v x plain′ sound′. run-text ps v x out plain′ sound′ (lent .1) room) (piece-came (p .bytes) u w 0 (p .buffer) plain sound (omega arith))
 
 -- what is handed on for the pieces of a capture and its end, whatever the cuts and the buffers, is the transcript of the whole
-pub run-transcript : (ps : List Piece) (out : List ℕ) → Lent ps → enoughRoom ≤ length out → printedRun fresh ps out ≡ transcript (inOne ps)
+pub run-transcript : (ps : List Piece) (out : List ℕ) → Lent ps → enoughRoom ≤ length out → printedRun freshReader ps out ≡ transcript (inOne ps)
 unfolding fold all
 run-transcript ps out lent room = run-text ps untouched [] out refl (blank-sound false) lent room

@@ -1,6 +1,6 @@
 -- How long the lows and highs of a capture last, in microseconds: the table of the request for edges. Both ends of a range belong to it.
---     between a b d          whether a time is in the range from a to b
---     isOne d, isZero d      the low of a slot that shows 1, and of one that shows 0
+--     lastsBetween a b d          whether a time is in the range from a to b
+--     isOneSlot d, isZero d      the low of a slot that shows 1, and of one that shows 0
 --     isReset d              the low of a reset
 --     isWait d               the high between a reset and presence
 --     isPresence d           the low of presence
@@ -15,32 +15,32 @@ use Rattle.captures.specs.declared.pulses.Pulse.{Pulse}
 use Rattle.captures.specs.declared.pulses.Pulse.the-variants.{One, Zero, Reset, Other}
 
 -- whether a time is in a range, its ends among it
-abbrev pub between : ℕ → ℕ → ℕ → Bool
-between a b d = leb a d && leb d b
+abbrev pub lastsBetween : ℕ → ℕ → ℕ → Bool
+lastsBetween a b d = leb a d && leb d b
 
 -- ## Lows
 
 -- a slot that shows 1
-abbrev pub isOne : ℕ → Bool
-isOne d = between 1 15 d
+abbrev pub isOneSlot : ℕ → Bool
+isOneSlot d = lastsBetween 1 15 d
 
 -- a slot that shows 0
 abbrev pub isZero : ℕ → Bool
-isZero d = between 16 120 d
+isZero d = lastsBetween 16 120 d
 
 -- a reset
 abbrev pub isReset : ℕ → Bool
-isReset d = between 480 960 d
+isReset d = lastsBetween 480 960 d
 
 -- presence
 abbrev pub isPresence : ℕ → Bool
-isPresence d = between 60 240 d
+isPresence d = lastsBetween 60 240 d
 
 -- ## Highs after a reset
 
 -- the wait for presence
 abbrev pub isWait : ℕ → Bool
-isWait d = between 15 60 d
+isWait d = lastsBetween 15 60 d
 
 -- no presence
 abbrev pub isSilence : ℕ → Bool
@@ -50,4 +50,4 @@ isSilence d = leb 480 d
 
 -- a slot, a reset, or neither
 abbrev pub pulseOf : ℕ → Pulse
-pulseOf d = if isOne d then One else if isZero d then Zero else if isReset d then Reset else Other
+pulseOf d = if isOneSlot d then One else if isZero d then Zero else if isReset d then Reset else Other

@@ -7,16 +7,16 @@ use native.Mathlib.Omega.{arith}
 use borrow.Author.Tests.{le-leb, lt-leb}
 use lib.Dec.{leb}
 use Rattle.captures.specs.declared.pulses.Pulse.the-variants.{One, Zero, Reset, Other}
-use Rattle.captures.specs.Bounds.{between, pulseOf}
+use Rattle.captures.specs.Bounds.{lastsBetween, pulseOf}
 
 module _ (a b d : ℕ) where
-  pub between-below : d < a → between a b d ≡ false
+  pub between-below : d < a → lastsBetween a b d ≡ false
   between-below h = rw (lt-leb a d h)
 
-  pub between-within : a ≤ d → d ≤ b → between a b d ≡ true
+  pub between-within : a ≤ d → d ≤ b → lastsBetween a b d ≡ true
   between-within h k = rw (le-leb a d h, le-leb d b k)
 
-  pub between-above : b < d → between a b d ≡ false
+  pub between-above : b < d → lastsBetween a b d ≡ false
   between-above h = rw (lt-leb d b h) (and-false (leb a d))
 
 module _ (d : ℕ) where

@@ -1,7 +1,7 @@
 -- A capture that comes in pieces: each line is eight digits, the time of an edge; each frame that an edge closes is written as a line behind those before it. A line is judged at
 -- its feed: another character than a digit is refused with 2, then another length with 3, then the edge by the rule over edges, then a frame without room with 1. A refusal changes
 -- nothing else and stays.
---     fresh                      a reader before the first byte
+--     freshReader                      a reader before the first byte
 --     refusedWith r n            the reader with a refusal
 --     withLine r l               the reader with another unfinished line
 --     withWritten r n            the reader with so many bytes in its buffer
@@ -29,14 +29,14 @@ use Rattle.captures.specs.declared.pulses.Step.{Step}
 use Rattle.captures.specs.declared.pulses.Ending.{Ending}
 use Rattle.captures.specs.Rule.{untouched, edgeStep, endingAt}
 use Rattle.captures.specs.declared.edge_lines.Partial.{Partial}
-use Rattle.captures.specs.Partial.{timeDigits, noLine, longer}
+use Rattle.captures.specs.Partial.{timeDigits, noLine, longerPartial}
 use Rattle.captures.specs.declared.edges.Reader.{Reader}
 use Rattle.captures.specs.declared.edges.Answer.{Answer}
 use Rattle.captures.specs.declared.edges.Turn.{Turn}
 
 -- a reader before the first byte
-abbrev pub fresh : Reader
-fresh = record { refusal = accepted; written = 0; line = noLine; wire = untouched }
+abbrev pub freshReader : Reader
+freshReader = record { refusal = accepted; written = 0; line = noLine; wire = untouched }
 
 -- the reader with a refusal
 abbrev pub refusedWith : Reader → ℕ → Reader
@@ -109,7 +109,7 @@ unfoldable pub onByte : Reading → ℕ → Reading
 onByte x c =
     if stopped (x .reader) then x
     else if eqb c lineFeed then record { reader = fedLineReader (x .reader) (x .out); out = fedLineLeaves (x .reader) (x .out) }
-    else record { reader = withLine (x .reader) (longer (x .reader .line) c); out = x .out }
+    else record { reader = withLine (x .reader) (longerPartial (x .reader .line) c); out = x .out }
 
 -- a piece, byte by byte
 abbrev pub fedBytes : Reader → List ℕ → List ℕ → Reading
@@ -118,39 +118,39 @@ fedBytes r out s = fold onByte record { reader = r; out = out } s
 -- ## The calls
 
 -- what a reader answers
-abbrev pub answers : Reader → Answer
-answers r = record { refusal = r .refusal; written = r .written; reader = r }
+abbrev pub answersOf : Reader → Answer
+answersOf r = record { refusal = r .refusal; written = r .written; reader = r }
 
 -- the answer for a piece
 abbrev pub feedAnswer : Reader → List ℕ → List ℕ → Answer
-feedAnswer r out s = answers (fedBytes r out s .reader)
+feedAnswer r out s = answersOf (fedBytes r out s .reader)
 
 -- the buffer after it
 abbrev pub feedLeaves : Reader → List ℕ → List ℕ → List ℕ
 feedLeaves r out s = fedBytes r out s .out
 
 -- an accepted end
-abbrev pub finished : ℕ → Answer
-finished n = record { refusal = accepted; written = n; reader = fresh }
+abbrev pub finishedWith : ℕ → Answer
+finishedWith n = record { refusal = accepted; written = n; reader = freshReader }
 
 -- an end that closes the last frame
 abbrev pub endClosed : Reader → List ℕ → Answer
 endClosed r out =
-    if eqb (frameWritten r out .refusal) accepted then finished (frameWritten r out .next)
-    else answers (refusedWith r (frameWritten r out .refusal))
+    if eqb (frameWritten r out .refusal) accepted then finishedWith (frameWritten r out .next)
+    else answersOf (refusedWith r (frameWritten r out .refusal))
 
 -- an end by where the line stands
 abbrev pub endWire : Reader → List ℕ → Ending → Answer
 endWire r out e =
-    if not (eqb (e .refusal) accepted) then answers (refusedWith r (e .refusal))
+    if not (eqb (e .refusal) accepted) then answersOf (refusedWith r (e .refusal))
     else if e .closes then endClosed r out
-    else finished (r .written)
+    else finishedWith (r .written)
 
 -- an end: the refusal again after one, 2 in a line, else by where the line stands
 abbrev pub endAnswer : Reader → List ℕ → Answer
 endAnswer r out =
-    if stopped r then answers r
-    else if not (eqb (r .line .count) 0) then answers (refusedWith r notHex)
+    if stopped r then answersOf r
+    else if not (eqb (r .line .count) 0) then answersOf (refusedWith r notHex)
     else endWire r out (endingAt (r .wire .stage))
 
 -- the buffer, with the last frame where one is closed

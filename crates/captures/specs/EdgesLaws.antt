@@ -1,5 +1,5 @@
 -- One law for each way in which an edge, a line, a closing and an end can come out, and the laws of a piece that is read line by line:
---     stays                  after a refusal no byte changes anything
+--     refused-stays                  after a refusal no byte changes anything
 --     fed-characters         characters before a feed only lengthen the line
 --     lengthens, line-fed    so the line that starts at a place is lengthened by its characters, and ended by its feed
 -- Assumes nothing.
@@ -22,11 +22,11 @@ use Rattle.captures.specs.declared.pulses.Step.{Step}
 use Rattle.captures.specs.declared.pulses.Ending.{Ending}
 use Rattle.captures.specs.Rule.{edgeStep, endingAt}
 use Rattle.captures.specs.RuleLaws.{refused-open}
-use Rattle.captures.specs.Partial.{timeDigits, noLine, longer}
+use Rattle.captures.specs.Partial.{timeDigits, noLine, longerPartial}
 use Rattle.captures.specs.declared.edges.Reader.{Reader}
 use Rattle.captures.specs.declared.edges.Answer.{Answer}
 use Rattle.captures.specs.declared.edges.Turn.{Turn}
-use Rattle.captures.specs.Edges.{refusedWith, withLine, withWritten, onEdge, lineEnded, frameWritten, closedReader, closedLeaves, fedLineReader, fedLineLeaves, Reading, stopped, onByte, answers, finished, endClosed, endWire, endAnswer, endLeaves}
+use Rattle.captures.specs.Edges.{refusedWith, withLine, withWritten, onEdge, lineEnded, frameWritten, closedReader, closedLeaves, fedLineReader, fedLineLeaves, Reading, stopped, onByte, answersOf, finishedWith, endClosed, endWire, endAnswer, endLeaves}
 
 -- ## Ways to come out
 
@@ -82,32 +82,32 @@ module _ (r : Reader) (out : List ℕ) where
 -- ## Ends
 
 module _ (r : Reader) (out : List ℕ) where
-  pub last-refused : (frameWritten r out .refusal ≡ accepted → ⊥) → answers (refusedWith r (frameWritten r out .refusal)) ≡ endClosed r out
+  pub last-refused : (frameWritten r out .refusal ≡ accepted → ⊥) → answersOf (refusedWith r (frameWritten r out .refusal)) ≡ endClosed r out
   last-refused h =
-      choice-else (eqb (frameWritten r out .refusal) accepted) (finished (frameWritten r out .next)) (answers (refusedWith r (frameWritten r out .refusal)))
+      choice-else (eqb (frameWritten r out .refusal) accepted) (finishedWith (frameWritten r out .next)) (answersOf (refusedWith r (frameWritten r out .refusal)))
       (ne-eqb (frameWritten r out .refusal) accepted h)
 
-  pub last-done : frameWritten r out .refusal ≡ accepted → finished (frameWritten r out .next) ≡ endClosed r out
+  pub last-done : frameWritten r out .refusal ≡ accepted → finishedWith (frameWritten r out .next) ≡ endClosed r out
   last-done h =
-      choice-then (eqb (frameWritten r out .refusal) accepted) (finished (frameWritten r out .next)) (answers (refusedWith r (frameWritten r out .refusal)))
+      choice-then (eqb (frameWritten r out .refusal) accepted) (finishedWith (frameWritten r out .next)) (answersOf (refusedWith r (frameWritten r out .refusal)))
       (eq-eqb (frameWritten r out .refusal) accepted h)
 
   abbrev by-line : Answer
-  by-line = if not (eqb (r .line .count) 0) then answers (refusedWith r notHex) else endWire r out (endingAt (r .wire .stage))
+  by-line = if not (eqb (r .line .count) 0) then answersOf (refusedWith r notHex) else endWire r out (endingAt (r .wire .stage))
 
-  pub end-again : (r .refusal ≡ accepted → ⊥) → (answers r ≡ endAnswer r out) × (out ≡ endLeaves r out)
+  pub end-again : (r .refusal ≡ accepted → ⊥) → (answersOf r ≡ endAnswer r out) × (out ≡ endLeaves r out)
   end-again h =
       let e = ne-eqb (r .refusal) accepted h in
-      (choice-then (stopped r) (answers r) by-line (ap not e), rw e refl)
+      (choice-then (stopped r) (answersOf r) by-line (ap not e), rw e refl)
 
   module _ (well : r .refusal ≡ accepted) where
     going : by-line ≡ endAnswer r out
-    going = choice-else (stopped r) (answers r) by-line (ap not (eq-eqb (r .refusal) accepted well))
+    going = choice-else (stopped r) (answersOf r) by-line (ap not (eq-eqb (r .refusal) accepted well))
 
-    pub end-in-line : (r .line .count ≡ 0 → ⊥) → (answers (refusedWith r notHex) ≡ endAnswer r out) × (out ≡ endLeaves r out)
+    pub end-in-line : (r .line .count ≡ 0 → ⊥) → (answersOf (refusedWith r notHex) ≡ endAnswer r out) × (out ≡ endLeaves r out)
     end-in-line h =
         let e = ne-eqb (r .line .count) 0 h in (
-          choice-then (not (eqb (r .line .count) 0)) (answers (refusedWith r notHex)) (endWire r out (endingAt (r .wire .stage))) (ap not e) ∙ going,
+          choice-then (not (eqb (r .line .count) 0)) (answersOf (refusedWith r notHex)) (endWire r out (endingAt (r .wire .stage))) (ap not e) ∙ going,
           rw (eq-eqb (r .refusal) accepted well, e) refl,
         )
 
@@ -115,38 +115,38 @@ module _ (r : Reader) (out : List ℕ) where
       at-wire : endWire r out e ≡ endAnswer r out
       at-wire =
           ap (endWire r out) known
-          ∙ choice-else (not (eqb (r .line .count) 0)) (answers (refusedWith r notHex)) (endWire r out (endingAt (r .wire .stage))) (ap not (eq-eqb (r .line .count) 0 bare))
+          ∙ choice-else (not (eqb (r .line .count) 0)) (answersOf (refusedWith r notHex)) (endWire r out (endingAt (r .wire .stage))) (ap not (eq-eqb (r .line .count) 0 bare))
           ∙ going
 
       leaves : (t : Bool) → e .closes ≡ t → (if t then closedLeaves r out else out) ≡ endLeaves r out
       leaves t c = rw (eq-eqb (r .refusal) accepted well, eq-eqb (r .line .count) 0 bare, ← known, c) refl
 
-      pub end-low : (e .refusal ≡ accepted → ⊥) → (answers (refusedWith r (e .refusal)) ≡ endAnswer r out) × (out ≡ endLeaves r out)
+      pub end-low : (e .refusal ≡ accepted → ⊥) → (answersOf (refusedWith r (e .refusal)) ≡ endAnswer r out) × (out ≡ endLeaves r out)
       end-low h = (
-        choice-then (not (eqb (e .refusal) accepted)) (answers (refusedWith r (e .refusal))) (if e .closes then endClosed r out else finished (r .written)) (ap not (ne-eqb (e .refusal) accepted h)) ∙ at-wire,
+        choice-then (not (eqb (e .refusal) accepted)) (answersOf (refusedWith r (e .refusal))) (if e .closes then endClosed r out else finishedWith (r .written)) (ap not (ne-eqb (e .refusal) accepted h)) ∙ at-wire,
         leaves false (ap (λ (x : Ending). x .closes) known ∙ refused-open (r .wire .stage) (rw known at h)),
       )
 
-      accepts : e .refusal ≡ accepted → (if e .closes then endClosed r out else finished (r .written)) ≡ endAnswer r out
+      accepts : e .refusal ≡ accepted → (if e .closes then endClosed r out else finishedWith (r .written)) ≡ endAnswer r out
       accepts h =
-          choice-else (not (eqb (e .refusal) accepted)) (answers (refusedWith r (e .refusal))) (if e .closes then endClosed r out else finished (r .written)) (ap not (eq-eqb (e .refusal) accepted h)) ∙ at-wire
+          choice-else (not (eqb (e .refusal) accepted)) (answersOf (refusedWith r (e .refusal))) (if e .closes then endClosed r out else finishedWith (r .written)) (ap not (eq-eqb (e .refusal) accepted h)) ∙ at-wire
 
       pub end-closes : e .refusal ≡ accepted → e .closes ≡ true → (endClosed r out ≡ endAnswer r out) × (closedLeaves r out ≡ endLeaves r out)
-      end-closes h c = (choice-then (e .closes) (endClosed r out) (finished (r .written)) c ∙ accepts h, leaves true c)
+      end-closes h c = (choice-then (e .closes) (endClosed r out) (finishedWith (r .written)) c ∙ accepts h, leaves true c)
 
-      pub end-nothing : e .refusal ≡ accepted → e .closes ≡ false → (finished (r .written) ≡ endAnswer r out) × (out ≡ endLeaves r out)
-      end-nothing h c = (choice-else (e .closes) (endClosed r out) (finished (r .written)) c ∙ accepts h, leaves false c)
+      pub end-nothing : e .refusal ≡ accepted → e .closes ≡ false → (finishedWith (r .written) ≡ endAnswer r out) × (out ≡ endLeaves r out)
+      end-nothing h c = (choice-else (e .closes) (endClosed r out) (finishedWith (r .written)) c ∙ accepts h, leaves false c)
 
 -- ## A piece, line by line
 
 -- after a refusal no byte changes anything
-pub stays : (x : Reading) → (x .reader .refusal ≡ accepted → ⊥) → (s : List ℕ) → fold onByte x s ≡ x
+pub refused-stays : (x : Reading) → (x .reader .refusal ≡ accepted → ⊥) → (s : List ℕ) → fold onByte x s ≡ x
 unfolding fold onByte
-stays x h [] = refl
-stays x h (c ∷ s) = rw (ne-eqb (x .reader .refusal) accepted h) (stays x h s)
+refused-stays x h [] = refl
+refused-stays x h (c ∷ s) = rw (ne-eqb (x .reader .refusal) accepted h) (refused-stays x h s)
 
 module _ (r : Reader) (out : List ℕ) (well : r .refusal ≡ accepted) where
-  pub on-character : (c : ℕ) → notFeed c ≡ true → onByte record { reader = r; out = out } c ≡ record { reader = withLine r (longer (r .line) c); out = out }
+  pub on-character : (c : ℕ) → notFeed c ≡ true → onByte record { reader = r; out = out } c ≡ record { reader = withLine r (longerPartial (r .line) c); out = out }
   unfolding onByte
   on-character c n = rw (eq-eqb (r .refusal) accepted well, not-true (eqb c lineFeed) n) refl
 
@@ -156,17 +156,17 @@ module _ (r : Reader) (out : List ℕ) (well : r .refusal ≡ accepted) where
 
 -- characters before a feed only lengthen the line
 pub fed-characters : (r : Reader) (out : List ℕ) → r .refusal ≡ accepted → (cs s : List ℕ) → all notFeed cs ≡ true
-    → fold onByte record { reader = r; out = out } (cs ++ s) ≡ fold onByte record { reader = withLine r (fold longer (r .line) cs); out = out } s
+    → fold onByte record { reader = r; out = out } (cs ++ s) ≡ fold onByte record { reader = withLine r (fold longerPartial (r .line) cs); out = out } s
 unfolding fold all
 fed-characters r out well [] s h = refl
 fed-characters r out well (c ∷ cs) s h =
     ap (λ (x : Reading). fold onByte x (cs ++ s)) (on-character r out well c (and-left (notFeed c) (all notFeed cs) h))
-    ∙ fed-characters (withLine r (longer (r .line) c)) out well cs s (and-right (notFeed c) (all notFeed cs) h)
+    ∙ fed-characters (withLine r (longerPartial (r .line) c)) out well cs s (and-right (notFeed c) (all notFeed cs) h)
 
 -- the line that starts at a place of a piece, by where its characters end
 module _ (r : Reader) (out s : List ℕ) (at e : ℕ) (well : r .refusal ≡ accepted) (before : at < length s) (ends : e ≡ at + feedAt (drop at s)) where
   abbrev pub lengthened : Reader
-  lengthened = withLine r (fold longer (r .line) (take (e - at) (drop at s)))
+  lengthened = withLine r (fold longerPartial (r .line) (take (e - at) (drop at s)))
 
   up-to : e - at ≡ feedAt (drop at s)
   up-to = omega arith

@@ -2,8 +2,8 @@
 --     timeDigits             the digits of a time
 --     noLine                 a line without a character
 --     counted n              one character more; nine are already too many, and more are not counted
---     longer l c             the line with one character more
---     gathered cs            what is known of a line of the characters cs
+--     longerPartial l c             the line with one character more
+--     gatheredTime cs            what is known of a line of the characters cs
 -- Assumes nothing.
 use Prim.Native.Nat.{ℕ, _+_, _%_}
 use mathlib.Core.Bool.{true, _&&_}
@@ -31,9 +31,9 @@ abbrev pub counted : ℕ → ℕ
 counted n = if ltb n 9 then n + 1 else n
 
 -- the line with one character more
-abbrev pub longer : Partial → ℕ → Partial
-longer l c = record { count = counted (l .count); spelt = l .spelt && isDigit 16 c; number = thenDigit 16 (l .number) c % timeBound }
+abbrev pub longerPartial : Partial → ℕ → Partial
+longerPartial l c = record { count = counted (l .count); spelt = l .spelt && isDigit 16 c; number = thenDigit 16 (l .number) c % timeBound }
 
 -- what is known of a line of some characters
-abbrev pub gathered : List ℕ → Partial
-gathered cs = fold longer noLine cs
+abbrev pub gatheredTime : List ℕ → Partial
+gatheredTime cs = fold longerPartial noLine cs

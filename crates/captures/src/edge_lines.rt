@@ -3,7 +3,7 @@ ghost use mathlib.Core.Path.{_≡_};
 ghost use mathlib.Core.Bool.{_&&_};
 ghost use lib.Dec.{ltb};
 ghost use Rattle.basic_laws.specs.Fold.{fold};
-ghost use Rattle.captures.specs.Partial.{noLine, counted, longer};
+ghost use Rattle.captures.specs.Partial.{noLine, counted, longerPartial};
 
 // The digits of a time.
 pub const TIME_DIGITS: u8 = 8;
@@ -50,7 +50,7 @@ fn still_spelt(spelt: bool, value: u8) -> bool
 }
 
 fn lengthen(line: Partial, c: u8) -> Partial
-    ensures { λ r. ⌜ r ≡ longer line c ⌝ }
+    ensures { λ r. ⌜ r ≡ longerPartial line c ⌝ }
 {
     let value = text::value(c);
     let number = 16 * (line.number as u64) + (value as u64);
@@ -63,7 +63,7 @@ fn lengthen(line: Partial, c: u8) -> Partial
 
 // The line with some characters more.
 pub fn gather(line: Partial, characters: &[u8]) -> Partial
-    ensures answer { λ r. ⌜ r ≡ fold longer line (now (characters .entry)) ⌝ }
+    ensures answer { λ r. ⌜ r ≡ fold longerPartial line (now (characters .entry)) ⌝ }
 {
     let mut held = line;
     let mut i: usize = 0;

@@ -5,7 +5,7 @@ ghost use Prim.Native.Nat.{_<_, _≤_};
 ghost use lib.ListN.{length, drop};
 ghost use Rattle.basic_laws.specs.Fold.{fold};
 ghost use Rattle.frame.specs.Writing.{lineWriteLeaves};
-ghost use Rattle.captures.specs.Edges.{fresh, refusedWith, withLine, onEdge, lineEnded, closedReader, fedLineReader, fedLineLeaves, onByte, answers, feedAnswer, feedLeaves, finished, endClosed, endAnswer, endLeaves, takenSoFar};
+ghost use Rattle.captures.specs.Edges.{freshReader, refusedWith, withLine, onEdge, lineEnded, closedReader, fedLineReader, fedLineLeaves, onByte, answersOf, feedAnswer, feedLeaves, finishedWith, endClosed, endAnswer, endLeaves, takenSoFar};
 use crate::edge_lines;
 use crate::edge_lines::Partial;
 use crate::pulses;
@@ -45,7 +45,7 @@ struct Progress {
 
 // A reader before the first byte.
 pub fn start() -> Reader
-    ensures answer { λ r. ⌜ r ≡ fresh ⌝ }
+    ensures answer { λ r. ⌜ r ≡ freshReader ⌝ }
 {
     Reader {
         refusal: refusals::ACCEPTED,
@@ -79,7 +79,7 @@ fn with_line(reader: Reader, line: Partial) -> Reader
 }
 
 fn answer_of(reader: Reader) -> Answer
-    ensures { λ r. ⌜ r ≡ answers reader ⌝ }
+    ensures { λ r. ⌜ r ≡ answersOf reader ⌝ }
 {
     Answer {
         refusal: reader.refusal,
@@ -205,7 +205,7 @@ pub fn feed(reader: Reader, s: &[u8], out: &mut [u8]) -> Answer
 }
 
 fn finish(written: usize) -> Answer
-    ensures { λ r. ⌜ r ≡ finished written ⌝ }
+    ensures { λ r. ⌜ r ≡ finishedWith written ⌝ }
 {
     Answer {
         refusal: refusals::ACCEPTED,

@@ -11,7 +11,7 @@ use Rattle.basic_laws.specs.SameLaws.{alike-within, alike-parts}
 use Rattle.text.specs.Lines.{Line, linesOf, linesBytes, sameLine}
 use Rattle.text.specs.LinesLaws.{lines-bytes, lines-behind, bytes-parted, same-line-itself}
 use Rattle.comparing.specs.declared.Side.the-variants.{Reference, Other}
-use Rattle.comparing.specs.Departure.{sharedLines, departed, departureOf, recordingOf, partOf}
+use Rattle.comparing.specs.Departure.{sharedLines, partedAt, departureOf, recordingOf, partOf}
 use Rattle.comparing.specs.DepartureLaws.{front-same}
 use Rattle.comparing.specs.Claims.{Parted, PartClaim}
 
@@ -20,21 +20,21 @@ module _ (reference other : List ℕ) where
   n = sharedLines reference other
 
   -- the side and the line, by what is left of each
-  on-reference : (ls ms : List Line) (at : ℕ) → 0 < length ls → (departed n at ls ms .side ≡ Reference) × (departed n at ls ms .line ≡ n + 1)
+  on-reference : (ls ms : List Line) (at : ℕ) → 0 < length ls → (partedAt n at ls ms .side ≡ Reference) × (partedAt n at ls ms .line ≡ n + 1)
   on-reference [] ms at h = absurd (omega arith)
   on-reference (l ∷ ls) ms at h = (refl, refl)
 
-  on-other : (ls ms : List Line) (at : ℕ) → length ls ≡ 0 → 0 < length ms → (departed n at ls ms .side ≡ Other) × (departed n at ls ms .line ≡ n + 1)
+  on-other : (ls ms : List Line) (at : ℕ) → length ls ≡ 0 → 0 < length ms → (partedAt n at ls ms .side ≡ Other) × (partedAt n at ls ms .line ≡ n + 1)
   on-other [] [] at e h = absurd (omega arith)
   on-other [] (m ∷ ms) at e h = (refl, refl)
   on-other (l ∷ ls) ms at e h = absurd (omega arith)
 
-  on-neither : (ls ms : List Line) (at : ℕ) → length ls ≡ 0 → length ms ≡ 0 → (departed n at ls ms .side ≡ Reference) × (departed n at ls ms .line ≡ 0)
+  on-neither : (ls ms : List Line) (at : ℕ) → length ls ≡ 0 → length ms ≡ 0 → (partedAt n at ls ms .side ≡ Reference) × (partedAt n at ls ms .line ≡ 0)
   on-neither [] [] at e h = (refl, refl)
   on-neither [] (m ∷ ms) at e h = absurd (omega arith)
   on-neither (l ∷ ls) ms at e h = absurd (omega arith)
 
-  same-place : (ls ms : List Line) (at : ℕ) → departed n at ls ms .place ≡ at
+  same-place : (ls ms : List Line) (at : ℕ) → partedAt n at ls ms .place ≡ at
   same-place [] [] at = refl
   same-place [] (m ∷ ms) at = refl
   same-place (l ∷ ls) ms at = refl
@@ -51,7 +51,7 @@ module _ (reference other : List ℕ) where
       sym (lines-bytes reference) ∙ ap linesBytes lines ∙ lines-bytes other
 
   -- the bytes of the shared lines and the part, on either side
-  put-together : (ls ms : List Line) (at : ℕ) → let side = departed n at ls ms .side in
+  put-together : (ls ms : List Line) (at : ℕ) → let side = partedAt n at ls ms .side in
       linesBytes (take n (linesOf reference)) ++ linesBytes (drop n (linesOf (recordingOf side reference other))) ≡ recordingOf side reference other
   put-together [] [] at = sym (bytes-parted reference n)
   put-together [] (m ∷ ms) at = rw (front-same reference other) (sym (bytes-parted other n))
@@ -86,7 +86,7 @@ parted reference other =
       goes-on = λ h. on-reference reference other ls ms at (omega arith);
       ended = λ e h. on-other reference other ls ms at (omega arith) (omega arith);
       equal = all-shared reference other;
-      lines = lines-behind (recordingOf (departed n at ls ms .side) reference other) n;
+      lines = lines-behind (recordingOf (partedAt n at ls ms .side) reference other) n;
       whole = put-together reference other ls ms at;
       place = same-place reference other ls ms at;
     }

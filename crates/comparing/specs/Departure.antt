@@ -2,7 +2,7 @@
 -- data. The part begins at the first line that is not the same in both: it is of the reference where both go on, and of the longer one where the other
 -- is a whole-line beginning of it. Equal recordings give an empty part of the reference.
 --     sharedLines a b        how many lines from the front are the same in both
---     departed n at ls ms    the answer by the lines that are left of each behind n that they share, which begin at a place
+--     partedAt n at ls ms    the answer by the lines that are left of each behind n that they share, which begin at a place
 --     departureOf a b        which recording the part comes from, where it begins there, and the number of its first line, from 1; 0 for equal ones
 --     recordingOf side a b   the recording of a side
 --     partOf a b             the part: the lines of that recording behind those that are shared
@@ -22,16 +22,16 @@ abbrev pub sharedLines : List ℕ → List ℕ → ℕ
 sharedLines reference other = alike sameLine (linesOf reference) (linesOf other)
 
 -- by what is left of each: nothing of either; of the other alone; of the reference, whatever is left of the other
-abbrev pub departed : ℕ → ℕ → List Line → List Line → Departure
-departed n at [] [] = record { side = Reference; place = at; line = 0 }
-departed n at [] (m ∷ ms) = record { side = Other; place = at; line = n + 1 }
-departed n at (l ∷ ls) ms = record { side = Reference; place = at; line = n + 1 }
+abbrev pub partedAt : ℕ → ℕ → List Line → List Line → Departure
+partedAt n at [] [] = record { side = Reference; place = at; line = 0 }
+partedAt n at [] (m ∷ ms) = record { side = Other; place = at; line = n + 1 }
+partedAt n at (l ∷ ls) ms = record { side = Reference; place = at; line = n + 1 }
 
 -- which recording the part comes from, where it begins there, and the number of its first line
 unfoldable pub departureOf : List ℕ → List ℕ → Departure
 departureOf reference other =
     let n = sharedLines reference other in
-    departed n (length (linesBytes (take n (linesOf reference)))) (drop n (linesOf reference)) (drop n (linesOf other))
+    partedAt n (length (linesBytes (take n (linesOf reference)))) (drop n (linesOf reference)) (drop n (linesOf other))
 
 -- the recording of a side
 abbrev pub recordingOf : Side → List ℕ → List ℕ → List ℕ

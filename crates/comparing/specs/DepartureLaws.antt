@@ -18,7 +18,7 @@ use Rattle.text.specs.LinesLaws.{line-by-end, lines-next, lines-done, lines-pla
 use Rattle.comparing.specs.declared.Side.{Side}
 use Rattle.comparing.specs.declared.Side.the-variants.{Reference, Other}
 use Rattle.comparing.specs.declared.Departure.{Departure}
-use Rattle.comparing.specs.Departure.{sharedLines, departed, departureOf, recordingOf, partOf}
+use Rattle.comparing.specs.Departure.{sharedLines, partedAt, departureOf, recordingOf, partOf}
 
 -- ## The walk
 
@@ -47,7 +47,7 @@ one-less s at n h e = ap (drop 1) (sym (lines-next s at h) ∙ e) ∙ drop-drop 
 module _ (reference other : List ℕ) (at n : ℕ) (w : Walked reference other at n) where
   -- where no line more is the same in both, the answer goes by what is left of each
   walk-ends : alike sameLine (linesOf (drop at reference)) (linesOf (drop at other)) ≡ 0
-      → departed n at (linesOf (drop at reference)) (linesOf (drop at other)) ≡ departureOf reference other
+      → partedAt n at (linesOf (drop at reference)) (linesOf (drop at other)) ≡ departureOf reference other
   unfolding departureOf
   walk-ends none =
       let c = w .count in
@@ -156,7 +156,7 @@ module _ (reference other : List ℕ) where
           × (drop (length (linesBytes (take n (linesOf reference)))) other ≡ linesBytes (drop n (linesOf other)))
       of-other = rw front-same (lines-within other n, lines-from other n)
 
-      by-left : (ls ms : List Line) → let d = departed n (length (linesBytes (take n (linesOf reference)))) ls ms in
+      by-left : (ls ms : List Line) → let d = partedAt n (length (linesBytes (take n (linesOf reference)))) ls ms in
           (d .place ≤ length (recordingOf (d .side) reference other))
           × (drop (d .place) (recordingOf (d .side) reference other) ≡ linesBytes (drop n (linesOf (recordingOf (d .side) reference other))))
       by-left [] [] = of-reference

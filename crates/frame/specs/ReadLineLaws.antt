@@ -14,7 +14,7 @@ use Rattle.refusals.specs.Refusals.{notHex, malformed}
 use Rattle.frame.specs.declared.Frame.{Frame}
 use Rattle.basic_laws.specs.ChoiceLaws.{and-left, and-right}
 use Rattle.text.specs.Digits.{bytesOf, spells}
-use Rattle.text.specs.DigitsLaws.{bytes-length}
+use Rattle.text.specs.DigitsLaws.{pairs-length}
 use Rattle.frame.specs.Frames.{noBits, bytesFor, countAllowed, clearFrom, mostSlots}
 use Rattle.frame.specs.FramesLaws.{pad-clear}
 use Rattle.text.specs.Lines.{Line}
@@ -87,7 +87,7 @@ accepted-read l f a =
 -- ## The slots' digits
 
 pub body-length : (cs : List ℕ) (n : ℕ) → length cs ≡ 2 * bytesFor n → length (bytesOf cs) ≡ bytesFor n
-body-length cs n e = bytes-length (bytesFor n) cs e
+body-length cs n e = pairs-length (bytesFor n) cs e
 
 pub slots-clear : (p : Bool) (n : ℕ) (cs : List ℕ) → clearFrom n (bytesOf cs) ≡ true
     → readBody p n cs ≡ carries record { presence = p; count = n; bits = laid noBits 0 (bytesOf cs) }

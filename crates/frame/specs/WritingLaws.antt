@@ -21,7 +21,7 @@ use Rattle.basic_laws.specs.FoldLaws.{all-append, all-take, all-drop}
 use Rattle.basic_laws.specs.BitsLaws.{one-bit}
 use Rattle.basic_laws.specs.BytesLaws.{bytes-take}
 use Rattle.text.specs.Digits.{isDigit, hexDigits, hexOf, bytesOf, spells}
-use Rattle.text.specs.DigitsLaws.{digits-length, digits-are, number-digits, digits-number, hex-length, hex-are, bytes-hex, hex-bytes, bytes-length, bytes-bytes}
+use Rattle.text.specs.DigitsLaws.{digits-length, digits-are, number-digits, digits-number, hex-length, hex-are, bytes-hex, hex-bytes, pairs-length, bytes-bytes}
 use Rattle.frame.specs.Frames.{noBits, bytesFor, countAllowed, clearFrom, lineable, mostSlots, Held}
 use Rattle.frame.specs.FramesLaws.{pad-back, pad-length, pad-bytes}
 use Rattle.text.specs.Lines.{Line, lineFeed}
@@ -151,7 +151,7 @@ module _ (cs : List ℕ) (digital : spells 16 cs ≡ true) (formed : wellFormed 
   rest-length = let l = formed-length in length-drop 6 cs ∙ omega arith
 
   body-length : length (bytesOf (drop 6 cs)) ≡ bytesFor (slotCountIn cs)
-  body-length = bytes-length (bytesFor (slotCountIn cs)) (drop 6 cs) rest-length
+  body-length = pairs-length (bytesFor (slotCountIn cs)) (drop 6 cs) rest-length
 
   body-few : length (bytesOf (drop 6 cs)) ≤ 64
   body-few = let b = body-length in let c = lineable-count (frameIn cs) formed-lineable in omega arith

@@ -26,7 +26,7 @@ use Rattle.basic_laws.specs.EachLaws.{perm-length}
 use Rattle.search_laws.specs.Numbers.{Below, Numbered}
 use Rattle.search_laws.specs.Whole.{search-issued, search-unheard}
 use Rattle.search_laws.specs.Searchers.{Searchers}
-use Rattle.search_laws.specs.Wire.{Search, searched, passes, slots, ran, run, wireSearch}
+use Rattle.search_laws.specs.Wire.{Search, searched, passes, slots, ranPasses, run, wireSearch}
 use Rattle.device.specs.Sound.{Sound}
 use Rattle.device.specs.declared.Device.{Device}
 use Rattle.device.specs.declared.Page.{Page}
@@ -105,9 +105,9 @@ module _ (command : ℕ) (Z : Searchers thermometers (bitsOf 8 command) 64) (R :
         let n = passes-counted 200 (ruled .lines) wide (lit≤ tt) in
         let m = slots-counted 200 (ruled .lines) wide (lit≤ tt) in
         let w = bytes-counted 200 (ruled .lines) wide (lit≤ tt) in
-        let run-is : ran (ruled .lines) (ruled .devices) ≡ passes slotRule (bitsOf 8 command) (ruled .codes) b =
+        let run-is : ranPasses (ruled .lines) (ruled .devices) ≡ passes slotRule (bitsOf 8 command) (ruled .codes) b =
         search-issued slotRule (bitsOf 8 command) codeLength mostPasses _ b (found ∙ sym many) in
-        let made : ran (ruled .lines) (ruled .devices) ≡ passes slotRule (bitsOf 8 command) (map codeBits (map numberOf (ruled .codes))) b =
+        let made : ranPasses (ruled .lines) (ruled .devices) ≡ passes slotRule (bitsOf 8 command) (map codeBits (map numberOf (ruled .codes))) b =
         run-is ∙ ap (λ cs. passes slotRule (bitsOf 8 command) cs b) (sym (numbered .codes-are)) in
         let issue = issued-passes command (map numberOf (ruled .codes)) b there in
         rw same record {

@@ -37,8 +37,8 @@ numberTold n = if eqb (n .refusal) accepted then nameNumber (n .name) else 100 +
 -- ## The line in hand
 
 -- one character more than a line may have
-abbrev pub longestHeld : ℕ
-longestHeld = 135
+abbrev pub mostHeldByHost : ℕ
+mostHeldByHost = 135
 
 -- the characters that are held, whatever they are, and those behind them up to the first feed of the bytes or their end
 abbrev pub lineInHand : List ℕ → List ℕ → Line
@@ -46,7 +46,7 @@ lineInHand u b = record { chars = u ++ firstLine b .chars; fed = firstLine b .fe
 
 -- what is held of such characters: so many as tell that a line is over-long
 abbrev pub heldFrom : List ℕ → List ℕ → List ℕ
-heldFrom u more = take longestHeld (u ++ more)
+heldFrom u more = take mostHeldByHost (u ++ more)
 
 -- ## What it comes to
 
@@ -57,7 +57,7 @@ toldName n next = record { code = n .code; next = next; held = 0; kind = numberT
 -- characters without a feed: where the recording goes on they are held, and the next piece is wanted; where it ends they are its last line
 abbrev pub openTold : List ℕ → Bool → ℕ → Answer
 openTold cs ended next =
-    if not ended then record { code = 0; next = next; held = length (take longestHeld cs); kind = moreWanted; raw = 0 }
+    if not ended then record { code = 0; next = next; held = length (take mostHeldByHost cs); kind = moreWanted; raw = 0 }
     else if eqb (length cs) 0 then record { code = 0; next = next; held = 0; kind = done; raw = 0 }
     else toldName (lineNamed record { chars = cs; fed = false }) next
 
@@ -80,11 +80,11 @@ module _ (line : List ℕ) (held : ℕ) (bytes : List ℕ) (at : ℕ) where
 
   -- a line that stands whole in the piece leaves the buffer as it was; of any other what is held of it stands at the front
   abbrev pub nextLeaves : List ℕ
-  nextLeaves = if eqb held 0 && givenLine .fed then line else laid line 0 (take longestHeld (givenLine .chars))
+  nextLeaves = if eqb held 0 && givenLine .fed then line else laid line 0 (take mostHeldByHost (givenLine .chars))
 
   -- the buffer may be too short, which is refused with 1
   abbrev pub lentAnswer : Bool → Answer
-  lentAnswer ended = if leb longestHeld (length line) then nextAnswer ended else toldName (refusedName noRoom) 0
+  lentAnswer ended = if leb mostHeldByHost (length line) then nextAnswer ended else toldName (refusedName noRoom) 0
 
   abbrev pub lentLeaves : List ℕ
-  lentLeaves = if leb longestHeld (length line) then nextLeaves else line
+  lentLeaves = if leb mostHeldByHost (length line) then nextLeaves else line

@@ -16,7 +16,7 @@ use Rattle.pieces.specs.Pieces.{said, together}
 use Rattle.naming.specs.Naming.{lineNamed}
 use Rattle.naming.specs.declared.Named.{Named}
 use Rattle.host.specs.declared.Answer.{Answer}
-use Rattle.host.specs.HostNaming.{done, moreWanted, numberTold, longestHeld, nextAnswer, nextLeaves}
+use Rattle.host.specs.HostNaming.{done, moreWanted, numberTold, mostHeldByHost, nextAnswer, nextLeaves}
 
 -- what is told of a line
 abbrev pub nameNumbers : Named → List ℕ
@@ -46,5 +46,5 @@ hears (suc n) line held bytes at (c ∷ cs) =
 -- recording, each once and in order, in no more calls than the recording has bytes and the host pieces
 abbrev pub HostClaim : Type 0
 HostClaim =
-    (line : List ℕ) → longestHeld ≤ length line → (c : List ℕ) (cs : List (List ℕ)) (n : ℕ) → length (together (c ∷ cs)) + length cs < n
+    (line : List ℕ) → mostHeldByHost ≤ length line → (c : List ℕ) (cs : List (List ℕ)) (n : ℕ) → length (together (c ∷ cs)) + length cs < n
     → hears n line 0 c 0 cs ≡ said lineNumbers (together (c ∷ cs))

@@ -20,37 +20,37 @@ use Rattle.frame.specs.ReadLineLaws.{read-long}
 use Rattle.naming.specs.Naming.{refusedName, readNamed, lineNamed}
 use Rattle.naming.specs.declared.Named.{Named}
 use Rattle.host.specs.declared.Answer.{Answer}
-use Rattle.host.specs.HostNaming.{longestHeld, lineInHand, heldFrom, toldName, openTold, lineTold, placeBehind, nextAnswer, nextLeaves, lentAnswer, lentLeaves}
+use Rattle.host.specs.HostNaming.{mostHeldByHost, lineInHand, heldFrom, toldName, openTold, lineTold, placeBehind, nextAnswer, nextLeaves, lentAnswer, lentLeaves}
 
 -- ## What is held of a line tells what it comes to
 
-pub cut-named : (cs : List ℕ) (fed : Bool) → lineNamed record { chars = take longestHeld cs; fed = fed } ≡ lineNamed record { chars = cs; fed = fed }
-cut-named cs fed = by-test (leb (length cs) longestHeld) refl
+pub cut-named : (cs : List ℕ) (fed : Bool) → lineNamed record { chars = take mostHeldByHost cs; fed = fed } ≡ lineNamed record { chars = cs; fed = fed }
+cut-named cs fed = by-test (leb (length cs) mostHeldByHost) refl
   where
-    by-test : (t : Bool) → leb (length cs) longestHeld ≡ t → lineNamed record { chars = take longestHeld cs; fed = fed } ≡ lineNamed record { chars = cs; fed = fed }
-    by-test true e = rw (take-all longestHeld cs (leb-true (length cs) longestHeld e))
+    by-test : (t : Bool) → leb (length cs) mostHeldByHost ≡ t → lineNamed record { chars = take mostHeldByHost cs; fed = fed } ≡ lineNamed record { chars = cs; fed = fed }
+    by-test true e = rw (take-all mostHeldByHost cs (leb-true (length cs) mostHeldByHost e))
     by-test false e =
-        let k = leb-false (length cs) longestHeld e in
-        let l : length (take longestHeld cs) ≡ longestHeld = length-take-le longestHeld cs (omega arith) in
-        ap readNamed (read-long record { chars = take longestHeld cs; fed = fed } (omega arith) ∙ sym (read-long record { chars = cs; fed = fed } (omega arith)))
+        let k = leb-false (length cs) mostHeldByHost e in
+        let l : length (take mostHeldByHost cs) ≡ mostHeldByHost = length-take-le mostHeldByHost cs (omega arith) in
+        ap readNamed (read-long record { chars = take mostHeldByHost cs; fed = fed } (omega arith) ∙ sym (read-long record { chars = cs; fed = fed } (omega arith)))
 
-pub open-cut : (cs : List ℕ) (ended : Bool) (next : ℕ) → openTold (take longestHeld cs) ended next ≡ openTold cs ended next
-open-cut cs false next = rw (take-take longestHeld longestHeld cs (omega arith))
+pub open-cut : (cs : List ℕ) (ended : Bool) (next : ℕ) → openTold (take mostHeldByHost cs) ended next ≡ openTold cs ended next
+open-cut cs false next = rw (take-take mostHeldByHost mostHeldByHost cs (omega arith))
 open-cut cs true next = by-test (eqb (length cs) 0) refl
   where
-    size : length (take longestHeld cs) ≡ min longestHeld (length cs)
-    size = length-take longestHeld cs
+    size : length (take mostHeldByHost cs) ≡ min mostHeldByHost (length cs)
+    size = length-take mostHeldByHost cs
 
-    by-test : (t : Bool) → eqb (length cs) 0 ≡ t → openTold (take longestHeld cs) true next ≡ openTold cs true next
+    by-test : (t : Bool) → eqb (length cs) 0 ≡ t → openTold (take mostHeldByHost cs) true next ≡ openTold cs true next
     by-test true e =
         let none = eqb-true (length cs) 0 e in
         let l = size in
-        rw (e, eq-eqb (length (take longestHeld cs)) 0 (omega arith))
+        rw (e, eq-eqb (length (take mostHeldByHost cs)) 0 (omega arith))
     by-test false e =
         let some = eqb-false (length cs) 0 e in
         let l = size in
-        let k : length (take longestHeld cs) ≡ 0 → ⊥ = λ z. some (omega arith) in
-        rw (e, ne-eqb (length (take longestHeld cs)) 0 k, cut-named cs false)
+        let k : length (take mostHeldByHost cs) ≡ 0 → ⊥ = λ z. some (omega arith) in
+        rw (e, ne-eqb (length (take mostHeldByHost cs)) 0 k, cut-named cs false)
 
 -- ## Characters laid behind those that are held
 
@@ -64,28 +64,28 @@ take-least k l = by-test (leb (length l) k) refl
         rw m (take-all (length l) l (omega arith) ∙ sym (take-all k l h))
     by-test false e = let h = leb-false (length l) k e in let m : min (length l) k ≡ k = omega arith in rw m
 
-module _ (line : List ℕ) (held : ℕ) (more : List ℕ) (start count : ℕ) (begins : start ≡ min held longestHeld) (counts : count ≡ min (length more) (longestHeld - start))
-    (room : longestHeld ≤ length line) where
+module _ (line : List ℕ) (held : ℕ) (more : List ℕ) (start count : ℕ) (begins : start ≡ min held mostHeldByHost) (counts : count ≡ min (length more) (mostHeldByHost - start))
+    (room : mostHeldByHost ≤ length line) where
   held-parts : heldFrom (take held line) more ≡ take start line ++ take count more
-  held-parts = by-test (leb held longestHeld) refl
+  held-parts = by-test (leb held mostHeldByHost) refl
     where
-      by-test : (t : Bool) → leb held longestHeld ≡ t → heldFrom (take held line) more ≡ take start line ++ take count more
+      by-test : (t : Bool) → leb held mostHeldByHost ≡ t → heldFrom (take held line) more ≡ take start line ++ take count more
       by-test true e =
-          let h = leb-true held longestHeld e in
+          let h = leb-true held mostHeldByHost e in
           let u = take held line in
           let same : start ≡ held = omega arith in
           let size : length u ≡ held = length-take-le held line (omega arith) in
-          let sum : longestHeld ≡ length u + (longestHeld - start) = omega arith in
-          ap (λ (n : ℕ). take n (u ++ more)) sum ∙ take-append-add u more (longestHeld - start)
-          ∙ ap (λ (x : List ℕ). u ++ x) (sym (take-least (longestHeld - start) more) ∙ ap (λ (n : ℕ). take n more) (sym counts))
+          let sum : mostHeldByHost ≡ length u + (mostHeldByHost - start) = omega arith in
+          ap (λ (n : ℕ). take n (u ++ more)) sum ∙ take-append-add u more (mostHeldByHost - start)
+          ∙ ap (λ (x : List ℕ). u ++ x) (sym (take-least (mostHeldByHost - start) more) ∙ ap (λ (n : ℕ). take n more) (sym counts))
           ∙ ap (λ (n : ℕ). take n line ++ take count more) (sym same)
       by-test false e =
-          let h = leb-false held longestHeld e in
-          let same : start ≡ longestHeld = omega arith in
+          let h = leb-false held mostHeldByHost e in
+          let same : start ≡ mostHeldByHost = omega arith in
           let none : count ≡ 0 = omega arith in
           let size = length-take held line in
           rw (same, none)
-          (take-append-le longestHeld (take held line) more (omega arith) ∙ take-take longestHeld held line (omega arith) ∙ sym (append-nil (take longestHeld line)))
+          (take-append-le mostHeldByHost (take held line) more (omega arith) ∙ take-take mostHeldByHost held line (omega arith) ∙ sym (append-nil (take mostHeldByHost line)))
 
   part-size : length (take count more) ≡ count
   part-size = length-take-le count more (omega arith)
@@ -112,11 +112,11 @@ module _ (line : List ℕ) (held : ℕ) (more : List ℕ) (start count : ℕ) (b
 -- ## The ends of a call
 
 module _ (line : List ℕ) (held : ℕ) (bytes : List ℕ) (at : ℕ) (ended : Bool) where
-  pub lent-short : length line < longestHeld
+  pub lent-short : length line < mostHeldByHost
       → (toldName (refusedName noRoom) 0 ≡ lentAnswer line held bytes at ended) × (line ≡ lentLeaves line held bytes at)
-  lent-short h = rw (lt-leb longestHeld (length line) h) (refl, refl)
+  lent-short h = rw (lt-leb mostHeldByHost (length line) h) (refl, refl)
 
-  module _ (room : longestHeld ≤ length line) (from e : ℕ) (clip : from ≡ min at (length bytes)) (ends : e ≡ from + feedAt (drop from bytes)) where
+  module _ (room : mostHeldByHost ≤ length line) (from e : ℕ) (clip : from ≡ min at (length bytes)) (ends : e ≡ from + feedAt (drop from bytes)) where
     -- the characters of the first line, where they stand
     abbrev part : List ℕ
     part = take (e - from) (drop from bytes)
@@ -149,7 +149,7 @@ module _ (line : List ℕ) (held : ℕ) (bytes : List ℕ) (at : ℕ) (ended : B
     answered : (fed : Bool) (next : ℕ) → ltb e (length bytes) ≡ fed → next ≡ placeBehind bytes at
         → lineTold record { chars = take held line ++ part; fed = fed } ended next ≡ lentAnswer line held bytes at ended
     answered fed next h k =
-        rw (le-leb longestHeld (length line) room)
+        rw (le-leb mostHeldByHost (length line) room)
         (ap (lineTold record { chars = take held line ++ part; fed = fed } ended) k
         ∙ ap (λ (t : Bool). lineTold record { chars = take held line ++ part; fed = t } ended (placeBehind bytes at)) (sym h)
         ∙ ap (λ (l : Line). lineTold l ended (placeBehind bytes at)) (sym given))
@@ -157,10 +157,10 @@ module _ (line : List ℕ) (held : ℕ) (bytes : List ℕ) (at : ℕ) (ended : B
     left : (none fed : Bool) → eqb held 0 ≡ none → ltb e (length bytes) ≡ fed
         → (if none && fed then line else laid line 0 (heldFrom (take held line) part)) ≡ lentLeaves line held bytes at
     left none fed n h =
-        rw (le-leb longestHeld (length line) room)
+        rw (le-leb mostHeldByHost (length line) room)
         (ap (λ (t : Bool). if t && fed then line else laid line 0 (heldFrom (take held line) part)) (sym n)
         ∙ ap (λ (t : Bool). if eqb held 0 && t then line else laid line 0 (heldFrom (take held line) part)) (sym h)
-        ∙ ap (λ (l : Line). if eqb held 0 && l .fed then line else laid line 0 (take longestHeld (l .chars))) (sym given))
+        ∙ ap (λ (l : Line). if eqb held 0 && l .fed then line else laid line 0 (take mostHeldByHost (l .chars))) (sym given))
 
     module _ (fed : e < length bytes) where
       abbrev has-feed : ltb e (length bytes) ≡ true
@@ -201,9 +201,9 @@ module _ (line : List ℕ) (held : ℕ) (bytes : List ℕ) (at : ℕ) (ended : B
 
 -- ## What is held stands at the front of the buffer
 
-module _ (line u more : List ℕ) (room : longestHeld ≤ length line) (n : ℕ) (after : List ℕ) (size : n ≡ length (heldFrom u more)) (lies : after ≡ laid line 0 (heldFrom u more)) where
-  few : length (heldFrom u more) ≤ longestHeld
-  few = let l = length-take longestHeld (u ++ more) in omega arith
+module _ (line u more : List ℕ) (room : mostHeldByHost ≤ length line) (n : ℕ) (after : List ℕ) (size : n ≡ length (heldFrom u more)) (lies : after ≡ laid line 0 (heldFrom u more)) where
+  few : length (heldFrom u more) ≤ mostHeldByHost
+  few = let l = length-take mostHeldByHost (u ++ more) in omega arith
 
   pub held-front : take (n - 0) (drop 0 after) ≡ heldFrom u more
   held-front =
@@ -216,12 +216,12 @@ module _ (line u more : List ℕ) (room : longestHeld ≤ length line) (n : ℕ)
       let l = laid-length line 0 (heldFrom u more) (omega arith) in
       rw lies (omega arith)
 
-  pub held-few : length (take (n - 0) (drop 0 after)) ≤ longestHeld
+  pub held-few : length (take (n - 0) (drop 0 after)) ≤ mostHeldByHost
   held-few = rw held-front few
 
 -- ## A buffer that is long enough
 
-pub lent-room : (line : List ℕ) (held : ℕ) (bytes : List ℕ) (at : ℕ) (ended : Bool) → longestHeld ≤ length line → (a : Answer) (after : List ℕ)
+pub lent-room : (line : List ℕ) (held : ℕ) (bytes : List ℕ) (at : ℕ) (ended : Bool) → mostHeldByHost ≤ length line → (a : Answer) (after : List ℕ)
     → a ≡ lentAnswer line held bytes at ended → after ≡ lentLeaves line held bytes at
     → (a ≡ nextAnswer line held bytes at ended) × (after ≡ nextLeaves line held bytes at)
-lent-room line held bytes at ended room a after h k = let long = le-leb longestHeld (length line) room in (rw long at h, rw long at k)
+lent-room line held bytes at ended room a after h k = let long = le-leb mostHeldByHost (length line) room in (rw long at h, rw long at k)

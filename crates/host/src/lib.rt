@@ -6,7 +6,7 @@ ghost use mathlib.Core.Path.{_≡_};
 ghost use Prim.Native.Nat.{_≤_, min};
 ghost use lib.ListN.{length, take};
 ghost use Rattle.basic_laws.specs.Laid.{laid};
-ghost use Rattle.host.specs.HostNaming.{longestHeld, numberTold, toldName, openTold, heldFrom, lentAnswer, lentLeaves};
+ghost use Rattle.host.specs.HostNaming.{mostHeldByHost, numberTold, toldName, openTold, heldFrom, lentAnswer, lentLeaves};
 use naming::Named;
 use text::laying;
 
@@ -82,7 +82,7 @@ fn tell_none(kind: u32, held: usize, next: usize) -> Answer
 
 // A line that has no feed: it goes on in the next piece, or it is the last of the recording.
 fn tell_open(line: &[u8], ended: bool, next: usize) -> Answer
-    requires { ⌜ length (now line) ≤ longestHeld ⌝ }
+    requires { ⌜ length (now line) ≤ mostHeldByHost ⌝ }
     ensures { λ r. ⌜ r ≡ openTold (now (line .entry)) ended next ⌝ }
 {
     if !ended {
@@ -97,7 +97,7 @@ fn tell_open(line: &[u8], ended: bool, next: usize) -> Answer
 // Characters behind those that are held, as many as tell that a line is over-long; the answer is how
 // many are held then.
 fn hold(line: &mut [u8], held: usize, more: &[u8]) -> usize
-    requires { ⌜ longestHeld ≤ length (now line) ⌝ }
+    requires { ⌜ mostHeldByHost ≤ length (now line) ⌝ }
     ensures answer { λ r. ⌜ r ≡ length (heldFrom (take held (now (line .entry))) (now (more .entry))) ⌝ }
     ensures written { λ r. ⌜ now (line .exit) ≡ laid (now (line .entry)) 0 (heldFrom (take held (now (line .entry))) (now (more .entry))) ⌝ }
 {

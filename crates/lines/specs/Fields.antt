@@ -56,15 +56,15 @@ abbrev pub pinsIn : List ℕ → NumberRead
 pinsIn w = decimalRead 3 255 w
 
 -- the count of a number without a minus
-abbrev pub above : NumberRead → CountRead
-above n = record { valid = n .valid; count = record { 0 = pos (n .number) } }
+abbrev pub positiveCount : NumberRead → CountRead
+positiveCount n = record { valid = n .valid; count = record { 0 = pos (n .number) } }
 
 -- the count of a number behind a minus
-abbrev pub below : NumberRead → CountRead
-below n = record { valid = n .valid; count = record { 0 = negℤ (pos (n .number)) } }
+abbrev pub negativeCount : NumberRead → CountRead
+negativeCount n = record { valid = n .valid; count = record { 0 = negℤ (pos (n .number)) } }
 
 unfoldable pub countIn : List ℕ → CountRead
-countIn w = if isNegative w then below (decimalRead mostDigits 32768 (drop 1 w)) else above (decimalRead mostDigits 32767 w)
+countIn w = if isNegative w then negativeCount (decimalRead mostDigits 32768 (drop 1 w)) else positiveCount (decimalRead mostDigits 32767 w)
 
 abbrev pub settings : NumberRead → NumberRead → NumberRead → SettingsRead
 settings h l c = record {

@@ -13,7 +13,7 @@ use Prim.Native.Nat.{ℕ, zero, suc, _+_, _<_}
 use native.Mathlib.Omega.{arith}
 use lib.ListN.{length}
 use Rattle.basic_laws.specs.Fold.{all}
-use Rattle.search_laws.specs.Codes.{Code, first, rest}
+use Rattle.search_laws.specs.Codes.{Code, first, otherBits}
 use Rattle.basic_laws.specs.Each.{Each}
 use Rattle.search_laws.specs.Pass.{Triple, triple, Plan, choice, onSome, found, next}
 use Rattle.search_laws.specs.Paths.{agrees}
@@ -93,18 +93,18 @@ module _ {B : Bus} {M : Model} (C : Carries B M) {command : List Bool} {n : ℕ}
         let q1 = by-slot true ds (each-sits Z P (Z .Own (length p)) (K .at-own (length p) l) (K .at-out) p (C .live ds) s) q in
         let q2 = by-slot true once (each-sits Z P (Z .Co (length p)) (K .at-co (length p) l) (K .at-out) p (C .live once) (sits-co C Z p l ds s)) q1 in
         let w = each-sits Z P (Z .Way (length p)) (K .at-way (length p) l) (K .at-out) p (C .live two) (sits-way-next C Z p l ds s) in
-        let i : (d : Bool) → (triplets other m (rest plan) (B .after d two) ≡ triplets B m (rest plan) (B .after d two))
-        × Q (triplets B m (rest plan) (B .after d two) .devices) =
-        λ d. triplets-same m (rest plan) (p ++ d ∷ []) (B .after d two) (omega (arith, length-snoc p d)) (rw length-snoc (sits-on C Z p l ds s d)) (by-slot d two w q2) in
+        let i : (d : Bool) → (triplets other m (otherBits plan) (B .after d two) ≡ triplets B m (otherBits plan) (B .after d two))
+        × Q (triplets B m (otherBits plan) (B .after d two) .devices) =
+        λ d. triplets-same m (otherBits plan) (p ++ d ∷ []) (B .after d two) (omega (arith, length-snoc p d)) (rw length-snoc (sits-on C Z p l ds s d)) (by-slot d two w q2) in
         rw (same-line true ds q, same-after true ds q, same-line true once q1, same-after true once q1)
         (by-choice (B .line true ds) (B .line true once) two q2 i (choice (B .line true ds) (B .line true once) (first plan)))
       where
         by-choice : (a b : Bool) (two : B .Devices) → Q two
-            → ((d : Bool) → (triplets other m (rest plan) (B .after d two) ≡ triplets B m (rest plan) (B .after d two)) × Q (triplets B m (rest plan) (B .after d two) .devices))
+            → ((d : Bool) → (triplets other m (otherBits plan) (B .after d two) ≡ triplets B m (otherBits plan) (B .after d two)) × Q (triplets B m (otherBits plan) (B .after d two) .devices))
             → (o : Option Bool)
-            → (onSome o (passed none (a ∷ b ∷ []) two) (λ d. withTriple (triple a b d) (line d two) (triplets other m (rest plan) (after d two)))
-            ≡ onSome o (passed none (a ∷ b ∷ []) two) (λ d. withTriple (triple a b d) (B .line d two) (triplets B m (rest plan) (B .after d two))))
-            × Q (onSome o (passed none (a ∷ b ∷ []) two) (λ d. withTriple (triple a b d) (B .line d two) (triplets B m (rest plan) (B .after d two))) .devices)
+            → (onSome o (passed none (a ∷ b ∷ []) two) (λ d. withTriple (triple a b d) (line d two) (triplets other m (otherBits plan) (after d two)))
+            ≡ onSome o (passed none (a ∷ b ∷ []) two) (λ d. withTriple (triple a b d) (B .line d two) (triplets B m (otherBits plan) (B .after d two))))
+            × Q (onSome o (passed none (a ∷ b ∷ []) two) (λ d. withTriple (triple a b d) (B .line d two) (triplets B m (otherBits plan) (B .after d two))) .devices)
         by-choice a b two r i none = (refl, r)
         by-choice a b two r i (some d) = (rw (same-line d two r, same-after d two r, i d .0), i d .1)
 

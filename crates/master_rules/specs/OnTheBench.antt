@@ -31,7 +31,7 @@ use Rattle.basic_laws.specs.Each.{Each, Distinct, those}
 use Rattle.search_laws.specs.Listing.{inOrder}
 use Rattle.search_laws.specs.Wire.{Search, searched, passOffers, slots, wireSearch}
 use Rattle.search_laws.specs.Searchers.{Carries, Searchers, participants}
-use Rattle.search_laws.specs.Complete.{Complete, swept}
+use Rattle.search_laws.specs.Complete.{Complete, sweptPasses}
 use Rattle.search_laws.specs.CompleteLaws.{search-is, search-nobody}
 use Rattle.search_laws.specs.Numbers.{Below, Numbered}
 use Rattle.search_laws.specs.NumbersLaws.{numbers-complete, numbers-listed, bits-sized, bits-distinct}
@@ -142,7 +142,7 @@ module _ {command : List Bool} (Z : Searchers thermometers command 64) (K : Keep
     complete : Complete slotRule command 64 (map (bitsOf 64) ns) b (wireSearch slotRule command fuel 64 b)
     complete = numbers-complete onBench Z fuel b ns e l d h f
 
-    in-passes : wireSearch slotRule command fuel 64 b ≡ swept slotRule command (inOrder 64 (map (bitsOf 64) ns)) b
+    in-passes : wireSearch slotRule command fuel 64 b ≡ sweptPasses slotRule command (inOrder 64 (map (bitsOf 64) ns)) b
     in-passes =
         rw e at
         (search-is onBench Z fuel b (rw e (bits-sized 64 ns)) (rw e (bits-distinct 64 ns l d)) (rw e (some-bits ns h)) (rw (e, length-map ns (bitsOf 64)) f))
@@ -229,7 +229,7 @@ module _ (fuel : ℕ) (b : Bench) where
     pub search-complete : Complete slotRule searchBits 64 (map (bitsOf 64) (codesOf b)) b (searchOn fuel b)
     search-complete = complete everybody everybody-keeps everybody-course fuel b (codesOf b) (everybody-codes (live b)) l d h f
 
-    pub search-passes : searchOn fuel b ≡ swept slotRule searchBits (inOrder 64 (map (bitsOf 64) (codesOf b))) b
+    pub search-passes : searchOn fuel b ≡ sweptPasses slotRule searchBits (inOrder 64 (map (bitsOf 64) (codesOf b))) b
     search-passes = in-passes everybody everybody-keeps everybody-course fuel b (codesOf b) (everybody-codes (live b)) l d h f
 
 -- ## ECh
@@ -259,7 +259,7 @@ module _ (fuel : ℕ) (b : Bench) where
     alarm-complete =
         complete flagged flagged-keeps flagged-course fuel b (flaggedCodes b) (flagged-codes (live b)) (flagged-below b l) (flagged-distinct b d) h f
 
-    pub alarm-passes : alarmSearchOn fuel b ≡ swept slotRule alarmBits (inOrder 64 (map (bitsOf 64) (flaggedCodes b))) b
+    pub alarm-passes : alarmSearchOn fuel b ≡ sweptPasses slotRule alarmBits (inOrder 64 (map (bitsOf 64) (flaggedCodes b))) b
     alarm-passes =
         in-passes flagged flagged-keeps flagged-course fuel b (flaggedCodes b) (flagged-codes (live b)) (flagged-below b l) (flagged-distinct b d) h f
 

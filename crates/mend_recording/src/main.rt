@@ -6,7 +6,7 @@ ghost use mathlib.Core.Path.{_≡_};
 ghost use lib.ListN.{length, take};
 ghost use Rattle.pieces.specs.Pieces.{Stepped, Ran, Sayable};
 ghost use Rattle.mending.specs.Mending.{mendedBytes};
-ghost use Rattle.mending.specs.Claims.{longestHeld};
+ghost use Rattle.mending.specs.Claims.{mostHeldOfMending};
 ghost use Rattle.mending.specs.MendingText.{pieceAnswer, pieceKept};
 ghost use Rattle.mending.specs.Notice.{noticesAnswer, Tellable};
 use libc::STDERR_FILENO;
@@ -95,7 +95,7 @@ fn next_piece(
 ) -> Piece
     requires { ⌜ (held ≤ length (now buffer)) × (length (now buffer) ≤ length (now left)) × (length (now buffer) ≤ length (now report)) ⌝ }
     ensures answer { λ r. ⌜ r .held ≤ length (now (buffer .entry)) ⌝ }
-    ensures kept { λ r. ⌜ Stepped longestHeld (take held (now (buffer .entry))) (take (r .held) (now (buffer .exit))) ⌝ }
+    ensures kept { λ r. ⌜ Stepped mostHeldOfMending (take held (now (buffer .entry))) (take (r .held) (now (buffer .exit))) ⌝ }
 {
     let filled = read_behind(buffer, held);
     if filled == held {
@@ -113,7 +113,7 @@ fn next_piece(
 fn mend_pieces(buffer: &mut [u8], left: &mut [u8], report: &mut [u8]) -> Piece
     requires { ⌜ (length (now buffer) ≤ length (now left)) × (length (now buffer) ≤ length (now report)) ⌝ }
     ensures answer { λ r. ⌜ r .held ≤ length (now (buffer .entry)) ⌝ }
-    ensures kept { λ r. ⌜ Ran longestHeld (take (r .held) (now (buffer .exit))) ⌝ }
+    ensures kept { λ r. ⌜ Ran mostHeldOfMending (take (r .held) (now (buffer .exit))) ⌝ }
 {
     let mut piece = Piece {
         more: true,

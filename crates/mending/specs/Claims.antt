@@ -2,7 +2,7 @@
 --     leftOf ls              the lines that are written for lines, in order
 --     MendedSound s          the claim of one text
 --     MendingClaim           that of every text
---     longestHeld            as many characters of an unfinished line as tell that it is over-long
+--     mostHeldOfMending            as many characters of an unfinished line as tell that it is over-long
 --     CutsClaim              that of every text cut anywhere
 -- Assumes nothing.
 use Prim.Native.Nat.{ℕ, _≤_}
@@ -35,8 +35,8 @@ abbrev pub MendingClaim : Type 0
 MendingClaim = (s : List ℕ) → MendedSound s
 
 -- as many characters of an unfinished line as tell that it is over-long
-abbrev pub longestHeld : ℕ
-longestHeld = 257
+abbrev pub mostHeldOfMending : ℕ
+mostHeldOfMending = 257
 
 -- the report on a line, as what is said for it
 abbrev pub reportSaid : Line → List ℕ
@@ -44,5 +44,5 @@ reportSaid l = reportByte l ∷ []
 
 -- what is written, and what is reported, for the pieces of a text is that of the whole
 pub record CutsClaim (cs : List (List ℕ)) : Type 0 where
-  pub text : pieces mendedBytes longestHeld [] cs ≡ mendedText (together cs)
-  pub report : pieces reportSaid longestHeld [] cs ≡ reports (together cs)
+  pub text : pieces mendedBytes mostHeldOfMending [] cs ≡ mendedText (together cs)
+  pub report : pieces reportSaid mostHeldOfMending [] cs ≡ reports (together cs)

@@ -15,14 +15,14 @@ use Rattle.basic_laws.specs.Each.{Each}
 use Rattle.basic_laws.specs.EachLaws.{each-append}
 use Rattle.refusals.specs.Refusals.{accepted, notHex, malformed}
 use Rattle.text.specs.Lines.{Line, lineFeed, linesOf, linesBytes, lineBytes, width}
-use Rattle.text.specs.LinesLaws.{lines-bytes, lines-cut, bytes-append, digits-no-feed}
+use Rattle.text.specs.LinesLaws.{lines-bytes, lines-cut, line-bytes-append, digits-no-feed}
 use Rattle.pieces.specs.Pieces.{sayAll, together, Enough}
 use Rattle.pieces.specs.Cuts.{any-cuts}
 use Rattle.pieces.specs.Walk.{Short}
 use Rattle.mending.specs.Mending.{mendedChars, alteredBy, lineRefusal, mendedLine, longestMended, Fate, kept, mended, dropped, fateOf, reportByte, left, linesLeft, mendedBytes, mendedText}
 use Rattle.mending.specs.Repair.{mended-fewer}
 use Rattle.mending.specs.LineLaws.{reading, fate-kept, fate-long}
-use Rattle.mending.specs.Claims.{leftOf, MendingClaim, longestHeld, reportSaid, CutsClaim}
+use Rattle.mending.specs.Claims.{leftOf, MendingClaim, mostHeldOfMending, reportSaid, CutsClaim}
 
 abbrev Readable : Line → Type 0
 Readable l = lineRefusal l ≡ accepted
@@ -51,7 +51,7 @@ all-read (l ∷ ls) = each-append Readable (linesLeft l) (leftOf ls) (line-reads
 said-left : (ls : List Line) → sayAll mendedBytes ls ≡ linesBytes (leftOf ls)
 unfolding sayAll leftOf linesBytes
 said-left [] = refl
-said-left (l ∷ ls) = rw (said-left ls) (sym (bytes-append (linesLeft l) (leftOf ls)))
+said-left (l ∷ ls) = rw (said-left ls) (sym (line-bytes-append (linesLeft l) (leftOf ls)))
 
 -- lines that read, put together, are cut as they were
 cut-back : (ms : List Line) → Each Readable ms → linesOf (linesBytes ms) ≡ ms
@@ -135,21 +135,21 @@ unfolding sayAll
 reports-said [] = refl
 reports-said (l ∷ ls) = ap (λ (bs : List ℕ). reportByte l ∷ bs) (reports-said ls)
 
-long-dropped : (l : Line) → longestHeld ≤ length (l .chars) → fateOf l ≡ dropped malformed
+long-dropped : (l : Line) → mostHeldOfMending ≤ length (l .chars) → fateOf l ≡ dropped malformed
 long-dropped l h = let k : longestMended < length (l .chars) = omega arith in fate-long l k
 
-same-outcome : (l m : Line) → longestHeld ≤ length (l .chars) → longestHeld ≤ length (m .chars)
+same-outcome : (l m : Line) → mostHeldOfMending ≤ length (l .chars) → mostHeldOfMending ≤ length (m .chars)
     → (linesBytes (left l (fateOf l)) ≡ linesBytes (left m (fateOf m))) × (reportSaid l ≡ reportSaid m)
 same-outcome l m a b = rw (long-dropped l a, long-dropped m b) (refl, refl)
 
-pub mended-enough : Enough mendedBytes longestHeld
+pub mended-enough : Enough mendedBytes mostHeldOfMending
 mended-enough = record { some = lit< tt; same = λ l m a b agree fed. same-outcome l m a b .0 }
 
-pub report-enough : Enough reportSaid longestHeld
+pub report-enough : Enough reportSaid mostHeldOfMending
 report-enough = record { some = lit< tt; same = λ l m a b agree fed. same-outcome l m a b .1 }
 
 pub mending-cuts : (cs : List (List ℕ)) → CutsClaim cs
 mending-cuts cs = record {
-  text = any-cuts mendedBytes longestHeld mended-enough cs;
-  report = any-cuts reportSaid longestHeld report-enough cs ∙ reports-said (linesOf (together cs));
+  text = any-cuts mendedBytes mostHeldOfMending mended-enough cs;
+  report = any-cuts reportSaid mostHeldOfMending report-enough cs ∙ reports-said (linesOf (together cs));
 }

@@ -22,7 +22,7 @@ use Rattle.pieces.specs.Pieces.{sayAll, said, whole, rest, saidWhole, carried, 
 use Rattle.pieces.specs.Cuts.{parts, rest-plain, alone-open}
 use Rattle.pieces.specs.Walk.{Told, Running, running-start, here-room, here-within, running-more, running-done, running-open}
 use Rattle.mending.specs.Mending.{mendedBytes, mendedText, reportByte}
-use Rattle.mending.specs.Claims.{longestHeld, reportSaid}
+use Rattle.mending.specs.Claims.{mostHeldOfMending, reportSaid}
 use Rattle.mending.specs.ClaimsLaws.{mended-short, report-short, reports-said}
 use Rattle.mending.specs.LineLaws.{open-dropped}
 use Rattle.mending.specs.declared.texts.LinesMended.{LinesMended}
@@ -36,11 +36,11 @@ pub record Through (s : List ℕ) (p : LinesMended) : Type 0 where
   pub noted : Told reportSaid 1 s record { written = p .lines; next = p .next }
 
 -- the walk's invariant
-pub record Walking (s out₀ report₀ : List ℕ) (at written lines : ℕ) (out report : List ℕ) : Type 0 where
+pub record MendingWalk (s out₀ report₀ : List ℕ) (at written lines : ℕ) (out report : List ℕ) : Type 0 where
   pub text : Running mendedBytes 1 s out₀ at written out
   pub noted : Running reportSaid 1 s report₀ at lines report
 
-pub walking-start : (s out report : List ℕ) → Walking s out report 0 0 0 out report
+pub walking-start : (s out report : List ℕ) → MendingWalk s out report 0 0 0 out report
 walking-start s out report = record { text = running-start mendedBytes 1 s out; noted = running-start reportSaid 1 s report }
 
 -- the lines that have their feed are some of the lines
@@ -60,13 +60,13 @@ notes-length [] = refl
 notes-length (l ∷ ls) = let i = notes-length ls in omega arith
 
 module _ (s out₀ report₀ : List ℕ) (room : length s ≤ length out₀) (places : length (linesOf s) ≤ length report₀) (at written lines : ℕ) (out report : List ℕ)
-    (w : Walking s out₀ report₀ at written lines out report) where
+    (w : MendingWalk s out₀ report₀ at written lines out report) where
   -- the line that ends at e, with its feed
   pub walking-more : (e : ℕ) → at < length s → at + feedAt (drop at s) ≡ e → e < length s →
       let l : Line = record { chars = take (e - at) (drop at s); fed = true } in
       (x : Written) (next : List ℕ) → x ≡ layAnswer out written (mendedBytes l) → next ≡ layLeaves out written (mendedBytes l)
       → (y : Written) (noted : List ℕ) → y ≡ layAnswer report lines (reportByte l ∷ []) → noted ≡ layLeaves report lines (reportByte l ∷ [])
-      → Walking s out₀ report₀ (e + 1) (x .next) (y .next) next noted
+      → MendingWalk s out₀ report₀ (e + 1) (x .next) (y .next) next noted
   walking-more e before ends fed x next p q y noted r t =
       let all-noted : length (saidWhole reportSaid s) ≤ length report₀ = let a = notes-length (whole (linesOf s)) in let b = whole-fewer (linesOf s) in omega arith in
       let in-text = here-room mendedBytes 1 mended-short s out₀ at written out (w .text) e before ends fed (omega arith) in
@@ -137,14 +137,14 @@ module _ (s out report : List ℕ) where
         let c = through .noted .text in
         (omega arith, omega arith)
 
-    pub piece-done : (held : ℕ) (kept : List ℕ) → held ≡ length (take longestHeld (drop (p .next) s)) → kept ≡ laid s 0 (take longestHeld (drop (p .next) s)) →
+    pub piece-done : (held : ℕ) (kept : List ℕ) → held ≡ length (take mostHeldOfMending (drop (p .next) s)) → kept ≡ laid s 0 (take mostHeldOfMending (drop (p .next) s)) →
         let r : PieceMended = record { refusal = accepted; written = p .written; lines = p .lines; held = held } in
         ((r ≡ pieceAnswer s out report) × PieceWithin s out report r)
         × ((kept ≡ pieceKept s out report) × ((laid out 0 (saidWhole mendedBytes s) ≡ pieceWritten s out report) × (laid report 0 (saidWhole reportSaid s) ≡ pieceReported s out report)))
     piece-done held kept h k =
         let a = rw (through .text .left) at h in
         let b = rw (through .text .left) at k in
-        let size = length-take longestHeld (drop (p .next) s) in
+        let size = length-take mostHeldOfMending (drop (p .next) s) in
         let back = length-drop (p .next) s in
         let lines = noted-within in
         let ok : PieceWithin s out report record { refusal = accepted; written = p .written; lines = p .lines; held = held } = record { text = written-within; noted = lines .1; carries = omega arith } in
@@ -237,10 +237,10 @@ module _ (s out report : List ℕ) where
 
   -- what a call leaves at the front of its buffer is what is carried over, whatever stands behind the piece
   pub front-held : length s ≤ length out → length (linesOf s) ≤ length report → (held : ℕ) (kept behind : List ℕ)
-      → held ≡ pieceAnswer s out report .held → kept ≡ pieceKept s out report → take held (kept ++ behind) ≡ carried longestHeld s
+      → held ≡ pieceAnswer s out report .held → kept ≡ pieceKept s out report → take held (kept ++ behind) ≡ carried mostHeldOfMending s
   unfolding laid
   front-held room places held kept behind h k =
-      let x = carried longestHeld s in
+      let x = carried mostHeldOfMending s in
       let size : held ≡ length x = h ∙ rw (le-leb (length s) (length out) room, le-leb (length (linesOf s)) (length report) places) refl in
       let laid-there : kept ≡ x ++ drop (0 + length x) s = k ∙ rw (le-leb (length s) (length out) room, le-leb (length (linesOf s)) (length report) places) refl in
       rw (size, laid-there, append-assoc x (drop (0 + length x) s) behind) (take-append-seam x (drop (0 + length x) s ++ behind))

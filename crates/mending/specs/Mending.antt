@@ -51,13 +51,13 @@ abbrev pub mendedChars : List ℕ → List ℕ
 mendedChars cs = unspaced (unreturned (map raised cs))
 
 -- the number of a step where it altered the characters
-abbrev pub altered : ℕ → List ℕ → List ℕ → ℕ
-altered step before after = if same before after then 0 else step
+abbrev pub stepMark : ℕ → List ℕ → List ℕ → ℕ
+stepMark step before after = if same before after then 0 else step
 
 -- the sum of the numbers of those that altered the line
 abbrev pub alteredBy : List ℕ → ℕ
 alteredBy cs =
-    altered 1 cs (map raised cs) + altered 2 (map raised cs) (unreturned (map raised cs)) + altered 4 (unreturned (map raised cs)) (mendedChars cs)
+    stepMark 1 cs (map raised cs) + stepMark 2 (map raised cs) (unreturned (map raised cs)) + stepMark 4 (unreturned (map raised cs)) (mendedChars cs)
 
 -- ## What becomes of a line
 

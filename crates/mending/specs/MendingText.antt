@@ -16,7 +16,7 @@ use Rattle.refusals.specs.Refusals.{accepted, noRoom}
 use Rattle.text.specs.Lines.{linesOf}
 use Rattle.pieces.specs.Pieces.{whole, saidWhole, carried}
 use Rattle.mending.specs.Mending.{mendedBytes, mendedText, reports}
-use Rattle.mending.specs.Claims.{longestHeld, reportSaid}
+use Rattle.mending.specs.Claims.{mostHeldOfMending, reportSaid}
 use Rattle.mending.specs.declared.texts.TextMended.{TextMended}
 use Rattle.mending.specs.declared.texts.PieceMended.{PieceMended}
 
@@ -42,11 +42,11 @@ module _ (s out report : List ℕ) where
 
   abbrev pub pieceAnswer : PieceMended
   pieceAnswer =
-      if textRoom then record { refusal = accepted; written = length (saidWhole mendedBytes s); lines = length (whole (linesOf s)); held = length (carried longestHeld s) }
+      if textRoom then record { refusal = accepted; written = length (saidWhole mendedBytes s); lines = length (whole (linesOf s)); held = length (carried mostHeldOfMending s) }
       else record { refusal = noRoom; written = 0; lines = 0; held = 0 }
 
   abbrev pub pieceKept : List ℕ
-  pieceKept = if textRoom then laid s 0 (carried longestHeld s) else s
+  pieceKept = if textRoom then laid s 0 (carried mostHeldOfMending s) else s
 
   abbrev pub pieceWritten : List ℕ
   pieceWritten = if textRoom then laid out 0 (saidWhole mendedBytes s) else out

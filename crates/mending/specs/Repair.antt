@@ -12,7 +12,7 @@ use lib.Seq.{take-take}
 use Rattle.basic_laws.specs.Choice.{if_then_else_}
 use Rattle.basic_laws.specs.Same.{same}
 use Rattle.mending.specs.declared.Repair.{Repair}
-use Rattle.mending.specs.Mending.{raised, unreturned, unspaced, mendedChars, altered, alteredBy}
+use Rattle.mending.specs.Mending.{raised, unreturned, unspaced, mendedChars, stepMark, alteredBy}
 use Rattle.mending.specs.StepLaws.{unreturned-take, unspaced-take, altered-shorter}
 
 pub record Repaired (cs : List ℕ) (r : Repair) : Type 0 where
@@ -23,7 +23,7 @@ pub record Repaired (cs : List ℕ) (r : Repair) : Type 0 where
   pub small : r .altered < 8
   pub room : length (r .chars) ≡ 257
 
-altered-most : (step : ℕ) (before after : List ℕ) → altered step before after ≤ step
+altered-most : (step : ℕ) (before after : List ℕ) → stepMark step before after ≤ step
 altered-most step before after = by-test (same before after)
   where
     by-test : (t : Bool) → (if t then 0 else step) ≤ step
@@ -73,11 +73,11 @@ module _ (cs chars : List ℕ) (laid-there : take (length cs) chars ≡ map rais
       let at-return = return-place .0 in
       let part : take returned chars ≡ u = ap (λ (n : ℕ). take n chars) at-return ∙ return-part cs chars laid-there in
       let at-spaces : spaced ≡ length (unspaced u) = s ∙ ap (λ (x : List ℕ). length (unspaced x)) part in
-      let first : one ≡ altered 1 cs raise = p ∙ ap (λ (x : List ℕ). altered 1 cs x) laid-there in
-      let second : two ≡ altered 2 raise u =
+      let first : one ≡ stepMark 1 cs raise = p ∙ ap (λ (x : List ℕ). stepMark 1 cs x) laid-there in
+      let second : two ≡ stepMark 2 raise u =
       q ∙ ap (λ (n : ℕ). if eqb n (length cs) then 0 else 2) at-return ∙ ap (λ (n : ℕ). if eqb (length u) n then 0 else 2) (sym (length-map cs raised))
       ∙ sym (altered-shorter 2 raise u (unreturned-take raise .0) (unreturned-take raise .1)) in
-      let third : four ≡ altered 4 u (unspaced u) =
+      let third : four ≡ stepMark 4 u (unspaced u) =
       w ∙ ap (λ (n : ℕ). if eqb n returned then 0 else 4) at-spaces ∙ ap (λ (n : ℕ). if eqb (length (unspaced u)) n then 0 else 4) at-return
       ∙ sym (altered-shorter 4 u (unspaced u) (unspaced-take u .0) (unspaced-take u .1)) in
       record {

@@ -22,7 +22,7 @@ use Rattle.basic_laws.specs.SameLaws.{same-equal, same-itself, same-lengths}
 use Rattle.text.specs.Digits.{isDigit, spells, valueOf}
 use Rattle.text.specs.DigitsLaws.{value-below, value-above}
 use Rattle.text.specs.Lines.{carriageReturn, space}
-use Rattle.mending.specs.Mending.{raised, unreturned, isSpace, unspaced, mendedChars, altered, alteredBy}
+use Rattle.mending.specs.Mending.{raised, unreturned, isSpace, unspaced, mendedChars, stepMark, alteredBy}
 
 -- ## Spaces from the end
 
@@ -77,10 +77,10 @@ unreturned-take cs = by-test (eqb (getD cs (length cs - 1) 0) carriageReturn)
 -- ## Which step altered the line
 
 pub altered-shorter : (step : ℕ) (before after : List ℕ) → length after ≤ length before → after ≡ take (length after) before
-    → altered step before after ≡ (if eqb (length after) (length before) then 0 else step)
+    → stepMark step before after ≡ (if eqb (length after) (length before) then 0 else step)
 altered-shorter step before after fewer front = by-test (eqb (length after) (length before)) refl
   where
-    by-test : (t : Bool) → eqb (length after) (length before) ≡ t → altered step before after ≡ (if t then 0 else step)
+    by-test : (t : Bool) → eqb (length after) (length before) ≡ t → stepMark step before after ≡ (if t then 0 else step)
     by-test true e =
         let size = eqb-true (length after) (length before) e in
         let one : after ≡ before = front ∙ take-all (length after) before (omega arith) in
@@ -89,7 +89,7 @@ altered-shorter step before after fewer front = by-test (eqb (length after) (len
         let size = eqb-false (length after) (length before) e in
         rw (same-lengths before after (λ k. size (sym k)))
 
-altered-none : (step : ℕ) (before after : List ℕ) → 0 < step → altered step before after ≡ 0 → after ≡ before
+altered-none : (step : ℕ) (before after : List ℕ) → 0 < step → stepMark step before after ≡ 0 → after ≡ before
 altered-none step before after some e = by-test (same before after) refl e
   where
     by-test : (t : Bool) → same before after ≡ t → (if t then 0 else step) ≡ 0 → after ≡ before
@@ -99,9 +99,9 @@ altered-none step before after some e = by-test (same before after) refl e
 pub unaltered-same : (cs : List ℕ) → alteredBy cs ≡ 0 → mendedChars cs ≡ cs
 unaltered-same cs e =
     let r = map raised cs in
-    let one : altered 1 cs r ≡ 0 = omega arith in
-    let two : altered 2 r (unreturned r) ≡ 0 = omega arith in
-    let four : altered 4 (unreturned r) (mendedChars cs) ≡ 0 = omega arith in
+    let one : stepMark 1 cs r ≡ 0 = omega arith in
+    let two : stepMark 2 r (unreturned r) ≡ 0 = omega arith in
+    let four : stepMark 4 (unreturned r) (mendedChars cs) ≡ 0 = omega arith in
     altered-none 4 (unreturned r) (mendedChars cs) (omega arith) four ∙ altered-none 2 r (unreturned r) (omega arith) two ∙ altered-none 1 cs r (omega arith) one
 
 -- ## A line of digits

@@ -1,6 +1,6 @@
 -- What a pass of a search shows, by its slots, when it lists a code.
---     lists n c              a name with a code and no reading
---     Listing code ss        the slots behind the command list the code
+--     listsCode n c              a name with a code and no reading
+--     PassListing code ss        the slots behind the command list the code
 -- Assumes nothing.
 use Prim.Native.Nat.{ℕ, _^_, _<_}
 use mathlib.Core.Path.{_≡_}
@@ -14,11 +14,11 @@ use Rattle.naming.specs.declared.Named.{Named}
 use Rattle.naming.specs.Naming.{triplesAllowed, thirds}
 
 -- a name with a code and no reading
-abbrev pub lists : Name → ℕ → Named
-lists n c = record { refusal = accepted; name = n; code = c; raw = 0 }
+abbrev pub listsCode : Name → ℕ → Named
+listsCode n c = record { refusal = accepted; name = n; code = c; raw = 0 }
 
 -- slots that a pass shows after its command when it lists a code: allowed triples whose third bits are the code's
-pub record Listing (code : ℕ) (ss : List Bool) : Type 0 where
+pub record PassListing (code : ℕ) (ss : List Bool) : Type 0 where
   pub long : length ss ≡ 192
   pub allowed : triplesAllowed ss ≡ true
   pub bits-are : thirds ss ≡ codeBits code

@@ -16,7 +16,7 @@ use Rattle.frame.specs.declared.Frame.{Frame}
 use Rattle.frame.specs.Frames.{slotsOf, blankFrame, Recorded}
 use Rattle.naming.specs.declared.Name.the-variants.{Empty, Search, Alarm, Nobody}
 use Rattle.naming.specs.Naming.{named, plain, byteOf, searches, thirds, passSlots}
-use Rattle.naming.specs.Passes.{lists, Listing}
+use Rattle.naming.specs.Passes.{listsCode, PassListing}
 
 -- the first byte of a frame is what its first eight slots send
 first-byte : (command : ℕ) (ss : List Bool) (f : Frame) → command < 256 → Recorded (bitsOf 8 command ++ ss) f → byteOf f 0 ≡ command
@@ -34,7 +34,7 @@ first-byte command ss f h r = by-bytes (f .bits) refl
         let same : bitsOf 8 b ≡ bitsOf 8 command = sym front ∙ ap (take 8) (r .slots) ∙ take-at (bitsOf 8 command) ss 8 (bits-length 8 command) in
         sym (number-bits 8 b small) ∙ ap numberOf same ∙ number-bits 8 command h
 
-module _ (code : ℕ) (ss : List Bool) (l : Listing code ss) (f : Frame) where
+module _ (code : ℕ) (ss : List Bool) (l : PassListing code ss) (f : Frame) where
   pass-count : (command : ℕ) → Recorded (bitsOf 8 command ++ ss) f → f .count ≡ 200
   pass-count command r =
       let n = r .total ∙ length-append (bitsOf 8 command) ss in let b = bits-length 8 command in let s = l .long in
@@ -48,13 +48,13 @@ module _ (code : ℕ) (ss : List Bool) (l : Listing code ss) (f : Frame) where
   code-read = ap numberOf (l .bits-are) ∙ number-bits 64 code (l .small)
 
   -- a pass of a search is named SEARCH with the code it lists
-  pub search-named : Recorded (bitsOf 8 searchRom ++ ss) f → named f ≡ lists Search code
+  pub search-named : Recorded (bitsOf 8 searchRom ++ ss) f → named f ≡ listsCode Search code
   unfolding named
   search-named r =
       rw (r .shown, pass-count searchRom r, first-byte searchRom ss f (lit< tt) r, pass-read searchRom r, l .allowed, code-read, l .sound)
 
   -- a pass of an alarm search is named ALARM with the code it lists
-  pub alarm-named : Recorded (bitsOf 8 alarmSearch ++ ss) f → named f ≡ lists Alarm code
+  pub alarm-named : Recorded (bitsOf 8 alarmSearch ++ ss) f → named f ≡ listsCode Alarm code
   unfolding named
   alarm-named r =
       rw (r .shown, pass-count alarmSearch r, first-byte alarmSearch ss f (lit< tt) r, pass-read alarmSearch r, l .allowed, code-read, l .sound)

@@ -8,10 +8,10 @@ use mathlib.Core.List.{List, [], _∷_}
 use native.Mathlib.Omega.{arith}
 use native.Mathlib.Nat.{pow-suc}
 use lib.ListN.{length}
-use Rattle.packed_bench.specs.Bytes.{eightAt, bytesOf, codeOf}
+use Rattle.packed_bench.specs.Bytes.{eightAt, bytesLowFirst, codeFromBytes}
 
-pub code-back : (n x : ℕ) → x < 256 ^ n → codeOf (bytesOf n x) ≡ x
-unfolding bytesOf codeOf
+pub code-back : (n x : ℕ) → x < 256 ^ n → codeFromBytes (bytesLowFirst n x) ≡ x
+unfolding bytesLowFirst codeFromBytes
 code-back zero x h = omega arith
 code-back (suc n) x h =
     let k : x / 256 < 256 ^ n = omega (arith, pow-suc 256 n) in
@@ -31,6 +31,6 @@ eight-whole (a ∷ b ∷ c ∷ d ∷ e ∷ f ∷ g ∷ i ∷ []) h = refl
 eight-whole (a ∷ b ∷ c ∷ d ∷ e ∷ f ∷ g ∷ i ∷ j ∷ l) h = absurd (omega arith)
 
 pub code-below : (a b c d e f g h : ℕ) → a < 256 → b < 256 → c < 256 → d < 256 → e < 256 → f < 256 → g < 256 → h < 256
-    → codeOf (a ∷ b ∷ c ∷ d ∷ e ∷ f ∷ g ∷ h ∷ []) < 256 ^ 8
-unfolding codeOf
+    → codeFromBytes (a ∷ b ∷ c ∷ d ∷ e ∷ f ∷ g ∷ h ∷ []) < 256 ^ 8
+unfolding codeFromBytes
 code-below a b c d e f g h ha hb hc hd he hf hg hh = omega arith

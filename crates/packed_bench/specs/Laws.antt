@@ -10,15 +10,15 @@ use mathlib.Core.List.{List, [], _∷_, _++_}
 use lib.ListN.{length, getD, replicate}
 use Rattle.basic_laws.specs.Laid.{laid}
 use Rattle.device.specs.declared.Device.{Device}
-use Rattle.packed_bench.specs.Bytes.{bytesOf, codeBytes}
+use Rattle.packed_bench.specs.Bytes.{bytesLowFirst, codeBytes}
 use Rattle.packed_bench.specs.BytesLaws.{code-back, code-below, eight-whole}
 use Rattle.packed_bench.specs.Parts.{truthByte, powerByte, stageCase, activityCase}
 use Rattle.packed_bench.specs.PartsLaws.{truth-back, power-back, reading-back, reading-in, stage-back, activity-back}
-use Rattle.packed_bench.specs.Packed.{caseBytes, settingsBytes, pageBytes, packed, fieldsOf}
+use Rattle.packed_bench.specs.Packed.{caseBytes, settingsBytes, pageBytes, packedDevice, fieldsOf}
 use Rattle.packed_bench.specs.Types.{InTypes}
 
-pub packed-length : (d : Device) → length (packed d) ≡ 48
-unfolding packed bytesOf
+pub packed-length : (d : Device) → length (packedDevice d) ≡ 48
+unfolding packedDevice bytesLowFirst
 packed-length d = refl
 
 -- parts of eight bytes, laid one after another over zeros; the last begins where the zeros of the one before it do
@@ -27,12 +27,12 @@ pub packed-laid : (d : Device) → length (d .scratchpad) ≡ 8 →
     let padded = laid coded 8 (d .scratchpad) in
     let staged = laid padded 16 (caseBytes (stageCase (d .stage)) ++ caseBytes (activityCase (d .activity))) in
     let kept = laid staged 24 (settingsBytes (d .eeprom) ++ (powerByte (d .power) ∷ truthByte (d .alarm) ∷ 0 ∷ 0 ∷ 0 ∷ [])) in
-    laid kept 29 (pageBytes (d .page) ++ (d .pins ∷ 0 ∷ [])) ≡ packed d
-unfolding laid packed bytesOf
+    laid kept 29 (pageBytes (d .page) ++ (d .pins ∷ 0 ∷ [])) ≡ packedDevice d
+unfolding laid packedDevice bytesLowFirst
 packed-laid d whole = rw (← eight-whole (d .scratchpad) whole)
 
-pub fields-back : (d : Device) → InTypes d → fieldsOf (packed d) ≡ d
-unfolding packed fieldsOf bytesOf
+pub fields-back : (d : Device) → InTypes d → fieldsOf (packedDevice d) ≡ d
+unfolding packedDevice fieldsOf bytesLowFirst
 fields-back d f =
     simp (
       code-back 8 (d .code) (f .code-fits),
@@ -45,7 +45,7 @@ fields-back d f =
       reading-back (d .page .reading) (f .reading-fits),
     )
 
-pub packed-one : (d e : Device) → InTypes d → InTypes e → packed d ≡ packed e → d ≡ e
+pub packed-one : (d e : Device) → InTypes d → InTypes e → packedDevice d ≡ packedDevice e → d ≡ e
 packed-one d e f g h = sym (fields-back d f) ∙ ap fieldsOf h ∙ fields-back e g
 
 pub fields-in-types : (t : List ℕ) → ((i : ℕ) → getD t i 0 < 256) → InTypes (fieldsOf t)

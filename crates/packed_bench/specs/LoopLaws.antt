@@ -21,9 +21,9 @@ use Rattle.basic_laws.specs.LaidLaws.{laid-none, laid-then}
 use Rattle.basic_laws.specs.Places.{drop-replicate}
 use Rattle.rom.specs.Code.{sound}
 use Rattle.device.specs.declared.Device.{Device}
-use Rattle.packed_bench.specs.Packed.{packed, fieldsOf}
+use Rattle.packed_bench.specs.Packed.{packedDevice, fieldsOf}
 use Rattle.bench.specs.Bench.{vacant}
-use Rattle.packed_bench.specs.Table.{entryOf, tableOf, devicesIn, absent, codesFit, benchOf}
+use Rattle.packed_bench.specs.Table.{entryBytes, tableOf, devicesIn, absent, codesFit, benchOf}
 use Rattle.packed_bench.specs.TableLaws.{entry-length, table-length}
 
 pub copy-more : (e s : List ℕ) (i : ℕ) → i < length e → i < length s → take i e ≡ take i s
@@ -41,13 +41,13 @@ each-more P l i z h e = rw (add-one i) (each-next P l i z h e)
 -- ## The entry of one place
 
 module _ (devices : List Device) (count place : ℕ) where
-  pub entry-there : (z : Device) → place < count → place < length devices → packed (getD devices place z) ≡ entryOf (drop place (take count devices))
+  pub entry-there : (z : Device) → place < count → place < length devices → packedDevice (getD devices place z) ≡ entryBytes (drop place (take count devices))
   entry-there z h k =
       let few = length-take count devices in
       let l : place < length (take count devices) = omega arith in
       sym (rw (drop-cons (take count devices) place z l, getD-take count devices place z h) refl)
 
-  pub entry-none : count ≤ place → replicate 48 0 ≡ entryOf (drop place (take count devices))
+  pub entry-none : count ≤ place → replicate 48 0 ≡ entryBytes (drop place (take count devices))
   entry-none h =
       let few = length-take count devices in
       let l : length (take count devices) ≤ place = omega arith in
@@ -56,14 +56,14 @@ module _ (devices : List Device) (count place : ℕ) where
 -- ## Writing, entry by entry: what stands there with the rest laid behind it is the whole
 
 pub table-turn : (t : List ℕ) (ds : List Device) (i : ℕ) → i < 32 → 48 * i + 48 ≤ length t
-    → laid t (48 * i) (tableOf (32 - i) (drop i ds)) ≡ laid (laid t (48 * i) (entryOf (drop i ds))) (48 * (i + 1)) (tableOf (32 - (i + 1)) (drop (i + 1) ds))
+    → laid t (48 * i) (tableOf (32 - i) (drop i ds)) ≡ laid (laid t (48 * i) (entryBytes (drop i ds))) (48 * (i + 1)) (tableOf (32 - (i + 1)) (drop (i + 1) ds))
 unfolding tableOf
 table-turn t ds i h room =
     let n : 32 - i ≡ suc (32 - (i + 1)) = omega arith in
     let e = entry-length (drop i ds) in
-    let at : 48 * i + length (entryOf (drop i ds)) ≡ 48 * (i + 1) = omega arith in
+    let at : 48 * i + length (entryBytes (drop i ds)) ≡ 48 * (i + 1) = omega arith in
     let l : 48 * (i + 1) ≤ length t = omega arith in
-    rw n (rw (drop-drop 1 i ds) (sym (laid-then t (48 * i) (entryOf (drop i ds)) (tableOf (32 - (i + 1)) (drop (i + 1) ds)) (48 * (i + 1)) at l)))
+    rw n (rw (drop-drop 1 i ds) (sym (laid-then t (48 * i) (entryBytes (drop i ds)) (tableOf (32 - (i + 1)) (drop (i + 1) ds)) (48 * (i + 1)) at l)))
 
 pub table-end : (t : List ℕ) (ds : List Device) (i : ℕ) → i ≡ 32 → laid t (48 * i) (tableOf (32 - i) (drop i ds)) ≡ t
 unfolding tableOf

@@ -1,5 +1,5 @@
 -- One device as 48 bytes, the layout of docs/TABLE.md.
---     packed d         the bytes of d: each field its own, then zeros
+--     packedDevice d         the bytes of d: each field its own, then zeros
 --     fieldsOf t       the record that is read from bytes, whatever they are
 -- The places: 0 the code, 8 the scratchpad, 16 the stage, 20 the activity, 24 the settings in EEPROM, 27 the power, 28 the alarm
 -- flag, 29 the page (taken, unit, register, high, low), 35 the pins, 36 to 47 zeros. Assumes nothing.
@@ -13,7 +13,7 @@ use Rattle.temperature.specs.declared.Reading.{Reading}
 use Rattle.device.specs.declared.Device.{Device}
 use Rattle.device.specs.declared.Page.{Page}
 use Rattle.device.specs.declared.Settings.{Settings}
-use Rattle.packed_bench.specs.Bytes.{eightAt, codeBytes, codeOf}
+use Rattle.packed_bench.specs.Bytes.{eightAt, codeBytes, codeFromBytes}
 use Rattle.packed_bench.specs.Parts.{truthByte, powerByte, powerOf, unitByte, readingFrom, caseOf, stageCase, stageOf, activityCase, activityOf}
 use Rattle.packed_bench.specs.declared.record_parts.Case.{Case}
 
@@ -33,8 +33,8 @@ pageBytes p = truthByte (p .taken) ∷ readingBytes (p .reading) ++ (p .high ∷
 abbrev pub padding : List ℕ
 padding = 0 ∷ 0 ∷ 0 ∷ 0 ∷ 0 ∷ 0 ∷ 0 ∷ 0 ∷ 0 ∷ 0 ∷ 0 ∷ 0 ∷ []
 
-unfoldable pub packed : Device → List ℕ
-packed d =
+unfoldable pub packedDevice : Device → List ℕ
+packedDevice d =
     codeBytes (d .code)
     ++ eightAt (d .scratchpad) 0
     ++ caseBytes (stageCase (d .stage))
@@ -57,18 +57,18 @@ truthAt t i = eqb (getD t i 0) 1
 abbrev pub readingAt : List ℕ → ℕ → Reading
 readingAt t i = readingFrom (getD t i 0) (getD t (i + 1) 0) (getD t (i + 2) 0)
 
-abbrev pub pageAt : List ℕ → ℕ → Page
-pageAt t i = record { taken = truthAt t i; reading = readingAt t (i + 1); high = getD t (i + 4) 0; low = getD t (i + 5) 0 }
+abbrev pub pageInBytes : List ℕ → ℕ → Page
+pageInBytes t i = record { taken = truthAt t i; reading = readingAt t (i + 1); high = getD t (i + 4) 0; low = getD t (i + 5) 0 }
 
 unfoldable pub fieldsOf : List ℕ → Device
 fieldsOf t = record {
-  code = codeOf (eightAt t 0);
+  code = codeFromBytes (eightAt t 0);
   scratchpad = eightAt t 8;
   stage = stageOf (caseAt t 16);
   activity = activityOf (caseAt t 20);
   eeprom = settingsAt t 24;
   power = powerOf (getD t 27 0);
   alarm = truthAt t 28;
-  page = pageAt t 29;
+  page = pageInBytes t 29;
   pins = getD t 35 0;
 }

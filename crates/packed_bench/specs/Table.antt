@@ -1,5 +1,5 @@
 -- The table of a bench in bytes (docs/TABLE.md): 32 entries of 48 bytes, the devices in the leading ones, zeros in the others.
---     entryOf ds          the entry of the first of ds; 48 zeros where there is none
+--     entryBytes ds          the entry of the first of ds; 48 zeros where there is none
 --     tableOf n ds        n entries, those of ds from the first on
 --     devicesIn n t       the devices that n entries hold: as they are read, up to the first with the code 0
 --     codesFit ds         whether each device has a sound code, and one that none after it has
@@ -21,7 +21,7 @@ use Rattle.basic_laws.specs.Same.{same}
 use Rattle.refusals.specs.Refusals.{accepted, noRoom, notATable}
 use Rattle.rom.specs.Code.{sound}
 use Rattle.device.specs.declared.Device.{Device}
-use Rattle.packed_bench.specs.Packed.{packed, fieldsOf}
+use Rattle.packed_bench.specs.Packed.{packedDevice, fieldsOf}
 use Rattle.bench.specs.Bench.{live, vacant, emptyBench}
 use Rattle.bench.specs.declared.Bench.{Bench}
 use Rattle.packed_bench.specs.declared.table.Unpacked.{Unpacked}
@@ -32,13 +32,13 @@ tableBytes = 1536
 
 -- ## Devices to bytes
 
-abbrev pub entryOf : List Device → List ℕ
-entryOf [] = replicate 48 0
-entryOf (d ∷ ds) = packed d
+abbrev pub entryBytes : List Device → List ℕ
+entryBytes [] = replicate 48 0
+entryBytes (d ∷ ds) = packedDevice d
 
 unfoldable pub tableOf : ℕ → List Device → List ℕ
 tableOf zero ds = []
-tableOf (suc n) ds = entryOf ds ++ tableOf n (drop 1 ds)
+tableOf (suc n) ds = entryBytes ds ++ tableOf n (drop 1 ds)
 
 -- ## Bytes to devices
 
@@ -70,17 +70,17 @@ isTable t = holds t (devicesIn 32 t)
 abbrev pub benchOf : List Device → Bench
 benchOf ds = record { devices = ds ++ replicate (32 - length ds) vacant; count = length ds }
 
-abbrev pub refused : ℕ → Unpacked
-refused n = record { refusal = n; bench = emptyBench }
+abbrev pub notUnpacked : ℕ → Unpacked
+notUnpacked n = record { refusal = n; bench = emptyBench }
 
 abbrev pub held : Bench → Unpacked
 held b = record { refusal = accepted; bench = b }
 
 unfoldable pub unpacked : List ℕ → Unpacked
 unpacked t =
-    if ltb (length t) tableBytes then refused noRoom
+    if ltb (length t) tableBytes then notUnpacked noRoom
     else if isTable t then held (benchOf (devicesIn 32 t))
-    else refused notATable
+    else notUnpacked notATable
 
 abbrev pub packRefusal : List ℕ → ℕ
 packRefusal t = if ltb (length t) tableBytes then noRoom else accepted

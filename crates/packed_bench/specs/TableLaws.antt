@@ -26,14 +26,14 @@ use Rattle.crc.specs.Crc.{crcBits}
 use Rattle.refusals.specs.Refusals.{accepted, noRoom, wrongKind, notATable}
 use Rattle.rom.specs.Code.{codeRefusal, sound}
 use Rattle.device.specs.declared.Device.{Device}
-use Rattle.packed_bench.specs.Bytes.{codeOf}
-use Rattle.packed_bench.specs.Packed.{packed, fieldsOf}
+use Rattle.packed_bench.specs.Bytes.{codeFromBytes}
+use Rattle.packed_bench.specs.Packed.{packedDevice, fieldsOf}
 use Rattle.packed_bench.specs.Types.{InTypes}
 use Rattle.packed_bench.specs.Laws.{packed-length, fields-back, fields-in-types}
 use Rattle.bench.specs.Bench.{live, vacant}
 use Rattle.bench.specs.declared.Bench.{Bench}
 use Rattle.packed_bench.specs.declared.table.Unpacked.{Unpacked}
-use Rattle.packed_bench.specs.Table.{tableBytes, entryOf, tableOf, inUse, devicesIn, absent, codesFit, isTable, benchOf, refused, held, unpacked, packedInto}
+use Rattle.packed_bench.specs.Table.{tableBytes, entryBytes, tableOf, inUse, devicesIn, absent, codesFit, isTable, benchOf, notUnpacked, held, unpacked, packedInto}
 use Rattle.packed_bench.specs.Tabled.{Tabled}
 
 -- what holds of both ways of a choice holds of the choice
@@ -44,12 +44,12 @@ either-way P false x y p q = q
 -- ## An unused entry: nothing is read from it on
 
 vacant-none : (ds : List Device) → inUse (fieldsOf (replicate 48 0)) ds ≡ []
-unfolding fieldsOf codeOf
+unfolding fieldsOf codeFromBytes
 vacant-none ds = refl
 
 -- ## Lengths
 
-pub entry-length : (ds : List Device) → length (entryOf ds) ≡ 48
+pub entry-length : (ds : List Device) → length (entryBytes ds) ≡ 48
 entry-length [] = refl
 entry-length (d ∷ ds) = packed-length d
 
@@ -59,7 +59,7 @@ table-length zero ds = refl
 table-length (suc n) ds =
     let i = table-length n (drop 1 ds) in
     let e = entry-length ds in
-    length-append (entryOf ds) (tableOf n (drop 1 ds)) ∙ omega arith
+    length-append (entryBytes ds) (tableOf n (drop 1 ds)) ∙ omega arith
 
 pub devices-few : (n : ℕ) (t : List ℕ) → length (devicesIn n t) ≤ n
 unfolding devicesIn
@@ -78,7 +78,7 @@ sound-used : (code : ℕ) → sound code ≡ true → code ≢ 0
 sound-used code s z = let e : wrongKind ≡ accepted = sym codeless ∙ sym (ap codeRefusal z) ∙ eqb-true (codeRefusal code) accepted s in omega arith
 
 -- the claim that the test of the codes makes
-pub record Fits (ds : List Device) : Type 0 where
+pub record TableFits (ds : List Device) : Type 0 where
   pub each-sound : Each (λ c. sound c ≡ true) (map (λ d. d .code) ds)
   pub each-own : Distinct (map (λ d. d .code) ds)
 
@@ -101,7 +101,7 @@ absent-tells code (d ∷ ds) h =
     let n = ne-eqb (d .code) code (λ z. h .0 (sym z)) in
     rw n (absent-tells code ds (h .1))
 
-pub codes-told : (ds : List Device) → codesFit ds ≡ true → Fits ds
+pub codes-told : (ds : List Device) → codesFit ds ≡ true → TableFits ds
 unfolding codesFit
 codes-told [] h = record { each-sound = tt; each-own = tt }
 codes-told (d ∷ ds) h =
@@ -112,7 +112,7 @@ codes-told (d ∷ ds) h =
       each-own = (absent-told (d .code) ds (and-right (sound (d .code)) (absent (d .code) ds) here), f .each-own);
     }
 
-pub codes-tell : (ds : List Device) → Fits ds → codesFit ds ≡ true
+pub codes-tell : (ds : List Device) → TableFits ds → codesFit ds ≡ true
 unfolding codesFit
 codes-tell [] f = refl
 codes-tell (d ∷ ds) f =
@@ -134,9 +134,9 @@ devices-back (suc n) (d ∷ ds) rest h p s =
     let i = devices-back n ds rest (omega arith) (p .1) (s .1) in
     let q = tableOf n ds ++ rest in
     rw (
-      append-assoc (packed d) (tableOf n ds) rest,
-      take-at (packed d) q 48 (packed-length d),
-      drop-at (packed d) q 48 (packed-length d),
+      append-assoc (packedDevice d) (tableOf n ds) rest,
+      take-at (packedDevice d) q 48 (packed-length d),
+      drop-at (packedDevice d) q 48 (packed-length d),
       fields-back d (p .0),
       ne-eqb (d .code) 0 (sound-used (d .code) (s .0)),
       i,
@@ -153,10 +153,10 @@ live-length b t = let h : b .count ≤ length (b .devices) = omega (arith, t .fe
 pub bench-back : (b : Bench) → Tabled b → benchOf (live b) ≡ b
 bench-back b t = rw (live-length b t, ← t .rest-vacant, take-append-drop (b .count) (b .devices))
 
-pub tabled-fits : (b : Bench) → Tabled b → Fits (live b)
+pub tabled-fits : (b : Bench) → Tabled b → TableFits (live b)
 tabled-fits b t = record { each-sound = t .codes-sound; each-own = t .codes-distinct }
 
-pub bench-tabled : (ds : List Device) → length ds ≤ 32 → Fits ds → Tabled (benchOf ds)
+pub bench-tabled : (ds : List Device) → length ds ≤ 32 → TableFits ds → Tabled (benchOf ds)
 bench-tabled ds h f =
     let r = replicate (32 - length ds) vacant in
     record {
@@ -194,18 +194,18 @@ module _ (b : Bench) (t : List ℕ) (tabled : Tabled b) (typed : Each InTypes (l
 
 -- what is accepted was long enough and is a table
 module _ (t : List ℕ) (P : Unpacked → Type 0) where
-  pub unpacked-cases : (length t < tableBytes → P (refused noRoom))
-      → (tableBytes ≤ length t → isTable t ≡ false → P (refused notATable))
+  pub unpacked-cases : (length t < tableBytes → P (notUnpacked noRoom))
+      → (tableBytes ≤ length t → isTable t ≡ false → P (notUnpacked notATable))
       → (tableBytes ≤ length t → isTable t ≡ true → P (held (benchOf (devicesIn 32 t)))) → P (unpacked t)
   unfolding unpacked
   unpacked-cases short other taken = by-room (ltb (length t) tableBytes) refl
     where
-      by-test : (u : Bool) → isTable t ≡ u → tableBytes ≤ length t → P (if u then held (benchOf (devicesIn 32 t)) else refused notATable)
+      by-test : (u : Bool) → isTable t ≡ u → tableBytes ≤ length t → P (if u then held (benchOf (devicesIn 32 t)) else notUnpacked notATable)
       by-test true e h = taken h e
       by-test false e h = other h e
 
       by-room : (u : Bool) → ltb (length t) tableBytes ≡ u
-          → P (if u then refused noRoom else if isTable t then held (benchOf (devicesIn 32 t)) else refused notATable)
+          → P (if u then notUnpacked noRoom else if isTable t then held (benchOf (devicesIn 32 t)) else notUnpacked notATable)
       by-room true e = short (ltb-true (length t) tableBytes e)
       by-room false e = by-test (isTable t) refl (ltb-false (length t) tableBytes e)
 
@@ -229,8 +229,8 @@ unpacked-tabled t = unpacked-cases t (λ u. u .refusal ≡ accepted → Tabled (
 
 -- bytes that are refused with 22 are those of no records
 pub refused-none : (t : List ℕ) → unpacked t .refusal ≡ notATable
-    → (ds : List Device) → length ds ≤ 32 → Each InTypes ds → Fits ds → tableOf 32 ds ≡ take tableBytes t → ⊥
-refused-none t = unpacked-cases t (λ u. u .refusal ≡ notATable → (ds : List Device) → length ds ≤ 32 → Each InTypes ds → Fits ds → tableOf 32 ds ≡ take tableBytes t → ⊥)
+    → (ds : List Device) → length ds ≤ 32 → Each InTypes ds → TableFits ds → tableOf 32 ds ≡ take tableBytes t → ⊥
+refused-none t = unpacked-cases t (λ u. u .refusal ≡ notATable → (ds : List Device) → length ds ≤ 32 → Each InTypes ds → TableFits ds → tableOf 32 ds ≡ take tableBytes t → ⊥)
     (λ h e ds few typed fits is. omega arith)
     (λ h n e ds few typed fits is.
     let b = benchOf ds in

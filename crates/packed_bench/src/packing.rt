@@ -9,7 +9,7 @@ ghost use Rattle.temperature.specs.Register.{countOf};
 ghost use Rattle.packed_bench.specs.Bytes.{eightAt};
 ghost use Rattle.packed_bench.specs.Parts.{truthByte, powerByte, stageCase, activityCase};
 ghost use Rattle.packed_bench.specs.Types.{InTypes};
-ghost use Rattle.packed_bench.specs.Packed.{caseBytes, settingsBytes, pageBytes, caseAt, packed, fieldsOf};
+ghost use Rattle.packed_bench.specs.Packed.{caseBytes, settingsBytes, pageBytes, caseAt, packedDevice, fieldsOf};
 use crate::record_parts;
 use crate::record_parts::Case;
 use device::Activity;
@@ -105,7 +105,7 @@ fn page_bytes(page: Page, pins: u8) -> [u8; 8]
 
 // The bytes of a device. Whatever the device, they unpack to it.
 pub fn pack(d: Device) -> Entry
-    ensures answer { λ r. ⌜ r ≡ packed d ⌝ }
+    ensures answer { λ r. ⌜ r ≡ packedDevice d ⌝ }
     ensures typed { λ r. ⌜ InTypes d ⌝ }
 {
     let code = record_parts::code_bytes(d.code);

@@ -5,7 +5,7 @@ ghost use Prim.Native.Nat.{_+_, _*_, _<_};
 ghost use mathlib.Core.Path.{_≡_};
 ghost use Rattle.basic_laws.specs.Complement.{Fits16};
 ghost use Rattle.temperature.specs.Register.{countOf};
-ghost use Rattle.packed_bench.specs.Bytes.{eightAt, codeBytes, codeOf};
+ghost use Rattle.packed_bench.specs.Bytes.{eightAt, codeBytes, codeFromBytes};
 ghost use Rattle.packed_bench.specs.Parts.{truthByte, powerByte, powerOf, phaseByte, phaseOf, unitByte, unitAt, readingFrom, stageCase, stageOf, activityCase, activityOf};
 use device::Activity;
 use device::Phase;
@@ -213,7 +213,7 @@ fn below(low: u8, high: u64) -> u64
 }
 
 pub fn code_of(b: CodeBytes) -> u64
-    ensures answer { λ r. ⌜ r ≡ codeOf (eightAt b 0) ⌝ }
+    ensures answer { λ r. ⌜ r ≡ codeFromBytes (eightAt b 0) ⌝ }
 {
     let c7 = below(b[7], 0);
     let c6 = below(b[6], c7);

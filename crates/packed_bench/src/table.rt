@@ -9,7 +9,7 @@ ghost use Rattle.basic_laws.specs.Each.{Each};
 ghost use Rattle.basic_laws.specs.Laid.{laid};
 ghost use Rattle.packed_bench.specs.Types.{InTypes};
 ghost use Rattle.bench.specs.Bench.{live, vacant};
-ghost use Rattle.packed_bench.specs.Table.{tableBytes, entryOf, tableOf, devicesIn, absent, codesFit, holds, benchOf, held, unpacked, packRefusal, packedInto};
+ghost use Rattle.packed_bench.specs.Table.{tableBytes, entryBytes, tableOf, devicesIn, absent, codesFit, holds, benchOf, held, unpacked, packRefusal, packedInto};
 ghost use Rattle.packed_bench.specs.Tabled.{Tabled};
 use crate::packing;
 use bench::Bench;
@@ -55,7 +55,7 @@ fn put_entry(t: &mut [u8], at: usize, e: [u8; 48])
 // The bytes of the device at a place, or zeros where there is none.
 fn entry_of(devices: [Device; 32], count: usize, place: usize) -> [u8; 48]
     requires { ⌜ place < 32 ⌝ }
-    ensures answer { λ r. ⌜ r ≡ entryOf (drop place (take count devices)) ⌝ }
+    ensures answer { λ r. ⌜ r ≡ entryBytes (drop place (take count devices)) ⌝ }
     ensures typed { λ r. ⌜ (place < count → InTypes (getD devices place vacant)) ⌝ }
 {
     if place < count {

@@ -8,7 +8,7 @@ ghost use lib.ListN.{length};
 ghost use Rattle.text.specs.Lines.{Line};
 ghost use Rattle.bench_answers.specs.Whole.{room};
 ghost use Rattle.sessions.specs.Gathering.{mostHeld};
-ghost use Rattle.sessions.specs.Session.{ended, endSaid, after, runAt, Standing, Answerable};
+ghost use Rattle.sessions.specs.Session.{heldEnded, endSaid, runAfter, runAt, Standing, Answerable};
 ghost use Rattle.packed_session.specs.TableSession.{tableState, tableConsole, firstState};
 use bench_answers::search_answers::ROOM;
 use libc::STDIN_FILENO;
@@ -56,7 +56,7 @@ fn end_line(
     out: &mut [u8],
 ) -> Session
     requires { ⌜ (held ≤ length (now line)) × (room ≤ length (now out)) × Answerable tableConsole firstState (endSaid tableConsole (runAt (tableState (now t) store) (now line) held) whole) ⌝ }
-    ensures { λ r. ⌜ (runAt (tableState (now (t .exit)) (r .store)) (now (line .entry)) (r .held) ≡ ended tableConsole (runAt (tableState (now (t .entry)) store) (now (line .entry)) held) whole) × (r .held ≤ held) ⌝ }
+    ensures { λ r. ⌜ (runAt (tableState (now (t .exit)) (r .store)) (now (line .entry)) (r .held) ≡ heldEnded tableConsole (runAt (tableState (now (t .entry)) store) (now (line .entry)) held) whole) × (r .held ≤ held) ⌝ }
 {
     if whole {
         return Session {
@@ -75,7 +75,7 @@ fn end_line(
 // All that was read, line by line.
 fn take(t: &mut [u8], start: Session, line: &mut [u8], chunk: &[u8], out: &mut [u8]) -> Session
     requires { ⌜ (room ≤ length (now out)) × Standing tableConsole firstState (tableState (now t) (start .store)) (now line) (start .held) ⌝ }
-    ensures session { λ r. ⌜ runAt (tableState (now (t .exit)) (r .store)) (now (line .exit)) (r .held) ≡ after tableConsole (runAt (tableState (now (t .entry)) (start .store)) (now (line .entry)) (start .held)) (now (chunk .entry)) ⌝ }
+    ensures session { λ r. ⌜ runAt (tableState (now (t .exit)) (r .store)) (now (line .exit)) (r .held) ≡ runAfter tableConsole (runAt (tableState (now (t .entry)) (start .store)) (now (line .entry)) (start .held)) (now (chunk .entry)) ⌝ }
     ensures standing { λ r. ⌜ Standing tableConsole firstState (tableState (now (t .exit)) (r .store)) (now (line .exit)) (r .held) ⌝ }
 {
     let mut s = start;

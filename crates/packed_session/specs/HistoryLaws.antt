@@ -13,7 +13,7 @@ use Rattle.bench.specs.Bench.{emptyBench}
 use Rattle.bench.specs.declared.Bench.{Bench}
 use Rattle.history_laws.specs.History.{Call, add, reset, slot, finishConversion, finishCopy, powerCycle, search, searchAlarms, read, write, readPins, Ledger, apply, step, start, ledger, after}
 use Rattle.history_laws.specs.Kept.{read-keeps, write-keeps, outcome-keeps, pins-keep}
-use Rattle.packed_bench.specs.Bytes.{codeOf}
+use Rattle.packed_bench.specs.Bytes.{codeFromBytes}
 use Rattle.packed_bench.specs.Packed.{fieldsOf}
 use Rattle.packed_bench.specs.Table.{tableBytes, tableOf, devicesIn, codesFit, held, unpacked}
 use Rattle.packed_bench.specs.Tabled.{Tabled}
@@ -45,5 +45,5 @@ unfolding ledger
 after-tabled h = tabled-from h start empty-tabled
 
 pub zeros-empty : unpacked (replicate tableBytes 0) ≡ held emptyBench
-unfolding unpacked devicesIn fieldsOf codeOf tableOf same codesFit
+unfolding unpacked devicesIn fieldsOf codeFromBytes tableOf same codesFit
 zeros-empty = refl

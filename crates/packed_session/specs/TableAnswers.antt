@@ -1,5 +1,5 @@
 -- What the packed console says that the bench's console does not.
---     refusedText n q        the answer to the request q of the bench, in its own form, where the bytes hold no bench: the refusal n and zeros
+--     refusedOnTable n q        the answer to the request q of the bench, in its own form, where the bytes hold no bench: the refusal n and zeros
 --     entryLine e            an entry of the table, two hexadecimal digits a byte
 --     tableText n t          n entries of t, a line for each
 --     dumpText t             the 32 entries of a table, whatever its bytes; refusal 1 where there are fewer
@@ -32,21 +32,21 @@ use Rattle.text.specs.declared.laying.Written.{Written}
 use Rattle.packed_bench.specs.Table.{tableBytes}
 use Rattle.packed_bench.specs.Through.{unseen}
 
-unfoldable pub refusedText : ℕ → Request → List ℕ
-refusedText n Bad = badLine
-refusedText n (Add new) = refusalLine n
-refusedText n Reset = bitLine n false
-refusedText n (Slot bit) = bitLine n false
-refusedText n (Converted code count) = refusalLine n
-refusedText n (Copied code) = refusalLine n
-refusedText n (Cycle code) = refusalLine n
-refusedText n (Search places bytes) = searchLine n 0 0 0 0
-refusedText n (Alarm places bytes) = searchLine n 0 0 0 0
-refusedText n (Read code) = accessLine n (replicate 9 0) (InSixteenths (record { 0 = pos 0 })) noFine
-refusedText n (Write code settings) = accessLine n (replicate 9 0) (InSixteenths (record { 0 = pos 0 })) noFine
-refusedText n (Show code) = showLine (unseen n)
-refusedText n (Why code) = whyLine (silent n NotOnBench)
-refusedText n (Pins places) = pinsLine n 0 NoPin
+unfoldable pub refusedOnTable : ℕ → Request → List ℕ
+refusedOnTable n Bad = badLine
+refusedOnTable n (Add new) = refusalLine n
+refusedOnTable n Reset = bitLine n false
+refusedOnTable n (Slot bit) = bitLine n false
+refusedOnTable n (Converted code count) = refusalLine n
+refusedOnTable n (Copied code) = refusalLine n
+refusedOnTable n (Cycle code) = refusalLine n
+refusedOnTable n (Search places bytes) = searchLine n 0 0 0 0
+refusedOnTable n (Alarm places bytes) = searchLine n 0 0 0 0
+refusedOnTable n (Read code) = accessLine n (replicate 9 0) (InSixteenths (record { 0 = pos 0 })) noFine
+refusedOnTable n (Write code settings) = accessLine n (replicate 9 0) (InSixteenths (record { 0 = pos 0 })) noFine
+refusedOnTable n (Show code) = showLine (unseen n)
+refusedOnTable n (Why code) = whyLine (silent n NotOnBench)
+refusedOnTable n (Pins places) = pinsLine n 0 NoPin
 
 abbrev pub entryLine : List ℕ → List ℕ
 entryLine e = hexOf e ++ (lineFeed ∷ [])

@@ -1,12 +1,12 @@
 -- The console on a table: what it says to a line, and the bytes that the line leaves.
 --     tableAsked l           what a line asks of the bytes; one that has no feed asks for nothing there
 --     onTable f refusal t    what f answers on the bench that t holds, with the bench that it leaves packed again; else the refusal of the bytes, 1 or 22, in a form of its own, and the bytes as they were
---     onBench t l            the same of a line of the bench, with the refusal in the line's own form
+--     lineOnTable t l            the same of a line of the bench, with the refusal in the line's own form
 --     spoken t l             any line
---     told s out             what the call for it answers: how many bytes of text there are, or refusal 1 where less than the room is lent
+--     tableTold s out             what the call for it answers: how many bytes of text there are, or refusal 1 where less than the room is lent
 --     wrote s out            the bytes lent for the text after it: the text from byte 0 on, or as they were
 --     keeps t s out          the table after it
---     AfterLine t l t'       the claim of a line of the bench: where t held a bench, t' holds the one that the line leaves of it; `After` of any line
+--     AfterLine t l t'       the claim of a line of the bench: where t held a bench, t' holds the one that the line leaves of it; `TableAfter` of any line
 -- Assumes nothing.
 use Prim.Native.Nat.{ℕ}
 use mathlib.Core.List.{List}
@@ -27,7 +27,7 @@ use Rattle.packed_bench.specs.Through.{answeredOn, leftBy, After as AfterCall}
 use Rattle.packed_session.specs.TableRequests.{tableRequestOf}
 use Rattle.packed_session.specs.declared.table_requests.TableRequest.{TableRequest}
 use Rattle.packed_session.specs.declared.table_requests.TableRequest.the-variants.{Poke, Dump, Other}
-use Rattle.packed_session.specs.TableAnswers.{refusedText, dumpText, pokeRefusal}
+use Rattle.packed_session.specs.TableAnswers.{refusedOnTable, dumpText, pokeRefusal}
 
 pub record Spoken : Type 0 where
   pub text : List ℕ
@@ -42,13 +42,13 @@ tableAsked l = if l .fed then tableRequestOf (l .chars) else Other
 unfoldable pub onTable : (Bench → Answered) → (ℕ → List ℕ) → List ℕ → Spoken
 onTable f refusal t = speaks (answeredOn refusal (λ b. f b .text) t) (leftBy (λ b. f b .bench) t)
 
-abbrev pub onBench : List ℕ → Line → Spoken
-onBench t l = onTable (λ b. answered b (asked l)) (λ n. refusedText n (asked l)) t
+abbrev pub lineOnTable : List ℕ → Line → Spoken
+lineOnTable t l = onTable (λ b. answered b (asked l)) (λ n. refusedOnTable n (asked l)) t
 
 unfoldable pub spokenTo : TableRequest → List ℕ → Line → Spoken
 spokenTo (Poke place byte) t l = speaks (refusalLine (pokeRefusal t place)) (set t place byte)
 spokenTo Dump t l = speaks (dumpText t) t
-spokenTo Other t l = onBench t l
+spokenTo Other t l = lineOnTable t l
 
 abbrev pub spoken : List ℕ → Line → Spoken
 spoken t l = spokenTo (tableAsked l) t l
@@ -58,8 +58,8 @@ spoken t l = spokenTo (tableAsked l) t l
 abbrev pub telling : List ℕ → Written
 telling text = record { refusal = accepted; next = length text }
 
-abbrev pub told : Spoken → List ℕ → Written
-told s out = if leb room (length out) then telling (s .text) else record { refusal = noRoom; next = 0 }
+abbrev pub tableTold : Spoken → List ℕ → Written
+tableTold s out = if leb room (length out) then telling (s .text) else record { refusal = noRoom; next = 0 }
 
 abbrev pub wrote : Spoken → List ℕ → List ℕ
 wrote s out = if leb room (length out) then laid out 0 (s .text) else out
@@ -79,7 +79,7 @@ abbrev pub AfterLine : List ℕ → Line → List ℕ → Type 0
 AfterLine t l t' = AfterCall (λ b. answered b (asked l) .bench) t t'
 
 -- of a line of the bench
-abbrev pub After : TableRequest → List ℕ → Line → List ℕ → Type 0
-After (Poke place byte) t l t' = Unit
-After Dump t l t' = Unit
-After Other t l t' = AfterLine t l t'
+abbrev pub TableAfter : TableRequest → List ℕ → Line → List ℕ → Type 0
+TableAfter (Poke place byte) t l t' = Unit
+TableAfter Dump t l t' = Unit
+TableAfter Other t l t' = AfterLine t l t'

@@ -15,7 +15,7 @@ use Rattle.pieces.specs.Pieces.{together}
 use Rattle.lines.specs.Words.{wordsOf}
 use Rattle.bench_requests.specs.declared.Request.{Request}
 use Rattle.sessions.specs.GatheringLaws.{held-reads}
-use Rattle.sessions.specs.Session.{inTurn, fresh, session, cut, Enough}
+use Rattle.sessions.specs.Session.{inTurn, freshRun, session, cut, HeldEnough}
 use Rattle.sessions.specs.SessionLaws.{session-cuts}
 use Rattle.bench_answers.specs.Whole.{room}
 use Rattle.bench_session.specs.Console.{answered}
@@ -27,7 +27,7 @@ use Rattle.bench_session.specs.SettingsSessionLaws.{asked-same, store-asked-sam
 use Rattle.packed_session.specs.TableRequests.{ofTable, tableRequestOf}
 use Rattle.packed_session.specs.declared.table_requests.TableRequest.{TableRequest}
 use Rattle.packed_session.specs.declared.table_requests.TableRequest.the-variants.{Poke, Dump, Other}
-use Rattle.packed_session.specs.TableAnswers.{refusedText}
+use Rattle.packed_session.specs.TableAnswers.{refusedOnTable}
 use Rattle.packed_session.specs.TableConsole.{Spoken, onTable, spokenTo, tableAsked, wrote, keeps}
 use Rattle.packed_session.specs.TableSettings.{spokenOf, toldOf}
 use Rattle.packed_session.specs.TableSession.{TableState, tableState, tableConsole}
@@ -42,7 +42,7 @@ spoken-to-same : (q : TableRequest) (t : List ℕ) (l : Line) → spokenTo q t (
 unfolding spokenTo
 spoken-to-same (Poke place byte) t l = refl
 spoken-to-same Dump t l = refl
-spoken-to-same Other t l = ap (λ (q : Request). onTable (λ b. answered b q) (λ n. refusedText n q) t) (asked-same l)
+spoken-to-same Other t l = ap (λ (q : Request). onTable (λ b. answered b q) (λ n. refusedOnTable n q) t) (asked-same l)
 
 spoken-same : (t : List ℕ) (s : Store) (l : Line) (q : StoreRequest) → spokenOf t s (cut l) q ≡ spokenOf t s l q
 unfolding spokenOf
@@ -56,7 +56,7 @@ spoken-same t s l (Write code) = refl
 answer-same : (t : List ℕ) (s : Store) (l : Line) → spokenOf t s (cut l) (storeAsked (cut l)) ≡ spokenOf t s l (storeAsked l)
 answer-same t s l = ap (spokenOf t s (cut l)) (store-asked-same l) ∙ spoken-same t s l (storeAsked l)
 
-table-enough : Enough tableConsole
+table-enough : HeldEnough tableConsole
 table-enough = record {
   says-same = λ v l. ap (λ (a : Spoken). a .text) (answer-same (v .table) (v .store) l);
   next-same = λ v l.
@@ -65,7 +65,7 @@ table-enough = record {
 }
 
 -- whatever the cuts, each line is answered on the table and the store that the lines before it left
-pub table-session : (v : TableState) (cs : List (List ℕ)) → session tableConsole (fresh v) cs ≡ inTurn tableConsole v (linesOf (together cs))
+pub table-session : (v : TableState) (cs : List (List ℕ)) → session tableConsole (freshRun v) cs ≡ inTurn tableConsole v (linesOf (together cs))
 table-session = session-cuts tableConsole table-enough
 
 -- what leaves a buffer its length was within it

@@ -17,18 +17,18 @@ use Rattle.settings.specs.Written.{settingsWritten}
 use Rattle.bench_requests.specs.declared.settings_requests.StoreRequest.{StoreRequest}
 use Rattle.bench_session.specs.StoreCalls.{storeSays, byWhose}
 use Rattle.bench_session.specs.SettingsConsole.{storeLeft, storeAsked}
-use Rattle.packed_session.specs.TableAnswers.{refusedText}
-use Rattle.packed_session.specs.TableConsole.{Spoken, speaks, onTable, spoken, told}
+use Rattle.packed_session.specs.TableAnswers.{refusedOnTable}
+use Rattle.packed_session.specs.TableConsole.{Spoken, speaks, onTable, spoken, tableTold}
 use Rattle.packed_session.specs.declared.table_settings.TableTold.{TableTold}
 
 abbrev pub writtenOn : List ℕ → Store → ℕ → Spoken
-writtenOn t s code = onTable (λ b. ofAccess (settingsWritten s b code)) (λ n. refusedText n (ReadAt code)) t
+writtenOn t s code = onTable (λ b. ofAccess (settingsWritten s b code)) (λ n. refusedOnTable n (ReadAt code)) t
 
 unfoldable pub spokenOf : List ℕ → Store → Line → StoreRequest → Spoken
 spokenOf t s l q = byWhose q (spoken t l) (writtenOn t s) (speaks (storeSays s q) t)
 
 abbrev pub toldOf : List ℕ → Store → Line → List ℕ → TableTold
 toldOf t s l out = record {
-  written = told (spokenOf t s l (storeAsked l)) out;
+  written = tableTold (spokenOf t s l (storeAsked l)) out;
   store = if leb room (length out) then storeLeft s (storeAsked l) else s;
 }

@@ -15,7 +15,7 @@ ghost use Rattle.why.specs.declared.rules.Reason.the-variants.{NotOnBench};
 ghost use Rattle.bench_answers.specs.WhyLine.{whyLine};
 ghost use Rattle.packed_bench.specs.Table.{tableBytes};
 ghost use Rattle.packed_bench.specs.Through.{unseen};
-ghost use Rattle.packed_session.specs.TableAnswers.{refusedText, textRoom, tableText, dumpAnswer, dumpLeaves, pokeRefusal};
+ghost use Rattle.packed_session.specs.TableAnswers.{refusedOnTable, textRoom, tableText, dumpAnswer, dumpLeaves, pokeRefusal};
 use bench::Looked;
 use bench_answers::access_answers;
 use bench_answers::pin_answers;
@@ -75,8 +75,8 @@ fn no_reason(refusal: u8, out: &mut [u8]) -> Written
 
 // The refusal of bytes that hold no bench, at the front of what is lent, as an answer to this request.
 pub fn refuse(request: Request, refusal: u8, out: &mut [u8]) -> Written
-    ensures answer { λ r. ⌜ r ≡ lineAnswer (now (out .entry)) 0 (refusedText refusal request) ⌝ }
-    ensures written { λ r. ⌜ now (out .exit) ≡ lineLeaves (now (out .entry)) 0 (refusedText refusal request) ⌝ }
+    ensures answer { λ r. ⌜ r ≡ lineAnswer (now (out .entry)) 0 (refusedOnTable refusal request) ⌝ }
+    ensures written { λ r. ⌜ now (out .exit) ≡ lineLeaves (now (out .entry)) 0 (refusedOnTable refusal request) ⌝ }
 {
     match request {
         Request::Bad => bench_answers::bad_line(out, 0),

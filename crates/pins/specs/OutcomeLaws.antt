@@ -39,31 +39,31 @@ enough-places b places h = rw (le-ltb places 32 h)
 
 -- ## A search in room lent for it
 
-abbrev pub whole : Bench → Outcome
-whole b = searchOutcome searchRom b 32 1824
+abbrev pub searchedWhole : Bench → Outcome
+searchedWhole b = searchOutcome searchRom b 32 1824
 
 module _ (b : Bench) (list recording list' : List ℕ) (r : Searched) (places : length list ≡ 32) (bytes : length recording ≡ 1824)
     (is : r ≡ answerOf (searchOutcome searchRom b (length list) (length recording)))
     (so : list' ≡ listAfter list (searchOutcome searchRom b (length list) (length recording))) where
-  outcome : searchOutcome searchRom b (length list) (length recording) ≡ whole b
+  outcome : searchOutcome searchRom b (length list) (length recording) ≡ searchedWhole b
   outcome = ap (λ (n : ℕ). searchOutcome searchRom b n (length recording)) places ∙ ap (λ (n : ℕ). searchOutcome searchRom b 32 n) bytes
 
-  refusal-is : r .refusal ≡ whole b .refusal
+  refusal-is : r .refusal ≡ searchedWhole b .refusal
   refusal-is = ap (λ (q : Searched). q .refusal) is ∙ ap (λ (o : Outcome). o .refusal) outcome
 
-  bench-is : r .bench ≡ whole b .bench
+  bench-is : r .bench ≡ searchedWhole b .bench
   bench-is = ap (λ (q : Searched). q .bench) is ∙ ap (λ (o : Outcome). o .bench) outcome
 
-  codes-are : r .codes ≡ length (whole b .listed)
+  codes-are : r .codes ≡ length (searchedWhole b .listed)
   codes-are = ap (λ (q : Searched). q .codes) is ∙ ap (λ (o : Outcome). length (o .listed)) outcome
 
-  list-is : list' ≡ laid list 0 (whole b .listed)
+  list-is : list' ≡ laid list 0 (searchedWhole b .listed)
   list-is = so ∙ ap (λ (o : Outcome). laid list 0 (o .listed)) outcome
 
-  front : (r .codes ≤ length list') × (take (r .codes) list' ≡ whole b .listed) × (r .codes ≡ length (take (r .codes) list'))
-  front = let few = search-bounded searchRom b 32 1824 .codes-most in laid-front list (whole b .listed) list' (r .codes) codes-are list-is (omega arith)
+  front : (r .codes ≤ length list') × (take (r .codes) list' ≡ searchedWhole b .listed) × (r .codes ≡ length (take (r .codes) list'))
+  front = let few = search-bounded searchRom b 32 1824 .codes-most in laid-front list (searchedWhole b .listed) list' (r .codes) codes-are list-is (omega arith)
 
-  pub listed-part : take (r .codes) list' ≡ whole b .listed
+  pub listed-part : take (r .codes) list' ≡ searchedWhole b .listed
   listed-part = front .1
 
   pub listed-most : length (take (r .codes) list') ≤ 32
@@ -72,14 +72,14 @@ module _ (b : Bench) (list recording list' : List ℕ) (r : Searched) (places : 
   pub listed-within : r .codes ≤ length list'
   listed-within = front .0
 
-  pub refused-is : r .refusal ≢ accepted → pinsSearched (whole b) ≡ notPinned (r .refusal) (r .bench)
+  pub refused-is : r .refusal ≢ accepted → pinsSearched (searchedWhole b) ≡ notPinned (r .refusal) (r .bench)
   refused-is n =
-      let other : eqb (whole b .refusal) accepted ≡ false = ap (λ (m : ℕ). eqb m accepted) (sym refusal-is) ∙ ne-eqb (r .refusal) accepted n in
+      let other : eqb (searchedWhole b .refusal) accepted ≡ false = ap (λ (m : ℕ). eqb m accepted) (sym refusal-is) ∙ ne-eqb (r .refusal) accepted n in
       rw (other, refusal-is, bench-is)
 
-  pub done-is : r .refusal ≡ accepted → pinsSearched (whole b) ≡ record { refusal = accepted; found = fold pinsStep (nobodyRead (r .bench)) (take (r .codes) list') }
+  pub done-is : r .refusal ≡ accepted → pinsSearched (searchedWhole b) ≡ record { refusal = accepted; found = fold pinsStep (nobodyRead (r .bench)) (take (r .codes) list') }
   done-is e =
-      let same : eqb (whole b .refusal) accepted ≡ true = ap (λ (m : ℕ). eqb m accepted) (sym refusal-is) ∙ eq-eqb (r .refusal) accepted e in
+      let same : eqb (searchedWhole b .refusal) accepted ≡ true = ap (λ (m : ℕ). eqb m accepted) (sym refusal-is) ∙ eq-eqb (r .refusal) accepted e in
       rw (same, listed-part, bench-is)
 
 -- one code adds at most one
@@ -136,7 +136,7 @@ few-answer false x y h k = k
 pub found-few : (b : Bench) (places : ℕ) → Few (pinsOutcome b places)
 unfolding pinsOutcome
 found-few b places =
-    let o = whole b in
+    let o = searchedWhole b in
     let listed = search-bounded searchRom b 32 1824 .codes-most in
     let read = read-few (nobodyRead (o .bench)) (o .listed) in
     few-answer (ltb places 32) _ _ (record { most = lit≤ tt; as-many = refl })

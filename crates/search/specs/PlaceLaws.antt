@@ -29,7 +29,7 @@ use Rattle.bench.specs.declared.Bench.{Bench}
 use Rattle.bench.specs.declared.Slotted.{Slotted}
 use Rattle.bench.specs.Laws.{heard-live}
 use Rattle.search.specs.Place.{chosen, placed}
-use Rattle.search.specs.Standing.{quietAt, firstOf, startsAt, fits, oneAt, zeroAt, settledOf, surveyStart, surveyedWith}
+use Rattle.search.specs.Standing.{quietAt, firstOf, startsAt, fits, oneAt, zeroSentAt, settledOf, surveyStart, surveyedWith}
 use Rattle.search.specs.declared.place.Placed.{Placed}
 use Rattle.search.specs.declared.place.Survey.{Survey}
 
@@ -79,8 +79,8 @@ module _ (j : ℕ) (d : Device) (h : fits j d ≡ true) where
   unfolding oneAt
   first-offer = ⊎-elim (λ (e : d .stage ≡ Quiet). rw e) (λ w. rw (w .1, lt-ltb j 64 (w .0))) stands
 
-  second-offer : (x : Bool) → offerOf (hearOf d x) ≡ zeroAt j d
-  unfolding zeroAt hearOf
+  second-offer : (x : Bool) → offerOf (hearOf d x) ≡ zeroSentAt j d
+  unfolding zeroSentAt hearOf
   second-offer x = ⊎-elim (λ (e : d .stage ≡ Quiet). rw e) (λ w. rw (w .1, lt-ltb j 64 (w .0))) stands
 
   third-offer : (x y : Bool) → offerOf (hearOf (hearOf d x) y) ≡ true
@@ -165,11 +165,11 @@ module _ (j : ℕ) (b : Bench) (h : all (fits j) (live b) ≡ true) where
       ap (all supplies) (heard-live b x) ∙ all-mapped supplies (hears x) (live b)
       ∙ all-true (fits j) (λ d. supplies (hears x d)) (λ d k. once-supplied j d k x) (live b) h
 
-  second-line : (x : Bool) → lineBit (heard b x) true ≡ all (zeroAt j) (live b)
+  second-line : (x : Bool) → lineBit (heard b x) true ≡ all (zeroSentAt j) (live b)
   unfolding lineBit
   second-line x =
       ap (all offerOf) (heard-live b x) ∙ all-mapped offerOf (hears x) (live b)
-      ∙ all-same (fits j) (λ d. offerOf (hears x d)) (zeroAt j) (λ d k. second-offer j d k x) (live b) h
+      ∙ all-same (fits j) (λ d. offerOf (hears x d)) (zeroSentAt j) (λ d k. second-offer j d k x) (live b) h
 
   -- what holds of each device after two slots holds of all
   all-twice : (p : Device → Bool) (x y : Bool) → ((d : Device) → fits j d ≡ true → p (hears y (hears x d)) ≡ true) → all p (live (heard (heard b x) y)) ≡ true
@@ -195,12 +195,12 @@ module _ (j : ℕ) (b : Bench) (h : all (fits j) (live b) ≡ true) where
       (ap (mapFront (hears z) n) (front-twice (hears x) (hears y) n t) ∙ front-twice (λ d. hears y (hears x d)) (hears z) n t
       ∙ front-same (fits j) (λ d. hears z (hears y (hears x d))) (settledOf j z) (λ d k. after-three j d k x y z) n t h)
 
-  placed-at-once : (w : Bool) → let a = all (oneAt j) (live b) in let z = all (zeroAt j) (live b) in let x = chosen a z w in (a && z) ≡ false
+  placed-at-once : (w : Bool) → let a = all (oneAt j) (live b) in let z = all (zeroSentAt j) (live b) in let x = chosen a z w in (a && z) ≡ false
       → placed b w ≡ record { bench = settledBench j x b; first = a; second = z; taken = x; third = x }
   unfolding placed
   placed-at-once w e =
       let a = all (oneAt j) (live b) in
-      let z = all (zeroAt j) (live b) in
+      let z = all (zeroSentAt j) (live b) in
       let x = chosen a z w in
       let one = slot-passes b true a free-now first-line in
       let two = slot-passes (heard b a) true z (free-once a) (second-line a) in
@@ -210,22 +210,22 @@ module _ (j : ℕ) (b : Bench) (h : all (fits j) (live b) ≡ true) where
 -- ## The survey
 
 survey-is : (j : ℕ) (s : Survey) (l : List Device)
-    → fold (surveyedWith j) s l ≡ record { fits = s .fits && all (fits j) l; ones = s .ones && all (oneAt j) l; zeros = s .zeros && all (zeroAt j) l }
+    → fold (surveyedWith j) s l ≡ record { fits = s .fits && all (fits j) l; ones = s .ones && all (oneAt j) l; zeros = s .zeros && all (zeroSentAt j) l }
 unfolding fold all surveyedWith
 survey-is j s [] = rw (and-true (s .fits), and-true (s .ones), and-true (s .zeros))
 survey-is j s (d ∷ l) = survey-is j (surveyedWith j s d) l ∙ added
   where
     added : let t = surveyedWith j s d in
-        _≡_ {A = Survey} (record { fits = t .fits && all (fits j) l; ones = t .ones && all (oneAt j) l; zeros = t .zeros && all (zeroAt j) l })
-        (record { fits = s .fits && (fits j d && all (fits j) l); ones = s .ones && (oneAt j d && all (oneAt j) l); zeros = s .zeros && (zeroAt j d && all (zeroAt j) l) })
-    added = rw (and-assoc (s .fits) (fits j d) (all (fits j) l), and-assoc (s .ones) (oneAt j d) (all (oneAt j) l), and-assoc (s .zeros) (zeroAt j d) (all (zeroAt j) l))
+        _≡_ {A = Survey} (record { fits = t .fits && all (fits j) l; ones = t .ones && all (oneAt j) l; zeros = t .zeros && all (zeroSentAt j) l })
+        (record { fits = s .fits && (fits j d && all (fits j) l); ones = s .ones && (oneAt j d && all (oneAt j) l); zeros = s .zeros && (zeroSentAt j d && all (zeroSentAt j) l) })
+    added = rw (and-assoc (s .fits) (fits j d) (all (fits j) l), and-assoc (s .ones) (oneAt j d) (all (oneAt j) l), and-assoc (s .zeros) (zeroSentAt j d) (all (zeroSentAt j) l))
 
 pub surveyed-at-once : (j : ℕ) (b : Bench) (w : Bool) → let s = fold (surveyedWith j) surveyStart (live b) in let x = chosen (s .ones) (s .zeros) w in
     (s .fits && not (s .ones && s .zeros)) ≡ true → placed b w ≡ record { bench = settledBench j x b; first = s .ones; second = s .zeros; taken = x; third = x }
 surveyed-at-once j b w e =
     let is = survey-is j surveyStart (live b) in
     let a = all (oneAt j) (live b) in
-    let z = all (zeroAt j) (live b) in
+    let z = all (zeroSentAt j) (live b) in
     let f = all (fits j) (live b) in
     let k : (f && not (a && z)) ≡ true = rw is at e in
     rw is (placed-at-once j b (and-left f _ k) w (is-false (a && z) (and-right f _ k)))

@@ -54,8 +54,8 @@ fits j d = not (holdsWire d) && (quietAt (d .stage) || startsAt j (d .stage))
 unfoldable pub oneAt : ℕ → Device → Bool
 oneAt j d = quietAt (d .stage) || bitAt (d .code) j
 
-unfoldable pub zeroAt : ℕ → Device → Bool
-zeroAt j d = quietAt (d .stage) || not (bitAt (d .code) j)
+unfoldable pub zeroSentAt : ℕ → Device → Bool
+zeroSentAt j d = quietAt (d .stage) || not (bitAt (d .code) j)
 
 unfoldable pub settledOf : ℕ → Bool → Device → Device
 settledOf j x d = if quietAt (d .stage) then d else withStage d (afterSearch (d .code) j TakeBit x)
@@ -64,4 +64,4 @@ abbrev pub surveyStart : Survey
 surveyStart = record { fits = true; ones = true; zeros = true }
 
 unfoldable pub surveyedWith : ℕ → Survey → Device → Survey
-surveyedWith j s d = record { fits = s .fits && fits j d; ones = s .ones && oneAt j d; zeros = s .zeros && zeroAt j d }
+surveyedWith j s d = record { fits = s .fits && fits j d; ones = s .ones && oneAt j d; zeros = s .zeros && zeroSentAt j d }

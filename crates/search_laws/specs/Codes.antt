@@ -1,7 +1,7 @@
 -- Codes as a search sees them (the scope, "One slot", F0h): the bits in the order in which they are sent, what those who take part put on
 -- the line together, and who goes on after the master's bit.
 --     first c, rest c      the first bit of c, 0 where there is none; the bits after it
---     line S               the first read slot: the AND of the first bits of S, 1 for nobody
+--     lineOfCodes S               the first read slot: the AND of the first bits of S, 1 for nobody
 --     coLine S             the second read slot: the AND of their complements, 1 for nobody
 --     follow d S           those of S whose first bit is d, each without that bit; the others have gone quiet
 --     nobody S             whether S is empty
@@ -24,21 +24,21 @@ abbrev pub first : List Bool → Bool
 first [] = false
 first (b ∷ c) = b
 
-abbrev pub rest : List Bool → List Bool
-rest [] = []
-rest (b ∷ c) = c
+abbrev pub otherBits : List Bool → List Bool
+otherBits [] = []
+otherBits (b ∷ c) = c
 
 -- ## Those who take part, each given by the bits that it has yet to send
 
-abbrev pub line : List Code → Bool
-line S = all first S
+abbrev pub lineOfCodes : List Code → Bool
+lineOfCodes S = all first S
 
 abbrev pub coLine : List Code → Bool
 coLine S = all (λ c. not (first c)) S
 
 unfoldable pub follow : Bool → List Code → List Code
 follow d [] = []
-follow d (c ∷ S) = if Bool·beq (first c) d then rest c ∷ follow d S else follow d S
+follow d (c ∷ S) = if Bool·beq (first c) d then otherBits c ∷ follow d S else follow d S
 
 abbrev pub nobody : List Code → Bool
 nobody [] = true

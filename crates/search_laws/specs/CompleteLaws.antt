@@ -7,7 +7,7 @@ use mathlib.Core.List.{List, [], _∷_, _++_}
 use Prim.Native.Nat.{ℕ, zero, suc, _≤_, _<_}
 use native.Mathlib.Omega.{arith}
 use lib.ListN.{length}
-use Rattle.search_laws.specs.Codes.{Code, first, rest, line, coLine, follow, nobody, Sized}
+use Rattle.search_laws.specs.Codes.{Code, first, otherBits, lineOfCodes, coLine, follow, nobody, Sized}
 use Rattle.basic_laws.specs.Each.{Each, Distinct, Along}
 use Rattle.search_laws.specs.Pass.{Triple, triple, Plan, choice, onSome, pass, found}
 use Rattle.search_laws.specs.PassLaws.{never}
@@ -16,12 +16,12 @@ use Rattle.search_laws.specs.ListingLaws.{order-pairs, order-all, order-
 use Rattle.basic_laws.specs.EachLaws.{each-perm}
 use Rattle.search_laws.specs.Lists.{Lists, end, more, lists}
 use Rattle.search_laws.specs.Wire.{Bus, run, passed, searched, passOffers, slots, passes, triplets, wirePass, searchFrom, wireSearch}
-use Rattle.search_laws.specs.Issued.{longer, slots-append, pass-issued, passes-count, passes-slots}
+use Rattle.search_laws.specs.Issued.{longer-option, slots-append, pass-issued, passes-count, passes-slots}
 use Rattle.search_laws.specs.Searchers.{Model, Carries, Searchers}
 use Rattle.search_laws.specs.Holds.{search-holds}
 use Rattle.search_laws.specs.Sits.{onBus, on-bus-after, on-bus-reset}
 use Rattle.search_laws.specs.OnTheWire.{pass-on-wire, pass-lines, on-bus-pass, command-shown, nobody-reads}
-use Rattle.search_laws.specs.Complete.{allowed, PassShown, Complete, swept}
+use Rattle.search_laws.specs.Complete.{allowed, PassShown, Complete, sweptPasses}
 
 -- Each triple of a pass is allowed.
 choice-allowed : (a b w d : Bool) → choice a b w ≡ some d → allowed (triple a b d) ≡ true
@@ -34,16 +34,16 @@ pass-allowed : (n : ℕ) (plan : Plan) (S : List Code) (ts : List Triple) → pa
 unfolding pass
 pass-allowed zero plan S ts e = let f : ts ≡ [] = cc in rw f tt
 pass-allowed (suc n) plan S ts e =
-    by-choice (choice (line S) (coLine S) (first plan)) refl (λ d. pass-allowed n (rest plan) (follow d S)) e
+    by-choice (choice (lineOfCodes S) (coLine S) (first plan)) refl (λ d. pass-allowed n (otherBits plan) (follow d S)) e
   where
-    by-choice : (o : Option Bool) → choice (line S) (coLine S) (first plan) ≡ o
-        → ((d : Bool) (us : List Triple) → pass n (rest plan) (follow d S) ≡ some us → Each (λ t. allowed t ≡ true) us)
-        → onSome o none (λ d. Option·map (λ us. triple (line S) (coLine S) d ∷ us) (pass n (rest plan) (follow d S))) ≡ some ts
+    by-choice : (o : Option Bool) → choice (lineOfCodes S) (coLine S) (first plan) ≡ o
+        → ((d : Bool) (us : List Triple) → pass n (otherBits plan) (follow d S) ≡ some us → Each (λ t. allowed t ≡ true) us)
+        → onSome o none (λ d. Option·map (λ us. triple (lineOfCodes S) (coLine S) d ∷ us) (pass n (otherBits plan) (follow d S))) ≡ some ts
         → Each (λ t. allowed t ≡ true) ts
     by-choice none f i g = absurd (never g)
     by-choice (some d) f i g =
-        let k = longer (triple (line S) (coLine S) d) _ ts g in
-        rw (k .is) (choice-allowed (line S) (coLine S) (first plan) d f, i d (k .others) (k .others-is))
+        let k = longer-option (triple (lineOfCodes S) (coLine S) d) _ ts g in
+        rw (k .is) (choice-allowed (lineOfCodes S) (coLine S) (first plan) d f, i d (k .others) (k .others-is))
 
 module _ {B : Bus} {M : Model} (C : Carries B M) {command : List Bool} {n : ℕ} (Z : Searchers M command n) where
   -- A pass that finds a code is a run of its slots, and shows what it is to show.
@@ -58,7 +58,7 @@ module _ {B : Bus} {M : Model} (C : Carries B M) {command : List Bool} {n : ℕ}
 
   -- A search that is to list cs lists cs.
   search-lists : (fuel : ℕ) {o : Option Plan} {cs : List Code} (S : List Code) (ds : B .Devices) → onBus C Z ds ≡ S → Lists n S o cs → length cs ≤ fuel
-      → (searchFrom B command fuel n o ds ≡ swept B command cs ds) × Along (PassShown command) cs (passes B command cs ds .lines)
+      → (searchFrom B command fuel n o ds ≡ sweptPasses B command cs ds) × Along (PassShown command) cs (passes B command cs ds .lines)
   unfolding searchFrom passes
   search-lists zero S ds e end h = (refl, tt)
   search-lists (suc fuel) S ds e end h = (refl, tt)
@@ -73,7 +73,7 @@ module _ {B : Bus} {M : Model} (C : Carries B M) {command : List Bool} {n : ℕ}
 
   -- A search is the passes of the listing, where somebody takes part.
   pub search-is : (fuel : ℕ) (ds : B .Devices) → Sized n (onBus C Z ds) → Distinct (onBus C Z ds) → nobody (onBus C Z ds) ≡ false
-      → length (onBus C Z ds) ≤ fuel → wireSearch B command fuel n ds ≡ swept B command (inOrder n (onBus C Z ds)) ds
+      → length (onBus C Z ds) ≤ fuel → wireSearch B command fuel n ds ≡ sweptPasses B command (inOrder n (onBus C Z ds)) ds
   search-is fuel ds s d h f =
       let l = order-length n (onBus C Z ds) s d in
       search-lists fuel (onBus C Z ds) ds refl (lists n (onBus C Z ds) h) (omega arith) .0

@@ -4,7 +4,7 @@ use mathlib.Core.Bool.{Bool, true}
 use mathlib.Core.Option.{Option, none, some}
 use mathlib.Core.List.{List, [], _∷_}
 use Prim.Native.Nat.{ℕ, zero, suc}
-use Rattle.search_laws.specs.Codes.{first, rest}
+use Rattle.search_laws.specs.Codes.{first, otherBits}
 use Rattle.search_laws.specs.Pass.{triple, Plan, choice, found, next}
 use Rattle.search_laws.specs.PassLaws.{on-some}
 use Rattle.search_laws.specs.Wire.{Bus, Pass, passed, withTriple, Search, unanswered, withCode, slots, triplets, wirePass, searchFrom, wireSearch}
@@ -24,10 +24,10 @@ module _ (B : Bus) (Q : B .Devices → Type 0) (by-slot : (x : Bool) (ds : B .De
       let r = by-slot true once (by-slot true ds q) in
       let a = B .line true ds in
       let b = B .line true once in
-      let i : (d : Bool) → Q (triplets B n (rest plan) (B .after d twice) .devices) =
-      λ d. triplets-hold n (rest plan) (B .after d twice) (by-slot d twice r) in
+      let i : (d : Bool) → Q (triplets B n (otherBits plan) (B .after d twice) .devices) =
+      λ d. triplets-hold n (otherBits plan) (B .after d twice) (by-slot d twice r) in
       on-some (λ (p : Pass (B .Devices)). Q (p .devices)) (choice a b (first plan)) (passed none (a ∷ b ∷ []) twice)
-      (λ d. withTriple (triple a b d) (B .line d twice) (triplets B n (rest plan) (B .after d twice))) r i
+      (λ d. withTriple (triple a b d) (B .line d twice) (triplets B n (otherBits plan) (B .after d twice))) r i
 
   module _ (by-reset : (ds : B .Devices) → Q ds → Q (B .reset ds)) (command : List Bool) (n : ℕ) where
     pub pass-holds : (plan : Plan) (ds : B .Devices) → Q ds → Q (wirePass B command n plan ds .devices)

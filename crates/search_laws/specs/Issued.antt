@@ -8,11 +8,11 @@ use mathlib.Core.List.{List, [], _∷_, _++_}
 use Prim.Native.Nat.{ℕ, zero, suc, _+_, _*_}
 use native.Mathlib.Omega.{arith}
 use lib.ListN.{length, length-append}
-use Rattle.search_laws.specs.Codes.{Code, first, rest, Sized}
+use Rattle.search_laws.specs.Codes.{Code, first, otherBits, Sized}
 use Rattle.basic_laws.specs.Each.{Each}
 use Rattle.search_laws.specs.Pass.{Triple, triple, Plan, choice, found}
 use Rattle.search_laws.specs.PassLaws.{on-some, never}
-use Rattle.search_laws.specs.Wire.{Bus, Run, run, Pass, passed, withTriple, tripleOffers, passOffers, slots, passes, triplets, wirePass}
+use Rattle.search_laws.specs.Wire.{Bus, SlotsRun, run, Pass, passed, withTriple, tripleOffers, passOffers, slots, passes, triplets, wirePass}
 
 -- A list that was made longer at its front.
 pub record Longer {A : Type 0} (x : A) (o : Option (List A)) (l : List A) : Type 0 where
@@ -20,9 +20,9 @@ pub record Longer {A : Type 0} (x : A) (o : Option (List A)) (l : List A) : Type
   pub others-is : o ≡ some others
   pub is : l ≡ x ∷ others
 
-pub longer : {A : Type 0} (x : A) (o : Option (List A)) (l : List A) → Option·map (λ t. x ∷ t) o ≡ some l → Longer x o l
-longer x none l e = absurd (never e)
-longer x (some t) l e = record { others = t; others-is = refl; is = cc }
+pub longer-option : {A : Type 0} (x : A) (o : Option (List A)) (l : List A) → Option·map (λ t. x ∷ t) o ≡ some l → Longer x o l
+longer-option x none l e = absurd (never e)
+longer-option x (some t) l e = record { others = t; others-is = refl; is = cc }
 
 triple-offers : (c : Code) → length (tripleOffers c) ≡ 3 * length c
 unfolding tripleOffers
@@ -37,7 +37,7 @@ module _ (B : Bus) where
   slots-append (x ∷ xs) ys ds = let i = slots-append xs ys (B .after x ds) in rw i
 
   -- The run of a pass.
-  abbrev pub runOf : Pass (B .Devices) → Run (B .Devices)
+  abbrev pub runOf : Pass (B .Devices) → SlotsRun (B .Devices)
   runOf p = run (p .lines) (p .devices)
 
   triplets-issued : (n : ℕ) (plan : Plan) (ds : B .Devices) (ts : List Triple) → triplets B n plan ds .triples ≡ some ts
@@ -49,14 +49,14 @@ module _ (B : Bus) where
       let twice = B .after true once in
       let a = B .line true ds in
       let b = B .line true once in
-      let i : (d : Bool) (us : List Triple) → triplets B n (rest plan) (B .after d twice) .triples ≡ some us
-      → runOf (triplets B n (rest plan) (B .after d twice)) ≡ slots B (tripleOffers (found us)) (B .after d twice) =
-      λ d. triplets-issued n (rest plan) (B .after d twice) in
+      let i : (d : Bool) (us : List Triple) → triplets B n (otherBits plan) (B .after d twice) .triples ≡ some us
+      → runOf (triplets B n (otherBits plan) (B .after d twice)) ≡ slots B (tripleOffers (found us)) (B .after d twice) =
+      λ d. triplets-issued n (otherBits plan) (B .after d twice) in
       on-some (λ p. p .triples ≡ some ts → runOf p ≡ slots B (tripleOffers (found ts)) ds) (choice a b (first plan)) (passed none (a ∷ b ∷ []) twice)
-      (λ d. withTriple (triple a b d) (B .line d twice) (triplets B n (rest plan) (B .after d twice)))
+      (λ d. withTriple (triple a b d) (B .line d twice) (triplets B n (otherBits plan) (B .after d twice)))
       (λ z. absurd (never z))
       (λ d z.
-      let k = longer (triple a b d) _ ts z in
+      let k = longer-option (triple a b d) _ ts z in
       let r = i d (k .others) (k .others-is) in
       rw (k .is, ← r)) e
 

@@ -1,6 +1,6 @@
 -- What a search leaves alone in each device: whatever a device keeps at a reset with the command and while it searches or is quiet, it has after a
 -- whole search as before it, `search-keeps`. So the stored bytes and the activity, of which only the stage of the protocol changes in a search.
---     heard M bs d      d after it has heard the bits bs
+--     heard-keeps M bs d      d after it has heard the bits bs
 --     Keeps Z f         a device keeps f in the course of a search
 -- Assumes nothing.
 use mathlib.Core.Path.{_≡_, refl, sym, _∙_}
@@ -10,7 +10,7 @@ use mathlib.Core.List.{List, [], _∷_, _++_, map}
 use Prim.Native.Nat.{ℕ, zero, suc, _+_, _<_}
 use native.Mathlib.Omega.{arith}
 use lib.ListN.{length}
-use Rattle.search_laws.specs.Codes.{first, rest}
+use Rattle.search_laws.specs.Codes.{first, otherBits}
 use Rattle.basic_laws.specs.Each.{Each}
 use Rattle.search_laws.specs.Pass.{triple, Plan, choice, found, next}
 use Rattle.search_laws.specs.PassLaws.{on-some}
@@ -20,12 +20,12 @@ use Rattle.search_laws.specs.Searchers.{Model, Carries, Takes, Searchers
 use Rattle.search_laws.specs.Sits.{Sits, take-bit, sits-co, sits-way-next, sits-on}
 use Rattle.search_laws.specs.OnTheWire.{length-snoc, Starts, takes-command, sits-started}
 
-abbrev pub heard : (M : Model) → List Bool → M .Dev → M .Dev
-heard M [] d = d
-heard M (b ∷ bs) d = heard M bs (M .hear b d)
+abbrev pub heard-keeps : (M : Model) → List Bool → M .Dev → M .Dev
+heard-keeps M [] d = d
+heard-keeps M (b ∷ bs) d = heard-keeps M bs (M .hear b d)
 
 pub record Keeps {M : Model} {command : List Bool} {n : ℕ} (Z : Searchers M command n) {A : Type 0} (f : M .Dev → A) : Type 0 where
-  pub command-keeps : (d : M .Dev) → f (heard M command (M .restart d)) ≡ f d
+  pub command-keeps : (d : M .Dev) → f (heard-keeps M command (M .restart d)) ≡ f d
   pub own-keeps : (j : ℕ) → j < n → (x : Bool) (d : M .Dev) → Z .Own j d → f (M .hear x d) ≡ f d
   pub co-keeps : (j : ℕ) → j < n → (x : Bool) (d : M .Dev) → Z .Co j d → f (M .hear x d) ≡ f d
   pub way-keeps : (j : ℕ) → j < n → (x : Bool) (d : M .Dev) → Z .Way j d → f (M .hear x d) ≡ f d
@@ -38,16 +38,16 @@ module _ {B : Bus} {M : Model} (C : Carries B M) {command : List Bool} {n : ℕ}
 
   -- ## The reset and the command
 
-  map-heard : (b : Bool) (bs : List Bool) (ds : List (M .Dev)) → map (heard M bs) (map (M .hear b) ds) ≡ map (heard M (b ∷ bs)) ds
+  map-heard : (b : Bool) (bs : List Bool) (ds : List (M .Dev)) → map (heard-keeps M bs) (map (M .hear b) ds) ≡ map (heard-keeps M (b ∷ bs)) ds
   map-heard b bs [] = refl
   map-heard b bs (d ∷ ds) = let i = map-heard b bs ds in rw i
 
-  map-same : (ds : List (M .Dev)) → map (heard M []) ds ≡ ds
+  map-same : (ds : List (M .Dev)) → map (heard-keeps M []) ds ≡ ds
   map-same [] = refl
   map-same (d ∷ ds) = let i = map-same ds in rw i
 
   slots-heard : (P : M .Dev → Type 0) (bs : List Bool) (ds : B .Devices) → Each (Takes M P bs) (C .live ds)
-      → C .live (slots B bs ds .devices) ≡ map (heard M bs) (C .live ds)
+      → C .live (slots B bs ds .devices) ≡ map (heard-keeps M bs) (C .live ds)
   unfolding slots
   slots-heard P [] ds h = sym (map-same (C .live ds))
   slots-heard P (b ∷ bs) ds h =
@@ -57,7 +57,7 @@ module _ {B : Bus} {M : Model} (C : Carries B M) {command : List Bool} {n : ℕ}
       let i = slots-heard P bs (B .after b ds) (rw u (t .1)) in
       i ∙ rw u (map-heard b bs (C .live ds))
 
-  map-command : (ds : List (M .Dev)) → map f (map (heard M command) (map (M .restart) ds)) ≡ map f ds
+  map-command : (ds : List (M .Dev)) → map f (map (heard-keeps M command) (map (M .restart) ds)) ≡ map f ds
   map-command [] = refl
   map-command (d ∷ ds) = let i = map-command ds in rw (K .command-keeps d, i)
 
@@ -96,12 +96,12 @@ module _ {B : Bus} {M : Model} (C : Carries B M) {command : List Bool} {n : ℕ}
       let a = B .line true ds in
       let b = B .line true once in
       let t = slot-keeps p (Z .Co j) true once (K .co-keeps j l) (sits-co C Z p l ds s) ∙ slot-keeps p (Z .Own j) true ds (K .own-keeps j l) s in
-      let i : (d : Bool) → had (triplets B m (rest plan) (B .after d two) .devices) ≡ had ds =
+      let i : (d : Bool) → had (triplets B m (otherBits plan) (B .after d two) .devices) ≡ had ds =
       λ d.
-      triplets-keep m (rest plan) (p ++ d ∷ []) (B .after d two) (omega (arith, length-snoc p d)) (rw length-snoc (sits-on C Z p l ds s d))
+      triplets-keep m (otherBits plan) (p ++ d ∷ []) (B .after d two) (omega (arith, length-snoc p d)) (rw length-snoc (sits-on C Z p l ds s d))
       ∙ slot-keeps p (Z .Way j) d two (K .way-keeps j l) (sits-way-next C Z p l ds s) ∙ t in
       on-some (λ (r : Pass (B .Devices)). had (r .devices) ≡ had ds) (choice a b (first plan)) (passed none (a ∷ b ∷ []) two)
-      (λ d. withTriple (triple a b d) (B .line d two) (triplets B m (rest plan) (B .after d two))) t i
+      (λ d. withTriple (triple a b d) (B .line d two) (triplets B m (otherBits plan) (B .after d two))) t i
 
   pub pass-keeps : (plan : Plan) (ds : B .Devices) → had (wirePass B command n plan ds .devices) ≡ had ds
   pass-keeps plan ds = triplets-keep n plan [] (slots B command (B .reset ds) .devices) (omega arith) (sits-started C Z ds) ∙ started-keeps ds

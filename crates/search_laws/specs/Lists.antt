@@ -8,7 +8,7 @@ use mathlib.Core.Option.{Option, none, some}
 use mathlib.Core.List.{List, [], _∷_, _++_, map, append-nil}
 use Prim.Native.Nat.{ℕ, zero, suc}
 use Rattle.basic_laws.specs.Fold.{all}
-use Rattle.search_laws.specs.Codes.{Code, line, coLine, follow, nobody}
+use Rattle.search_laws.specs.Codes.{Code, lineOfCodes, coLine, follow, nobody}
 use Rattle.search_laws.specs.Pass.{Triple, triple, Plan, choice, pass, found, departed, next}
 use Rattle.search_laws.specs.Listing.{inOrder}
 use Rattle.search_laws.specs.ListingLaws.{order-nobody}
@@ -18,7 +18,7 @@ pub data Lists (n : ℕ) (S : List Code) : Option Plan → List Code → Type 0 
   more : (plan : Plan) (ts : List Triple) {cs : List Code} → pass n plan S ≡ some ts → Lists n S (next ts) cs → Lists n S (some plan) (found ts ∷ cs)
 
 -- The line shows 1 in the first read where nobody sends 0, and in the second where nobody sends 1.
-line-is : (S : List Code) → line S ≡ nobody (follow false S)
+line-is : (S : List Code) → lineOfCodes S ≡ nobody (follow false S)
 unfolding all follow
 line-is [] = refl
 line-is ([] ∷ S) = refl
@@ -32,7 +32,7 @@ co-line-is ([] ∷ S) = co-line-is S
 co-line-is ((true ∷ c) ∷ S) = refl
 co-line-is ((false ∷ c) ∷ S) = co-line-is S
 
-module _ (n : ℕ) (S : List Code) (x y : Bool) (A : line S ≡ x) (B : coLine S ≡ y) where
+module _ (n : ℕ) (S : List Code) (x y : Bool) (A : lineOfCodes S ≡ x) (B : coLine S ≡ y) where
   -- What is listed of those that go on after b is listed of all, with b in front; then what a departure at this bit lists.
   lift : (b : Bool) {o : Option Plan} {cs ds : List Code} → choice x y b ≡ some b → Lists (suc n) S (departed (triple x y b) none) ds
       → Lists n (follow b S) o cs → Lists (suc n) S (departed (triple x y b) o) (map (_∷_ b) cs ++ ds)

@@ -1,6 +1,6 @@
 -- A pass on a bus of devices that meet the laws is the pass over the codes of those that take part, and the line shows the command's own bits
 -- and then the triples: `pass-on-wire`. Who takes part stays the same.
---     shown ts          the line's bits of some triples
+--     triplesShown ts          the line's bits of some triples
 --     Walks o r         the slots of the bits in r had the triples o, and the line showed just these
 -- Assumes nothing.
 use mathlib.Core.Path.{_≡_, refl, ap, _∙_}
@@ -11,36 +11,36 @@ use Prim.Native.Nat.{ℕ, zero, suc, _+_, _<_}
 use native.Mathlib.Omega.{arith}
 use lib.ListN.{length, length-append}
 use Rattle.basic_laws.specs.Fold.{all}
-use Rattle.search_laws.specs.Codes.{first, rest, line, coLine, follow}
+use Rattle.search_laws.specs.Codes.{first, otherBits, lineOfCodes, coLine, follow}
 use Rattle.basic_laws.specs.EachLaws.{each-implies}
 use Rattle.basic_laws.specs.Each.{Each}
 use Rattle.search_laws.specs.Pass.{Triple, triple, Plan, choice, pass}
 use Rattle.search_laws.specs.PassLaws.{on-both, never}
 use Rattle.search_laws.specs.Paths.{onPath, path-nil, agrees-nil, path-snoc}
 use Rattle.search_laws.specs.Wire.{Bus, Pass, passed, withTriple, slots, triplets, wirePass}
-use Rattle.search_laws.specs.Issued.{longer}
+use Rattle.search_laws.specs.Issued.{longer-option}
 use Rattle.search_laws.specs.Holds.{slots-hold, pass-holds}
 use Rattle.search_laws.specs.Searchers.{Model, Carries, Takes, Searchers}
 use Rattle.search_laws.specs.Sits.{Sits, each-restart, take-bit, onBus, on-bus-after, on-bus-reset, twice, read-bit, read-co-bit, write-bit, sits-on}
 
-unfoldable pub shown : List Triple → List Bool
-shown [] = []
-shown (t ∷ ts) = t .bit ∷ t .coBit ∷ t .sent ∷ shown ts
+unfoldable pub triplesShown : List Triple → List Bool
+triplesShown [] = []
+triplesShown (t ∷ ts) = t .bit ∷ t .coBit ∷ t .sent ∷ triplesShown ts
 
 pub record Walks {D : Type 0} (o : Option (List Triple)) (r : Pass D) : Type 0 where
   pub triples-are : r .triples ≡ o
-  pub lines-are : (ts : List Triple) → o ≡ some ts → r .lines ≡ shown ts
+  pub lines-are : (ts : List Triple) → o ≡ some ts → r .lines ≡ triplesShown ts
 
 walks-none : {D : Type 0} (l : List Bool) (ds : D) → Walks none (passed none l ds)
 walks-none l ds = record { triples-are = refl; lines-are = λ ts e. absurd (never e) }
 
 walks-more : {D : Type 0} (t : Triple) (o : Option (List Triple)) (r : Pass D) → Walks o r
     → Walks (Option·map (λ ts. t ∷ ts) o) (withTriple t (t .sent) r)
-unfolding shown
+unfolding triplesShown
 walks-more t o r w = record {
   triples-are = rw (w .triples-are);
   lines-are = λ ts e.
-      let k = longer t o ts e in
+      let k = longer-option t o ts e in
       let i = w .lines-are (k .others) (k .others-is) in
       rw (k .is, i);
 }
@@ -51,22 +51,22 @@ length-snoc p d = omega (arith, length-append p (d ∷ []))
 module _ {B : Bus} {M : Model} (C : Carries B M) {command : List Bool} {n : ℕ} (Z : Searchers M command n) where
   triplets-walk : (m : ℕ) (plan : Plan) (p : List Bool) (ds : B .Devices) → length p + m ≡ n → Each (Sits Z p (Z .Own (length p))) (C .live ds)
       → Walks (pass m plan (onPath p (onBus C Z ds))) (triplets B m plan ds)
-  unfolding triplets pass shown
+  unfolding triplets pass triplesShown
   triplets-walk zero plan p ds e s = record { triples-are = refl; lines-are = λ ts f. let g : ts ≡ [] = cc in rw g }
   triplets-walk (suc m) plan p ds e s =
       let l : length p < n = omega arith in
       let S = onPath p (onBus C Z ds) in
       let two = twice C Z p l ds s in
-      let i : (d : Bool) → Walks (pass m (rest plan) (follow d S)) (triplets B m (rest plan) (B .after d two)) =
+      let i : (d : Bool) → Walks (pass m (otherBits plan) (follow d S)) (triplets B m (otherBits plan) (B .after d two)) =
       λ d.
       let k : length (p ++ d ∷ []) + m ≡ n = omega (arith, length-snoc p d) in
       let t : Each (Sits Z (p ++ d ∷ []) (Z .Own (length (p ++ d ∷ [])))) (C .live (B .after d two)) = rw length-snoc (sits-on C Z p l ds s d) in
-      simp (path-snoc, on-bus-after) at (triplets-walk m (rest plan) (p ++ d ∷ []) (B .after d two) k t) in
+      simp (path-snoc, on-bus-after) at (triplets-walk m (otherBits plan) (p ++ d ∷ []) (B .after d two) k t) in
       rw (read-bit C Z p l ds s, read-co-bit C Z p l ds s)
-      (on-both Walks (choice (line S) (coLine S) (first plan)) none (λ d. Option·map (λ ts. triple (line S) (coLine S) d ∷ ts) (pass m (rest plan) (follow d S)))
-      (passed none (line S ∷ coLine S ∷ []) two) (λ d. withTriple (triple (line S) (coLine S) d) (B .line d two) (triplets B m (rest plan) (B .after d two)))
-      (walks-none (line S ∷ coLine S ∷ []) two)
-      (λ d. rw (write-bit C Z p l ds s d) (walks-more (triple (line S) (coLine S) d) _ _ (i d))))
+      (on-both Walks (choice (lineOfCodes S) (coLine S) (first plan)) none (λ d. Option·map (λ ts. triple (lineOfCodes S) (coLine S) d ∷ ts) (pass m (otherBits plan) (follow d S)))
+      (passed none (lineOfCodes S ∷ coLine S ∷ []) two) (λ d. withTriple (triple (lineOfCodes S) (coLine S) d) (B .line d two) (triplets B m (otherBits plan) (B .after d two)))
+      (walks-none (lineOfCodes S ∷ coLine S ∷ []) two)
+      (λ d. rw (write-bit C Z p l ds s d) (walks-more (triple (lineOfCodes S) (coLine S) d) _ _ (i d))))
 
   -- ## The reset and the command
 
@@ -118,7 +118,7 @@ module _ {B : Bus} {M : Model} (C : Carries B M) {command : List Bool} {n : ℕ}
   pass-on-wire plan ds = walked plan ds .triples-are
 
   pub pass-lines : (plan : Plan) (ds : B .Devices) (ts : List Triple) → pass n plan (onBus C Z ds) ≡ some ts
-      → wirePass B command n plan ds .lines ≡ command ++ shown ts
+      → wirePass B command n plan ds .lines ≡ command ++ triplesShown ts
   pass-lines plan ds ts e = let i = walked plan ds .lines-are ts e in rw (command-shown ds, i)
 
   -- Where nobody takes part, the first two reads show 1 and 1.
@@ -130,4 +130,4 @@ module _ {B : Bus} {M : Model} (C : Carries B M) {command : List Bool} {n : ℕ}
       let es = slots B command (B .reset ds) .devices in
       let s = sits-started ds in
       let f : onPath [] (onBus C Z es) ≡ [] = path-nil _ ∙ on-bus-started ds ∙ e in
-      (read-bit C Z [] l es s ∙ ap line f, read-co-bit C Z [] l es s ∙ ap coLine f)
+      (read-bit C Z [] l es s ∙ ap lineOfCodes f, read-co-bit C Z [] l es s ∙ ap coLine f)

@@ -13,7 +13,7 @@ use mathlib.Core.Option.{Option, none, some, Option·map}
 use mathlib.Core.List.{List, [], _∷_}
 use Prim.Native.Nat.{ℕ, zero, suc}
 use Rattle.basic_laws.specs.Choice.{if_then_else_}
-use Rattle.search_laws.specs.Codes.{Code, first, rest, line, coLine, follow}
+use Rattle.search_laws.specs.Codes.{Code, first, otherBits, lineOfCodes, coLine, follow}
 
 pub record Triple : Type 0 where
   pub bit : Bool
@@ -61,8 +61,8 @@ onSome (some x) r f = f x
 unfoldable pub pass : ℕ → Plan → List Code → Option (List Triple)
 pass zero plan S = some []
 pass (suc n) plan S =
-    onSome (choice (line S) (coLine S) (first plan)) none (λ d.
-    Option·map (λ ts. triple (line S) (coLine S) d ∷ ts) (pass n (rest plan) (follow d S)))
+    onSome (choice (lineOfCodes S) (coLine S) (first plan)) none (λ d.
+    Option·map (λ ts. triple (lineOfCodes S) (coLine S) d ∷ ts) (pass n (otherBits plan) (follow d S)))
 
 unfoldable pub found : List Triple → Code
 found [] = []

@@ -17,12 +17,12 @@ use native.Mathlib.Numerals.{add-one}
 use lib.ListN.{getD, drop}
 use Rattle.basic_laws.specs.Choice.{if_then_else_}
 use Rattle.basic_laws.specs.Bits.{bitNumber, numberOf}
-use Rattle.search_laws.specs.Codes.{rest}
+use Rattle.search_laws.specs.Codes.{otherBits}
 use Rattle.search_laws.specs.Pass.{Triple, triple, Plan, choice, onSome, found, tookZero}
 use Rattle.search_laws.specs.PassLaws.{on-both, never}
 use Rattle.search_laws.specs.Paths.{first-drop}
 use Rattle.search_laws.specs.Wire.{Bus, Pass, passed, withTriple, slots, triplets, wirePass}
-use Rattle.search_laws.specs.Issued.{longer}
+use Rattle.search_laws.specs.Issued.{longer-option}
 use Rattle.search_laws.specs.Departure.{takes, lastFrom}
 
 pub record Walk (D : Type 0) : Type 0 where
@@ -150,16 +150,16 @@ module _ {D : Type 0} (j : ℕ) (w : Walk D) (t : Triple) (l : Bool) (ds : D) (r
     lines-are = m .lines-are ∙ append-assoc (w .lines) (t .bit ∷ t .coBit ∷ l ∷ []) (r .lines);
     devices-are = m .devices-are;
     code-is = λ ts e.
-        let k = longer t (r .triples) ts e in
+        let k = longer-option t (r .triples) ts e in
         let c = m .code-is (k .others) (k .others-is) in
         let p = code-more (bitNumber (t .sent)) (numberOf (found (k .others))) j in
         rw (k .is) (omega arith);
     last-is = λ ts e.
-        let k = longer t (r .triples) ts e in
+        let k = longer-option t (r .triples) ts e in
         rw (k .is) (m .last-is (k .others) (k .others-is));
   }
 
-rest-drop : (j : ℕ) (plan : Plan) → rest (drop j plan) ≡ drop (suc j) plan
+rest-drop : (j : ℕ) (plan : Plan) → otherBits (drop j plan) ≡ drop (suc j) plan
 rest-drop zero [] = refl
 rest-drop (suc j) [] = refl
 rest-drop zero (b ∷ plan) = refl

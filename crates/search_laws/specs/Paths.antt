@@ -10,11 +10,11 @@ use Prim.Native.Nat.{ℕ, zero, suc}
 use lib.ListN.{length, getD, drop}
 use Rattle.basic_laws.specs.Choice.{if_then_else_}
 use Rattle.basic_laws.specs.Fold.{all}
-use Rattle.search_laws.specs.Codes.{Code, first, rest, line, coLine, follow}
+use Rattle.search_laws.specs.Codes.{Code, first, otherBits, lineOfCodes, coLine, follow}
 
 unfoldable pub agrees : List Bool → Code → Bool
 agrees [] c = true
-agrees (b ∷ p) c = Bool·beq (first c) b && agrees p (rest c)
+agrees (b ∷ p) c = Bool·beq (first c) b && agrees p (otherBits c)
 
 unfoldable pub onPath : List Bool → List Code → List Code
 onPath [] S = S
@@ -39,14 +39,14 @@ getD-first : (c : Code) → first c ≡ getD c 0 false
 getD-first [] = refl
 getD-first (b ∷ c) = refl
 
-getD-rest : (j : ℕ) (c : Code) → getD c (suc j) false ≡ getD (rest c) j false
+getD-rest : (j : ℕ) (c : Code) → getD c (suc j) false ≡ getD (otherBits c) j false
 getD-rest j [] = refl
 getD-rest j (b ∷ c) = refl
 
 pub agrees-snoc : (p : List Bool) (d : Bool) (c : Code) → agrees (p ++ d ∷ []) c ≡ (agrees p c && Bool·beq (getD c (length p) false) d)
 unfolding agrees
 agrees-snoc [] d c = simp (getD-first, and-true)
-agrees-snoc (b ∷ p) d c = let i = agrees-snoc p d (rest c) in simp (getD-rest, i, and-assoc)
+agrees-snoc (b ∷ p) d c = let i = agrees-snoc p d (otherBits c) in simp (getD-rest, i, and-assoc)
 
 -- ## What the line shows after a path
 
@@ -64,7 +64,7 @@ unfolding onPath follow
 path-none [] = refl
 path-none (b ∷ p) = path-none p
 
-drop-rest : (j : ℕ) (c : Code) → drop (suc j) c ≡ drop j (rest c)
+drop-rest : (j : ℕ) (c : Code) → drop (suc j) c ≡ drop j (otherBits c)
 drop-rest zero [] = refl
 drop-rest (suc j) [] = refl
 drop-rest j (b ∷ c) = refl
@@ -77,8 +77,8 @@ path-cons : (p : List Bool) (c : Code) (S : List Code) → onPath p (c ∷ S) �
 unfolding onPath agrees follow
 path-cons [] c S = refl
 path-cons (b ∷ p) c S =
-    let i = path-cons p (rest c) (follow b S) in
-    rw (drop-rest, path-if p (Bool·beq (first c) b) (rest c) (follow b S), if-and, i)
+    let i = path-cons p (otherBits c) (follow b S) in
+    rw (drop-rest, path-if p (Bool·beq (first c) b) (otherBits c) (follow b S), if-and, i)
 
 all-path : (f : Code → Bool) (p : List Bool) (S : List Code) → all f (onPath p S) ≡ all (λ c. if agrees p c then f (drop (length p) c) else true) S
 unfolding all
@@ -91,7 +91,7 @@ first-drop (suc j) [] = refl
 first-drop zero (b ∷ c) = refl
 first-drop (suc j) (b ∷ c) = first-drop j c
 
-pub line-path : (p : List Bool) (S : List Code) → line (onPath p S) ≡ all (λ c. if agrees p c then getD c (length p) false else true) S
+pub line-path : (p : List Bool) (S : List Code) → lineOfCodes (onPath p S) ≡ all (λ c. if agrees p c then getD c (length p) false else true) S
 line-path p S = simp (all-path, first-drop)
 
 pub co-line-path : (p : List Bool) (S : List Code) → coLine (onPath p S) ≡ all (λ c. if agrees p c then not (getD c (length p) false) else true) S

@@ -16,11 +16,11 @@ use lib.Dec.{ltb}
 use lib.ListN.{length, getD, take}
 use Rattle.basic_laws.specs.Choice.{if_then_else_}
 use Rattle.basic_laws.specs.Bits.{numberOf}
-use Rattle.search_laws.specs.Codes.{first, rest}
+use Rattle.search_laws.specs.Codes.{first, otherBits}
 use Rattle.search_laws.specs.Pass.{Triple, triple, Plan, choice, onSome, found, next}
 use Rattle.search_laws.specs.PassLaws.{on-some, never}
 use Rattle.search_laws.specs.Wire.{Bus, Pass, passed, withTriple, Search, searched, unanswered, withCode, triplets, wirePass, searchFrom, wireSearch}
-use Rattle.search_laws.specs.Issued.{longer}
+use Rattle.search_laws.specs.Issued.{longer-option}
 use Rattle.search_laws.specs.Departure.{takes, lastFrom, planOf}
 use Rattle.search_laws.specs.DepartureLaws.{takes-plan, takes-first, next-plan}
 use Rattle.search_laws.specs.PassLoop.{Walk, if-true, if-false, answers, loopPass, SamePass, loop-pass}
@@ -107,13 +107,13 @@ module _ (B : Bus) (command : List Bool) (n : ℕ) where
       let twice = B .after true once in
       let a = B .line true ds in
       let b = B .line true once in
-      let i : (d : Bool) (us : List Triple) → triplets B m (rest plan) (B .after d twice) .triples ≡ some us → length us ≡ m =
-      λ d. triplets-length m (rest plan) (B .after d twice) in
+      let i : (d : Bool) (us : List Triple) → triplets B m (otherBits plan) (B .after d twice) .triples ≡ some us → length us ≡ m =
+      λ d. triplets-length m (otherBits plan) (B .after d twice) in
       on-some (λ (p : Pass (B .Devices)). p .triples ≡ some ts → length ts ≡ suc m) (choice a b (first plan)) (passed none (a ∷ b ∷ []) twice)
-      (λ d. withTriple (triple a b d) (B .line d twice) (triplets B m (rest plan) (B .after d twice)))
+      (λ d. withTriple (triple a b d) (B .line d twice) (triplets B m (otherBits plan) (B .after d twice)))
       (λ z. absurd (never z))
       (λ d z.
-      let k = longer (triple a b d) _ ts z in
+      let k = longer-option (triple a b d) _ ts z in
       rw (k .is) (ap suc (i d (k .others) (k .others-is)))) e
 
   -- The plan after a pass.

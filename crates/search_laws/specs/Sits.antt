@@ -11,7 +11,7 @@ use Prim.Native.Nat.{ℕ, suc, _<_}
 use lib.ListN.{length, getD}
 use Rattle.basic_laws.specs.Choice.{if_then_else_}
 use Rattle.basic_laws.specs.Fold.{all}
-use Rattle.search_laws.specs.Codes.{Code, line, coLine}
+use Rattle.search_laws.specs.Codes.{Code, lineOfCodes, coLine}
 use Rattle.basic_laws.specs.Each.{Each}
 use Rattle.search_laws.specs.Paths.{agrees, onPath, agrees-snoc, if-and, all-if, line-path, co-line-path}
 use Rattle.search_laws.specs.Wire.{Bus}
@@ -110,7 +110,7 @@ module _ {B : Bus} {M : Model} (C : Carries B M) {command : List Bool} {n : ℕ}
     abbrev pub twice : B .Devices
     twice = B .after true once
 
-    pub read-bit : B .line true ds ≡ line (onPath p (onBus ds))
+    pub read-bit : B .line true ds ≡ lineOfCodes (onPath p (onBus ds))
     read-bit =
         C .line-is true ds
         ∙ offers-sit Z p (Z .Own (length p)) (λ c. getD c (length p) false) (Z .own-offer (length p) l) (C .live ds) s

@@ -41,13 +41,13 @@ abbrev pub atStage : Small → Stage → Small
 atStage d s = record { code = d .code; flag = d .flag; stage = s }
 
 -- A searching device comes to bit j of n.
-abbrev pub comesTo : ℕ → ℕ → Stage
-comesTo n j = if ltb j n then searching j own else chosen
+abbrev pub smallComesTo : ℕ → ℕ → Stage
+smallComesTo n j = if ltb j n then searching j own else chosen
 
 -- A command byte, heard whole.
 abbrev pub obeys : ℕ → Bool → ℕ → Stage
 obeys n flag b =
-    if eqb b SEARCH_ROM then comesTo n 0 else (if eqb b ALARM_SEARCH then (if flag then comesTo n 0 else quiet) else quiet)
+    if eqb b SEARCH_ROM then smallComesTo n 0 else (if eqb b ALARM_SEARCH then (if flag then smallComesTo n 0 else quiet) else quiet)
 
 abbrev pub listens : ℕ → Bool → List Bool → Stage
 listens n flag bs = if eqb (length bs) 8 then obeys n flag (numberOf bs) else command bs
@@ -60,25 +60,25 @@ offers c (searching j own) = getD c j false
 offers c (searching j co) = not (getD c j false)
 offers c (searching j way) = true
 
-abbrev pub hears : ℕ → Bool → Code → Bool → Stage → Stage
-hears n x c flag quiet = quiet
-hears n x c flag chosen = chosen
-hears n x c flag (command bs) = listens n flag (bs ++ x ∷ [])
-hears n x c flag (searching j own) = searching j co
-hears n x c flag (searching j co) = searching j way
-hears n x c flag (searching j way) = if Bool·beq (getD c j false) x then comesTo n (suc j) else quiet
+abbrev pub smallHears : ℕ → Bool → Code → Bool → Stage → Stage
+smallHears n x c flag quiet = quiet
+smallHears n x c flag chosen = chosen
+smallHears n x c flag (command bs) = listens n flag (bs ++ x ∷ [])
+smallHears n x c flag (searching j own) = searching j co
+smallHears n x c flag (searching j co) = searching j way
+smallHears n x c flag (searching j way) = if Bool·beq (getD c j false) x then smallComesTo n (suc j) else quiet
 
 abbrev pub model : ℕ → Model
 model n = record {
   Dev = Small;
   offer = λ d. offers (d .code) (d .stage);
-  hear = λ x d. atStage d (hears n x (d .code) (d .flag) (d .stage));
+  hear = λ x d. atStage d (smallHears n x (d .code) (d .flag) (d .stage));
   restart = λ d. atStage d (command []);
 }
 
 -- ## The laws
 
-pub comes-to : (n j : ℕ) → j < n → comesTo n j ≡ searching j own
+pub comes-to : (n j : ℕ) → j < n → smallComesTo n j ≡ searching j own
 comes-to n j h = rw (lt-ltb j n h)
 
 pub way-on : (s : Stage) (b : Bool) → cond b ((if b then s else quiet) ≡ s) ((if b then s else quiet) ≡ quiet)
@@ -87,12 +87,12 @@ way-on s false = refl
 
 module _ (n byte : ℕ) (joins : Small → Bool) (stays : (d : Small) (s : Stage) → joins (atStage d s) ≡ joins d) where
   -- Either command, by who takes part.
-  abbrev pub searchersBy : ((d : Small) → Takes (model n) (λ e. cond (joins e) (e .stage ≡ comesTo n 0) (e .stage ≡ quiet)) (bitsOf 8 byte) (model n .restart d))
+  abbrev pub searchersBy : ((d : Small) → Takes (model n) (λ e. cond (joins e) (e .stage ≡ smallComesTo n 0) (e .stage ≡ quiet)) (bitsOf 8 byte) (model n .restart d))
       → Searchers (model n) (bitsOf 8 byte) n
   searchersBy taken = record {
     code = λ d. d .code;
     joins = joins;
-    Own = λ j d. d .stage ≡ comesTo n j;
+    Own = λ j d. d .stage ≡ smallComesTo n j;
     Co = λ j d. d .stage ≡ searching j co;
     Way = λ j d. d .stage ≡ searching j way;
     Out = λ d. d .stage ≡ quiet;
@@ -108,7 +108,7 @@ module _ (n byte : ℕ) (joins : Small → Bool) (stays : (d : Small) (s : Stage
     co-offer = λ j l d h. rw h;
     co-hear = λ j l x d h. rw h;
     way-offer = λ j l d h. rw h;
-    way-hear = λ j l x d h. rw h (way-on (comesTo n (suc j)) (Bool·beq (getD (d .code) j false) x));
+    way-hear = λ j l x d h. rw h (way-on (smallComesTo n (suc j)) (Bool·beq (getD (d .code) j false) x));
   }
 
 unfoldable pub searchers : (n : ℕ) → Searchers (model n) (bitsOf 8 SEARCH_ROM) n
@@ -118,7 +118,7 @@ searchers n = searchersBy n SEARCH_ROM (λ d. true) (λ d s. refl) (λ d. (refl,
 unfoldable pub alarmSearchers : (n : ℕ) → Searchers (model n) (bitsOf 8 ALARM_SEARCH) n
 unfolding bitsOf numberOf
 alarmSearchers n =
-    searchersBy n ALARM_SEARCH (λ d. d .flag) (λ d s. refl) (λ d. (refl, (refl, (refl, (refl, (refl, (refl, (refl, (refl, way-on (comesTo n 0) (d .flag))))))))))
+    searchersBy n ALARM_SEARCH (λ d. d .flag) (λ d s. refl) (λ d. (refl, (refl, (refl, (refl, (refl, (refl, (refl, (refl, way-on (smallComesTo n 0) (d .flag))))))))))
 
 -- A search keeps all but the stage.
 pub small-keeps : (n : ℕ) → Keeps (searchers n) (λ d. atStage d quiet)

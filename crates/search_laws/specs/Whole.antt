@@ -10,16 +10,16 @@ use mathlib.Core.List.{List, [], _∷_, _++_}
 use Prim.Native.Nat.{ℕ, zero, suc, _+_}
 use native.Mathlib.Omega.{arith}
 use lib.ListN.{length, length-append}
-use Rattle.search_laws.specs.Codes.{first, rest}
+use Rattle.search_laws.specs.Codes.{first, otherBits}
 use Rattle.search_laws.specs.Pass.{Triple, triple, Plan, choice, onSome, found, next}
 use Rattle.search_laws.specs.PassLaws.{never}
-use Rattle.search_laws.specs.Wire.{Bus, run, ran, passed, withTriple, Search, searched, unanswered, withCode, slots, passes, triplets, wirePass, searchFrom}
+use Rattle.search_laws.specs.Wire.{Bus, run, ranPasses, passed, withTriple, Search, searched, unanswered, withCode, slots, passes, triplets, wirePass, searchFrom}
 use Rattle.search_laws.specs.Issued.{slots-append, slots-length, pass-issued, runOf}
 
 module _ (B : Bus) (command : List Bool) where
   -- a search that has found a code in each pass is the passes of its codes
   abbrev Issued : B .Devices → Search (B .Devices) → Type 0
-  Issued ds s = length (s .codes) ≡ length (s .lines) → ran (s .lines) (s .devices) ≡ passes B command (s .codes) ds
+  Issued ds s = length (s .codes) ≡ length (s .lines) → ranPasses (s .lines) (s .devices) ≡ passes B command (s .codes) ds
 
   module _ (n : ℕ) where
     pub search-issued : (fuel : ℕ) (o : Option Plan) (ds : B .Devices) → Issued ds (searchFrom B command fuel n o ds)
@@ -38,7 +38,7 @@ module _ (B : Bus) (command : List Bool) where
         by-answer (some ts) a i e =
             let r = pass-issued B command n plan ds ts a in
             let j = i ts (omega arith) in
-            rw (← r) (ap (λ q. ran (wirePass B command n plan ds .lines ∷ q .lines) (q .devices)) j)
+            rw (← r) (ap (λ q. ranPasses (wirePass B command n plan ds .lines ∷ q .lines) (q .devices)) j)
 
     -- two reads that nobody answers are two slots
     two-reads : (m : ℕ) (plan : Plan) (ds : B .Devices) → triplets B m plan ds .triples ≡ none → length (triplets B m plan ds .lines) ≡ 2
@@ -51,10 +51,10 @@ module _ (B : Bus) (command : List Bool) where
         by-choice : (o : Option Bool)
             → length (onSome o (passed none (B .line true ds ∷ B .line true (B .after true ds) ∷ []) (B .after true (B .after true ds))) (λ d.
             withTriple (triple (B .line true ds) (B .line true (B .after true ds)) d) (B .line d (B .after true (B .after true ds)))
-            (triplets B m (rest plan) (B .after d (B .after true (B .after true ds))))) .lines) ≡ 2
+            (triplets B m (otherBits plan) (B .after d (B .after true (B .after true ds))))) .lines) ≡ 2
             → runOf B (onSome o (passed none (B .line true ds ∷ B .line true (B .after true ds) ∷ []) (B .after true (B .after true ds))) (λ d.
             withTriple (triple (B .line true ds) (B .line true (B .after true ds)) d) (B .line d (B .after true (B .after true ds)))
-            (triplets B m (rest plan) (B .after d (B .after true (B .after true ds))))))
+            (triplets B m (otherBits plan) (B .after d (B .after true (B .after true ds))))))
             ≡ run (B .line true ds ∷ B .line true (B .after true ds) ∷ []) (B .after true (B .after true ds))
         by-choice none h = refl
         by-choice (some d) h = absurd (omega arith)

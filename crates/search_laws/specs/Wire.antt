@@ -10,7 +10,7 @@ use mathlib.Core.Bool.{Bool, true}
 use mathlib.Core.Option.{Option, none, some, Option·map}
 use mathlib.Core.List.{List, [], _∷_, _++_}
 use Prim.Native.Nat.{ℕ, zero, suc}
-use Rattle.search_laws.specs.Codes.{Code, first, rest}
+use Rattle.search_laws.specs.Codes.{Code, first, otherBits}
 use Rattle.search_laws.specs.Pass.{Triple, triple, Plan, choice, onSome, found, next}
 
 pub record Bus : Type 1 where
@@ -20,11 +20,11 @@ pub record Bus : Type 1 where
   pub reset : Devices → Devices
 
 -- What a run of slots gives: the bits that the line showed, in order, and the devices after the last.
-pub record Run (D : Type 0) : Type 0 where
+pub record SlotsRun (D : Type 0) : Type 0 where
   pub lines : List Bool
   pub devices : D
 
-abbrev pub run : {D : Type 0} → List Bool → D → Run D
+abbrev pub run : {D : Type 0} → List Bool → D → SlotsRun D
 run l ds = record { lines = l; devices = ds }
 
 -- What several passes give: for each pass the line's bits.
@@ -32,8 +32,8 @@ pub record Passes (D : Type 0) : Type 0 where
   pub lines : List (List Bool)
   pub devices : D
 
-abbrev pub ran : {D : Type 0} → List (List Bool) → D → Passes D
-ran l ds = record { lines = l; devices = ds }
+abbrev pub ranPasses : {D : Type 0} → List (List Bool) → D → Passes D
+ranPasses l ds = record { lines = l; devices = ds }
 
 -- What a pass gives: its triples, none where nobody has answered at some bit, and its run.
 pub record Pass (D : Type 0) : Type 0 where
@@ -73,16 +73,16 @@ abbrev pub passOffers : List Bool → Code → List Bool
 passOffers command c = command ++ tripleOffers c
 
 module _ (B : Bus) where
-  unfoldable pub slots : List Bool → B .Devices → Run (B .Devices)
+  unfoldable pub slots : List Bool → B .Devices → SlotsRun (B .Devices)
   slots [] ds = run [] ds
   slots (x ∷ xs) ds = let r = slots xs (B .after x ds) in run (B .line x ds ∷ r .lines) (r .devices)
 
   unfoldable pub passes : List Bool → List Code → B .Devices → Passes (B .Devices)
-  passes command [] ds = ran [] ds
+  passes command [] ds = ranPasses [] ds
   passes command (c ∷ cs) ds =
       let r = slots (passOffers command c) (B .reset ds) in
       let s = passes command cs (r .devices) in
-      ran (r .lines ∷ s .lines) (s .devices)
+      ranPasses (r .lines ∷ s .lines) (s .devices)
 
   -- The slots of n bits: two reads, then the bit chosen; where nobody answers, the two reads are the last slots.
   unfoldable pub triplets : ℕ → Plan → B .Devices → Pass (B .Devices)
@@ -93,7 +93,7 @@ module _ (B : Bus) where
       let a = B .line true ds in
       let b = B .line true once in
       onSome (choice a b (first plan)) (passed none (a ∷ b ∷ []) twice) (λ d.
-      withTriple (triple a b d) (B .line d twice) (triplets n (rest plan) (B .after d twice)))
+      withTriple (triple a b d) (B .line d twice) (triplets n (otherBits plan) (B .after d twice)))
 
   abbrev pub wirePass : List Bool → ℕ → Plan → B .Devices → Pass (B .Devices)
   wirePass command n plan ds =

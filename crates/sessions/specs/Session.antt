@@ -3,20 +3,20 @@
 --     Console                what is said to a line in a state, and the state after it
 --     inTurn C s ls          what is said to lines one after the other, from the state s on
 --     Run                    a run so far: the state, and what is held of the line that has no feed yet
---     fresh s                a run that begins in the state s, with nothing held
+--     freshRun s                a run that begins in the state s, with nothing held
 --     grown r l              the run with the characters of l behind those that are held, cut at 81 (`mostHeld`)
 --     heldLine r fed         the line that is held, with its feed or without
---     ended C r fed          the run where the held line has its feed, which is answered and held no more, or has none yet
+--     heldEnded C r fed          the run where the held line has its feed, which is answered and held no more, or has none yet
 --     endSaid C r fed        what is said then: the answer to the held line, or nothing
---     ran C r l              the run after one line of a piece, or after the part of a line that the piece ends with
---     heard C r l            what is said to it: nothing where it has no feed yet
+--     ranLine C r l              the run after one line of a piece, or after the part of a line that the piece ends with
+--     heardLine C r l            what is said to it: nothing where it has no feed yet
 --     ranAll, heardAll       the same for lines one after the other
---     after C r s            the run after a piece
+--     runAfter C r s            the run after a piece
 --     saidOn C r s           what is said on the way
 --     atEnd C r              what is said at the end of the input: to a held line without a feed, if there is one
 --     session C r cs         what is said to the pieces cs and at the end
 --     cut l                  a line cut at 81 characters
---     Enough C               that 81 characters of a line tell what is said to it and where it leads
+--     HeldEnough C               that 81 characters of a line tell what is said to it and where it leads
 --     SessionClaim C         that what is said does not depend on where the text was cut: it is what is said to the lines of the whole text in turn
 --     runAt s line held      the run of a program: its state, and the line that stands at the front of a buffer
 --     Reached C s r          a run that a program may come to from the state s
@@ -54,8 +54,8 @@ pub record Run (S : Type 0) : Type 0 where
   pub held : List ℕ
 
 -- a run that begins
-abbrev pub fresh : {S : Type 0} → S → Run S
-fresh s = record { state = s; held = [] }
+abbrev pub freshRun : {S : Type 0} → S → Run S
+freshRun s = record { state = s; held = [] }
 
 -- the run with more characters of the line, cut where they tell that it is over-long
 abbrev pub grown : {S : Type 0} → Run S → Line → Run S
@@ -66,36 +66,36 @@ abbrev pub heldLine : {S : Type 0} → Run S → Bool → Line
 heldLine r fed = record { chars = r .held; fed = fed }
 
 -- the held line is answered where it has its feed, and held no more
-abbrev pub ended : (C : Console) → Run (C .State) → Bool → Run (C .State)
-ended C r fed = if fed then fresh (C .next (r .state) (heldLine r true)) else r
+abbrev pub heldEnded : (C : Console) → Run (C .State) → Bool → Run (C .State)
+heldEnded C r fed = if fed then freshRun (C .next (r .state) (heldLine r true)) else r
 
 -- what is said then
 abbrev pub endSaid : (C : Console) → Run (C .State) → Bool → List ℕ
 endSaid C r fed = if fed then C .says (r .state) (heldLine r true) else []
 
 -- the run after one line of a piece, or after the part of a line that the piece ends with
-abbrev pub ran : (C : Console) → Run (C .State) → Line → Run (C .State)
-ran C r l = ended C (grown r l) (l .fed)
+abbrev pub ranLine : (C : Console) → Run (C .State) → Line → Run (C .State)
+ranLine C r l = heldEnded C (grown r l) (l .fed)
 
 -- what is said to it
-abbrev pub heard : (C : Console) → Run (C .State) → Line → List ℕ
-heard C r l = endSaid C (grown r l) (l .fed)
+abbrev pub heardLine : (C : Console) → Run (C .State) → Line → List ℕ
+heardLine C r l = endSaid C (grown r l) (l .fed)
 
 -- ## A run, piece by piece
 
 -- the run after some lines of a piece
 unfoldable pub ranAll : (C : Console) → Run (C .State) → List Line → Run (C .State)
 ranAll C r [] = r
-ranAll C r (l ∷ ls) = ranAll C (ran C r l) ls
+ranAll C r (l ∷ ls) = ranAll C (ranLine C r l) ls
 
 -- what is said to them
 unfoldable pub heardAll : (C : Console) → Run (C .State) → List Line → List ℕ
 heardAll C r [] = []
-heardAll C r (l ∷ ls) = heard C r l ++ heardAll C (ran C r l) ls
+heardAll C r (l ∷ ls) = heardLine C r l ++ heardAll C (ranLine C r l) ls
 
 -- the run after a piece
-abbrev pub after : (C : Console) → Run (C .State) → List ℕ → Run (C .State)
-after C r s = ranAll C r (linesOf s)
+abbrev pub runAfter : (C : Console) → Run (C .State) → List ℕ → Run (C .State)
+runAfter C r s = ranAll C r (linesOf s)
 
 -- what is said on the way
 abbrev pub saidOn : (C : Console) → Run (C .State) → List ℕ → List ℕ
@@ -108,7 +108,7 @@ atEnd C r = if ltb 0 (length (r .held)) then C .says (r .state) (heldLine r fals
 -- what is said to pieces and at the end
 unfoldable pub session : (C : Console) → Run (C .State) → List (List ℕ) → List ℕ
 session C r [] = atEnd C r
-session C r (c ∷ cs) = saidOn C r c ++ session C (after C r c) cs
+session C r (c ∷ cs) = saidOn C r c ++ session C (runAfter C r c) cs
 
 -- ## What is claimed
 
@@ -117,13 +117,13 @@ abbrev pub cut : Line → Line
 cut l = record { chars = take mostHeld (l .chars); fed = l .fed }
 
 -- it says what the whole line says, and leads where that leads
-pub record Enough (C : Console) : Type 0 where
+pub record HeldEnough (C : Console) : Type 0 where
   pub says-same : (s : C .State) (l : Line) → C .says s (cut l) ≡ C .says s l
   pub next-same : (s : C .State) (l : Line) → C .next s (cut l) ≡ C .next s l
 
 -- what is said does not depend on where the text was cut
 abbrev pub SessionClaim : Console → Type 0
-SessionClaim C = Enough C → (s : C .State) (cs : List (List ℕ)) → session C (fresh s) cs ≡ inTurn C s (linesOf (together cs))
+SessionClaim C = HeldEnough C → (s : C .State) (cs : List (List ℕ)) → session C (freshRun s) cs ≡ inTurn C s (linesOf (together cs))
 
 -- ## What a program comes to, and what it may write
 
@@ -133,13 +133,13 @@ runAt s line held = record { state = s; held = take held line }
 
 -- a run that begins, and one after the first line, or the part of a line, of whatever comes next
 pub data Reached (C : Console) (s : C .State) : Run (C .State) → Type 0 where
-  start : Reached C s (fresh s)
-  more : {r : Run (C .State)} → Reached C s r → (x : List ℕ) → Reached C s (ran C r (firstLine x))
+  start : Reached C s (freshRun s)
+  more : {r : Run (C .State)} → Reached C s r → (x : List ℕ) → Reached C s (ranLine C r (firstLine x))
 
 -- a run that some text has led to
 pub record Led (C : Console) (s : C .State) (r : Run (C .State)) : Type 0 where
   pub text : List ℕ
-  pub is : r ≡ after C (fresh s) text
+  pub is : r ≡ runAfter C (freshRun s) text
 
 -- where a program stands between two reads: in a run that it may come to, with what is held of the line at the front of a buffer of 81 bytes
 pub record Standing (C : Console) (s v : C .State) (line : List ℕ) (held : ℕ) : Type 0 where
@@ -149,5 +149,5 @@ pub record Standing (C : Console) (s v : C .State) (line : List ℕ) (held : ℕ
 
 -- what is said to the first line of whatever comes next, or at the end
 pub data Answerable (C : Console) (s : C .State) (t : List ℕ) : Type 0 where
-  of-line : {r : Run (C .State)} → Reached C s r → (x : List ℕ) → t ≡ heard C r (firstLine x) → Answerable C s t
+  of-line : {r : Run (C .State)} → Reached C s r → (x : List ℕ) → t ≡ heardLine C r (firstLine x) → Answerable C s t
   of-end : {r : Run (C .State)} → Reached C s r → t ≡ atEnd C r → Answerable C s t

@@ -22,7 +22,7 @@ use Rattle.pieces.specs.Pieces.{together}
 use Rattle.sessions.specs.Gathering.{mostHeld, partAt, taken, takenLeaves}
 use Rattle.sessions.specs.GatheringLaws.{taken-few, taken-holds}
 use Rattle.sessions.specs.declared.gathering.Gathered.{Gathered}
-use Rattle.sessions.specs.Session.{Console, inTurn, Run, fresh, grown, ended, endSaid, ranAll, heardAll, after, saidOn, atEnd, session, Enough, SessionClaim, ran, heard, runAt, Reached, start, more, Led, Standing, Answerable, of-line, of-end}
+use Rattle.sessions.specs.Session.{Console, inTurn, Run, freshRun, grown, heldEnded, endSaid, ranAll, heardAll, runAfter, saidOn, atEnd, session, HeldEnough, SessionClaim, ranLine, heardLine, runAt, Reached, start, more, Led, Standing, Answerable, of-line, of-end}
 
 -- what is cut twice is cut once
 take-again : (n : ℕ) (u v : List ℕ) → take n (take n u ++ v) ≡ take n (u ++ v)
@@ -44,12 +44,12 @@ module _ (C : Console) where
   ran-longer : (r : Run (C .State)) (c : ℕ) (ls : List Line) → ranAll C r (longer c ls) ≡ ranAll C (grown r (one c)) ls
   unfolding ranAll
   ran-longer r c [] = refl
-  ran-longer r c (l ∷ ls) = ap (λ (q : Run (C .State)). ranAll C (ended C q (l .fed)) ls) (grown-twice r c l)
+  ran-longer r c (l ∷ ls) = ap (λ (q : Run (C .State)). ranAll C (heldEnded C q (l .fed)) ls) (grown-twice r c l)
 
   heard-longer : (r : Run (C .State)) (c : ℕ) (ls : List Line) → heardAll C r (longer c ls) ≡ heardAll C (grown r (one c)) ls
   unfolding heardAll
   heard-longer r c [] = refl
-  heard-longer r c (l ∷ ls) = ap (λ (q : Run (C .State)). endSaid C q (l .fed) ++ heardAll C (ended C q (l .fed)) ls) (grown-twice r c l)
+  heard-longer r c (l ∷ ls) = ap (λ (q : Run (C .State)). endSaid C q (l .fed) ++ heardAll C (heldEnded C q (l .fed)) ls) (grown-twice r c l)
 
 -- the run that the bytes u since the last feed lead to
 abbrev holding : {S : Type 0} → S → List ℕ → Run S
@@ -59,7 +59,7 @@ holding s u = record { state = s; held = take mostHeld u }
 abbrev lineOf : List ℕ → Bool → Line
 lineOf u fed = record { chars = u; fed = fed }
 
-module _ (C : Console) (enough : Enough C) where
+module _ (C : Console) (enough : HeldEnough C) where
   -- at the end of the input
   finished-some : (s : C .State) (c : ℕ) (u : List ℕ) → all notFeed (c ∷ u) ≡ true → atEnd C (holding s (c ∷ u)) ≡ inTurn C s (linesOf (c ∷ u))
   unfolding inTurn
@@ -75,10 +75,10 @@ module _ (C : Console) (enough : Enough C) where
   module _ (cs : List (List ℕ)) (later : (s : C .State) (u : List ℕ) → all notFeed u ≡ true → session C (holding s u) cs ≡ inTurn C s (linesOf (u ++ together cs))) where
     -- what is said from a run on
     abbrev onward : Run (C .State) → List ℕ → List ℕ
-    onward r c = saidOn C r c ++ session C (after C r c) cs
+    onward r c = saidOn C r c ++ session C (runAfter C r c) cs
 
     at-feed : (c : List ℕ) (s : C .State) (u : List ℕ) → all notFeed u ≡ true
-        → ((v : C .State) → onward (fresh v) c ≡ inTurn C v (linesOf (c ++ together cs)))
+        → ((v : C .State) → onward (freshRun v) c ≡ inTurn C v (linesOf (c ++ together cs)))
         → onward (holding s u) (lineFeed ∷ c) ≡ inTurn C s (linesOf (u ++ (lineFeed ∷ (c ++ together cs))))
     unfolding linesOf ranAll heardAll inTurn
     at-feed c s u plain rest =
@@ -88,8 +88,8 @@ module _ (C : Console) (enough : Enough C) where
         let says : C .says s held ≡ C .says s l = ap (λ (t : List ℕ). C .says s (lineOf t true)) cut ∙ enough .says-same s l in
         let leads : C .next s held ≡ C .next s l = ap (λ (t : List ℕ). C .next s (lineOf t true)) cut ∙ enough .next-same s l in
         let lines = ap linesOf (sym (append-assoc u (lineFeed ∷ []) (c ++ together cs))) ∙ lines-cut u (c ++ together cs) plain in
-        append-assoc (C .says s held) (saidOn C (fresh (C .next s held)) c) (session C (after C (fresh (C .next s held)) c) cs)
-        ∙ ap (λ (t : List ℕ). t ++ onward (fresh (C .next s held)) c) says ∙ ap (λ (v : C .State). C .says s l ++ onward (fresh v) c) leads
+        append-assoc (C .says s held) (saidOn C (freshRun (C .next s held)) c) (session C (runAfter C (freshRun (C .next s held)) c) cs)
+        ∙ ap (λ (t : List ℕ). t ++ onward (freshRun (C .next s held)) c) says ∙ ap (λ (v : C .State). C .says s l ++ onward (freshRun v) c) leads
         ∙ ap (λ (t : List ℕ). C .says s l ++ t) (rest (C .next s l)) ∙ ap (inTurn C s) (sym lines)
 
     at-other : (d : ℕ) (c : List ℕ) (s : C .State) (u : List ℕ) → eqb d lineFeed ≡ false
@@ -100,9 +100,9 @@ module _ (C : Console) (enough : Enough C) where
         let r = holding s u in
         let lines : linesOf (d ∷ c) ≡ longer d (linesOf c) = rw e refl in
         let heard-is : saidOn C r (d ∷ c) ≡ saidOn C (grown r (one d)) c = ap (heardAll C r) lines ∙ heard-longer C r d (linesOf c) in
-        let ran-is : after C r (d ∷ c) ≡ after C (grown r (one d)) c = ap (ranAll C r) lines ∙ ran-longer C r d (linesOf c) in
+        let ran-is : runAfter C r (d ∷ c) ≡ runAfter C (grown r (one d)) c = ap (ranAll C r) lines ∙ ran-longer C r d (linesOf c) in
         let next : grown r (one d) ≡ holding s (u ++ (d ∷ [])) = ap (λ (t : List ℕ). record { state = s; held = t }) (take-again mostHeld u (d ∷ [])) in
-        ap (λ (t : List ℕ). t ++ session C (after C r (d ∷ c)) cs) heard-is ∙ ap (λ (q : Run (C .State)). saidOn C (grown r (one d)) c ++ session C q cs) ran-is
+        ap (λ (t : List ℕ). t ++ session C (runAfter C r (d ∷ c)) cs) heard-is ∙ ap (λ (q : Run (C .State)). saidOn C (grown r (one d)) c ++ session C q cs) ran-is
         ∙ ap (λ (q : Run (C .State)). onward q c) next ∙ rest ∙ ap (λ (t : List ℕ). inTurn C s (linesOf t)) (append-assoc u (d ∷ []) (c ++ together cs))
 
     piece : (c : List ℕ) (s : C .State) (u : List ℕ) → all notFeed u ≡ true → onward (holding s u) c ≡ inTurn C s (linesOf (u ++ (c ++ together cs)))
@@ -111,7 +111,7 @@ module _ (C : Console) (enough : Enough C) where
     piece (d ∷ c) s u plain = by-test (eqb d lineFeed) refl (λ v. piece c v [] refl) (piece c s (u ++ (d ∷ [])))
       where
         by-test : (t : Bool) → eqb d lineFeed ≡ t
-            → ((v : C .State) → onward (fresh v) c ≡ inTurn C v (linesOf (c ++ together cs)))
+            → ((v : C .State) → onward (freshRun v) c ≡ inTurn C v (linesOf (c ++ together cs)))
             → (all notFeed (u ++ (d ∷ [])) ≡ true → onward (holding s (u ++ (d ∷ []))) c ≡ inTurn C s (linesOf ((u ++ (d ∷ [])) ++ (c ++ together cs))))
             → onward (holding s u) (d ∷ c) ≡ inTurn C s (linesOf (u ++ (d ∷ (c ++ together cs))))
         by-test true e anew on = rw (eqb-true d lineFeed e) (at-feed c s u plain anew)
@@ -145,28 +145,28 @@ first-other d x e =
 
 module _ (C : Console) where
   -- one byte more
-  after-other : (r : Run (C .State)) (d : ℕ) (t : List ℕ) → eqb d lineFeed ≡ false → after C r (d ∷ t) ≡ after C (grown r (one d)) t
+  after-other : (r : Run (C .State)) (d : ℕ) (t : List ℕ) → eqb d lineFeed ≡ false → runAfter C r (d ∷ t) ≡ runAfter C (grown r (one d)) t
   unfolding linesOf
   after-other r d t e = let lines : linesOf (d ∷ t) ≡ longer d (linesOf t) = rw e refl in ap (ranAll C r) lines ∙ ran-longer C r d (linesOf t)
 
-  after-feed : (r : Run (C .State)) (d : ℕ) (t : List ℕ) → eqb d lineFeed ≡ true → after C r (d ∷ t) ≡ after C (ran C r (lineOf [] true)) t
+  after-feed : (r : Run (C .State)) (d : ℕ) (t : List ℕ) → eqb d lineFeed ≡ true → runAfter C r (d ∷ t) ≡ runAfter C (ranLine C r (lineOf [] true)) t
   unfolding linesOf ranAll
   after-feed r d t e = let lines : linesOf (d ∷ t) ≡ lineOf [] true ∷ linesOf t = rw e refl in ap (ranAll C r) lines
 
-  after-append : (r : Run (C .State)) (t u : List ℕ) → after C r (t ++ u) ≡ after C (after C r t) u
+  after-append : (r : Run (C .State)) (t u : List ℕ) → runAfter C r (t ++ u) ≡ runAfter C (runAfter C r t) u
   unfolding linesOf ranAll
   after-append r [] u = refl
   after-append r (d ∷ t) u = by-test (eqb d lineFeed) refl (λ q. after-append q t u)
     where
-      by-test : (b : Bool) → eqb d lineFeed ≡ b → ((q : Run (C .State)) → after C q (t ++ u) ≡ after C (after C q t) u) → after C r (d ∷ (t ++ u)) ≡ after C (after C r (d ∷ t)) u
-      by-test true e on = after-feed r d (t ++ u) e ∙ on (ran C r (lineOf [] true)) ∙ ap (λ (q : Run (C .State)). after C q u) (sym (after-feed r d t e))
-      by-test false e on = after-other r d (t ++ u) e ∙ on (grown r (one d)) ∙ ap (λ (q : Run (C .State)). after C q u) (sym (after-other r d t e))
+      by-test : (b : Bool) → eqb d lineFeed ≡ b → ((q : Run (C .State)) → runAfter C q (t ++ u) ≡ runAfter C (runAfter C q t) u) → runAfter C r (d ∷ (t ++ u)) ≡ runAfter C (runAfter C r (d ∷ t)) u
+      by-test true e on = after-feed r d (t ++ u) e ∙ on (ranLine C r (lineOf [] true)) ∙ ap (λ (q : Run (C .State)). runAfter C q u) (sym (after-feed r d t e))
+      by-test false e on = after-other r d (t ++ u) e ∙ on (grown r (one d)) ∙ ap (λ (q : Run (C .State)). runAfter C q u) (sym (after-other r d t e))
 
   few-held : (u : List ℕ) → length (take mostHeld u) ≤ mostHeld
   few-held u = let l = length-take mostHeld u in omega arith
 
   -- the first line of some bytes, by the bytes that it takes
-  line-after : (x : List ℕ) (r : Run (C .State)) → length (r .held) ≤ mostHeld → after C r (take (width (firstLine x)) x) ≡ ran C r (firstLine x)
+  line-after : (x : List ℕ) (r : Run (C .State)) → length (r .held) ≤ mostHeld → runAfter C r (take (width (firstLine x)) x) ≡ ranLine C r (firstLine x)
   unfolding linesOf ranAll firstAt
   line-after [] r few =
       let same : take mostHeld (r .held ++ []) ≡ r .held = ap (take mostHeld) (append-nil (r .held)) ∙ take-all mostHeld (r .held) few in
@@ -174,22 +174,22 @@ module _ (C : Console) where
   line-after (d ∷ x) r few = by-test (eqb d lineFeed) refl (line-after x (grown r (one d)) (few-held (r .held ++ (d ∷ []))))
     where
       by-test : (b : Bool) → eqb d lineFeed ≡ b
-          → after C (grown r (one d)) (take (width (firstLine x)) x) ≡ ran C (grown r (one d)) (firstLine x)
-          → after C r (take (width (firstLine (d ∷ x))) (d ∷ x)) ≡ ran C r (firstLine (d ∷ x))
+          → runAfter C (grown r (one d)) (take (width (firstLine x)) x) ≡ ranLine C (grown r (one d)) (firstLine x)
+          → runAfter C r (take (width (firstLine (d ∷ x))) (d ∷ x)) ≡ ranLine C r (firstLine (d ∷ x))
       by-test true e on =
           let some : 0 < suc (length x) = omega arith in
           let line : firstLine (d ∷ x) ≡ lineOf [] true = rw (e, lt-ltb 0 (suc (length x)) some) refl in
-          ap (λ (l : Line). after C r (take (width l) (d ∷ x))) line ∙ after-feed r d [] e ∙ ap (ran C r) (sym line)
+          ap (λ (l : Line). runAfter C r (take (width l) (d ∷ x))) line ∙ after-feed r d [] e ∙ ap (ranLine C r) (sym line)
       by-test false e on =
           let first = first-other d x e in
-          ap (λ (n : ℕ). after C r (take n (d ∷ x))) (first .1) ∙ after-other r d (take (width (firstLine x)) x) e ∙ on
-          ∙ ap (λ (q : Run (C .State)). ended C q (firstLine x .fed)) (sym (grown-twice C r d (firstLine x))) ∙ ap (ran C r) (sym (first .0))
+          ap (λ (n : ℕ). runAfter C r (take n (d ∷ x))) (first .1) ∙ after-other r d (take (width (firstLine x)) x) e ∙ on
+          ∙ ap (λ (q : Run (C .State)). heldEnded C q (firstLine x .fed)) (sym (grown-twice C r d (firstLine x))) ∙ ap (ranLine C r) (sym (first .0))
 
   reached-few : {s : C .State} {r : Run (C .State)} → Reached C s r → length (r .held) ≤ mostHeld
   reached-few start = omega arith
   reached-few (more {r = r} reached x) = by-feed (firstLine x .fed)
     where
-      by-feed : (b : Bool) → length (ended C (grown r (firstLine x)) b .held) ≤ mostHeld
+      by-feed : (b : Bool) → length (heldEnded C (grown r (firstLine x)) b .held) ≤ mostHeld
       by-feed true = omega arith
       by-feed false = few-held (r .held ++ firstLine x .chars)
 
@@ -200,13 +200,13 @@ module _ (C : Console) where
       let led = reached-led reached in
       let bytes = take (width (firstLine x)) x in record {
         text = led .text ++ bytes;
-        is = sym (after-append (fresh s) (led .text) bytes ∙ ap (λ (q : Run (C .State)). after C q bytes) (sym (led .is)) ∙ line-after x r (reached-few reached));
+        is = sym (after-append (freshRun s) (led .text) bytes ∙ ap (λ (q : Run (C .State)). runAfter C q bytes) (sym (led .is)) ∙ line-after x r (reached-few reached));
       }
 
 -- ## A piece as a program walks it, line by line
 
 -- what is still to run of a piece that is walked to its end
-pub piece-done : (C : Console) (r : Run (C .State)) (piece : List ℕ) (at : ℕ) → length piece ≤ at → after C r (drop at piece) ≡ r
+pub piece-done : (C : Console) (r : Run (C .State)) (piece : List ℕ) (at : ℕ) → length piece ≤ at → runAfter C r (drop at piece) ≡ r
 unfolding ranAll
 piece-done C r piece at past = rw (lines-done piece at past) refl
 
@@ -217,8 +217,8 @@ pub record LineTaken (C : Console) (s v : C .State) (line : List ℕ) (held : �
   pub answers : Answerable C s (endSaid C (runAt v line' (g .held)) (g .whole))
   pub on : at < g .next
   pub within : g .next ≤ length piece
-  pub rest : (w : C .State) (n : ℕ) → runAt w line' n ≡ ended C (runAt v line' (g .held)) (g .whole) → after C (runAt v line held) (drop at piece) ≡ after C (runAt w line' n) (drop (g .next) piece)
-  pub stands : (w : C .State) (n : ℕ) → length line' ≡ length line → runAt w line' n ≡ ended C (runAt v line' (g .held)) (g .whole) → n ≤ g .held → Standing C s w line' n
+  pub rest : (w : C .State) (n : ℕ) → runAt w line' n ≡ heldEnded C (runAt v line' (g .held)) (g .whole) → runAfter C (runAt v line held) (drop at piece) ≡ runAfter C (runAt w line' n) (drop (g .next) piece)
+  pub stands : (w : C .State) (n : ℕ) → length line' ≡ length line → runAt w line' n ≡ heldEnded C (runAt v line' (g .held)) (g .whole) → n ≤ g .held → Standing C s w line' n
 
 module _ {C : Console} {s v : C .State} {line : List ℕ} {held : ℕ} (stands : Standing C s v line held) (piece : List ℕ) (at : ℕ)
     (g : Gathered) (answer : g ≡ taken line held piece at) (line' : List ℕ) (left : line' ≡ takenLeaves line held piece at) (before : at < length piece) where
@@ -227,12 +227,12 @@ module _ {C : Console} {s v : C .State} {line : List ℕ} {held : ℕ} (stands :
       let holds = taken-holds line held (stands .size) (stands .within) piece at in
       rw (left, answer) (ap (λ (u : List ℕ). record { state = v; held = u }) holds)
 
-  line-ran : ended C (runAt v line' (g .held)) (g .whole) ≡ ran C (runAt v line held) (partAt piece at)
+  line-ran : heldEnded C (runAt v line' (g .held)) (g .whole) ≡ ranLine C (runAt v line held) (partAt piece at)
   line-ran =
-      ap (λ (r : Run (C .State)). ended C r (g .whole)) gathered-is
-      ∙ ap (λ (h : Gathered). ended C (grown (runAt v line held) (partAt piece at)) (h .whole)) answer
+      ap (λ (r : Run (C .State)). heldEnded C r (g .whole)) gathered-is
+      ∙ ap (λ (h : Gathered). heldEnded C (grown (runAt v line held) (partAt piece at)) (h .whole)) answer
 
-  line-heard : endSaid C (runAt v line' (g .held)) (g .whole) ≡ heard C (runAt v line held) (partAt piece at)
+  line-heard : endSaid C (runAt v line' (g .held)) (g .whole) ≡ heardLine C (runAt v line held) (partAt piece at)
   line-heard =
       ap (λ (r : Run (C .State)). endSaid C r (g .whole)) gathered-is
       ∙ ap (λ (h : Gathered). endSaid C (grown (runAt v line held) (partAt piece at)) (h .whole)) answer
@@ -243,14 +243,14 @@ module _ {C : Console} {s v : C .State} {line : List ℕ} {held : ℕ} (stands :
   line-place : (at < g .next) × (g .next ≤ length piece)
   line-place = rw answer (line-ends piece at before)
 
-  line-rest : (w : C .State) (n : ℕ) → runAt w line' n ≡ ended C (runAt v line' (g .held)) (g .whole) → after C (runAt v line held) (drop at piece) ≡ after C (runAt w line' n) (drop (g .next) piece)
+  line-rest : (w : C .State) (n : ℕ) → runAt w line' n ≡ heldEnded C (runAt v line' (g .held)) (g .whole) → runAfter C (runAt v line held) (drop at piece) ≡ runAfter C (runAt w line' n) (drop (g .next) piece)
   unfolding ranAll
   line-rest w n is =
       ap (ranAll C (runAt v line held)) (lines-next piece at before)
-      ∙ ap (λ (h : Gathered). after C (ran C (runAt v line held) (partAt piece at)) (drop (h .next) piece)) (sym answer)
-      ∙ ap (λ (r : Run (C .State)). after C r (drop (g .next) piece)) (sym (is ∙ line-ran))
+      ∙ ap (λ (h : Gathered). runAfter C (ranLine C (runAt v line held) (partAt piece at)) (drop (h .next) piece)) (sym answer)
+      ∙ ap (λ (r : Run (C .State)). runAfter C r (drop (g .next) piece)) (sym (is ∙ line-ran))
 
-  line-stands : (w : C .State) (n : ℕ) → length line' ≡ length line → runAt w line' n ≡ ended C (runAt v line' (g .held)) (g .whole) → n ≤ g .held → Standing C s w line' n
+  line-stands : (w : C .State) (n : ℕ) → length line' ≡ length line → runAt w line' n ≡ heldEnded C (runAt v line' (g .held)) (g .whole) → n ≤ g .held → Standing C s w line' n
   line-stands w n same is few = record {
     size = same ∙ stands .size;
     within = let most = line-few in omega arith;

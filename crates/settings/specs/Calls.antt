@@ -13,7 +13,7 @@ use Rattle.basic_laws.specs.Choice.{if_then_else_}
 use Rattle.refusals.specs.Refusals.{accepted, duplicate, benchFull, notFound, staleVersion, versionsSpent}
 use Rattle.rom.specs.Code.{codeRefusal}
 use Rattle.device.specs.declared.Settings.{Settings}
-use Rattle.settings.specs.Store.{blank, keptAt, entryAt, withEntry, withNew}
+use Rattle.settings.specs.Store.{blank, keptAt, entryAt, withEntry, withNewEntry}
 use Rattle.settings.specs.declared.Alter.{Alter}
 use Rattle.settings.specs.declared.Alter.the-variants.{Leave, To}
 use Rattle.settings.specs.declared.Alterations.{Alterations}
@@ -26,11 +26,11 @@ use Rattle.settings.specs.declared.Located.{Located}
 use Rattle.settings.specs.declared.Store.{Store}
 use Rattle.settings.specs.declared.StoreAfter.{StoreAfter}
 
-abbrev pub refused : ℕ → Store → StoreAfter
-refused n s = record { refusal = n; store = s }
+abbrev pub storeRefused : ℕ → Store → StoreAfter
+storeRefused n s = record { refusal = n; store = s }
 
-abbrev pub changed : Store → StoreAfter
-changed s = record { refusal = accepted; store = s }
+abbrev pub storeChanged : Store → StoreAfter
+storeChanged s = record { refusal = accepted; store = s }
 
 -- settings as they are kept: of the configuration the two bits of the resolution, for every family
 abbrev pub keptForm : Settings → Settings
@@ -42,13 +42,13 @@ abbrev pub firstEntry : ℕ → Settings → Entry
 firstEntry code first = record { code = code; present = true; settings = keptForm first; version = 0 }
 
 abbrev pub addedFirst : Store → ℕ → Settings → StoreAfter
-addedFirst s code first = if not (ltb (s .count) 32) then refused benchFull s else changed (withNew s (firstEntry code first))
+addedFirst s code first = if not (ltb (s .count) 32) then storeRefused benchFull s else storeChanged (withNewEntry s (firstEntry code first))
 
 abbrev pub there : Entry → Entry
 there e = record { code = e .code; present = true; settings = e .settings; version = e .version }
 
 abbrev pub addedAgain : Store → ℕ → StoreAfter
-addedAgain s i = if entryAt s i .present then refused duplicate s else changed (withEntry s i (there (entryAt s i)))
+addedAgain s i = if entryAt s i .present then storeRefused duplicate s else storeChanged (withEntry s i (there (entryAt s i)))
 
 abbrev pub addedAt : Store → ℕ → Settings → Kept → StoreAfter
 addedAt s code first (At i) = addedAgain s i
@@ -56,7 +56,7 @@ addedAt s code first Nowhere = addedFirst s code first
 
 unfoldable pub settingsAdded : Store → ℕ → Settings → StoreAfter
 settingsAdded s code first =
-    if not (eqb (codeRefusal code) accepted) then refused (codeRefusal code) s
+    if not (eqb (codeRefusal code) accepted) then storeRefused (codeRefusal code) s
     else addedAt s code first (keptAt s code)
 
 -- ## A code that is there
@@ -82,8 +82,8 @@ gone e = record { code = e .code; present = false; settings = e .settings; versi
 unfoldable pub settingsRemoved : Store → ℕ → StoreAfter
 settingsRemoved s code =
     let found = located s code in
-    if not (eqb (found .refusal) accepted) then refused (found .refusal) s
-    else changed (withEntry s (found .place) (gone (found .entry)))
+    if not (eqb (found .refusal) accepted) then storeRefused (found .refusal) s
+    else storeChanged (withEntry s (found .place) (gone (found .entry)))
 
 unfoldable pub settingsRead : Store → ℕ → Current
 settingsRead s code =

@@ -1,7 +1,7 @@
 -- Every run of calls on a store, by any callers in any order, refused calls included, and an account of each code that is made of the accepted ones alone (document 02, E6).
 --     StoreCall             one call, with its arguments
 --     book h                the store after the calls h from the empty one, the codes that were first added, in order, and the account of each code
---     after h               that store
+--     afterCalls h               that store
 --     settled a             the first settings of an account under its changes, in turn
 --     shownOf code a        what a read of the code shows, by its account
 --     InTurn n changes      the changes named n, n + 1 and so on
@@ -35,7 +35,7 @@ pub data StoreCall : Type 0 where
 -- ## Accounts
 
 -- the version that an accepted change named, and what it asked
-pub record Accepted : Type 0 where
+pub record AcceptedChange : Type 0 where
   pub named : ℕ
   pub asked : Alterations
 
@@ -44,7 +44,7 @@ pub record Account : Type 0 where
   pub known : Bool
   pub present : Bool
   pub first : Settings
-  pub changes : List Accepted
+  pub changes : List AcceptedChange
 
 abbrev pub noAccount : Account
 noAccount = record { known = false; present = false; first = record { high = 0; low = 0; configuration = 0 }; changes = [] }
@@ -70,13 +70,13 @@ pub record Book : Type 0 where
 abbrev pub onAccepted : ℕ → ℕ → (Account → Account) → (ℕ → Account) → ℕ → Account
 onAccepted refusal code f accounts k = if eqb refusal accepted && eqb k code then f (accounts k) else accounts k
 
-abbrev pub codesAfter : ℕ → ℕ → Book → List ℕ
-codesAfter refusal code b = if eqb refusal accepted && not (b .accounts code .known) then b .codes ++ (code ∷ []) else b .codes
+abbrev pub codesJoined : ℕ → ℕ → Book → List ℕ
+codesJoined refusal code b = if eqb refusal accepted && not (b .accounts code .known) then b .codes ++ (code ∷ []) else b .codes
 
 abbrev pub entered : Book → StoreCall → Book
 entered b (add code first) =
     let r = settingsAdded (b .store) code first in
-    record { store = r .store; codes = codesAfter (r .refusal) code b; accounts = onAccepted (r .refusal) code (joining first) (b .accounts) }
+    record { store = r .store; codes = codesJoined (r .refusal) code b; accounts = onAccepted (r .refusal) code (joining first) (b .accounts) }
 entered b (remove code) =
     let r = settingsRemoved (b .store) code in
     record { store = r .store; codes = b .codes; accounts = onAccepted (r .refusal) code leaving (b .accounts) }
@@ -88,8 +88,8 @@ entered b (change code version asked) =
 unfoldable pub book : List StoreCall → Book
 book h = fold entered (record { store = emptyStore; codes = []; accounts = λ code. noAccount }) h
 
-abbrev pub after : List StoreCall → Store
-after h = book h .store
+abbrev pub afterCalls : List StoreCall → Store
+afterCalls h = book h .store
 
 -- ## What an account comes to
 
@@ -105,7 +105,7 @@ shownOf code a =
     else if a .present then record { refusal = accepted; settings = settled a; version = length (a .changes) }
     else noneShown notFound
 
-abbrev pub InTurn : ℕ → List Accepted → Type 0
+abbrev pub InTurn : ℕ → List AcceptedChange → Type 0
 InTurn n [] = Unit
 InTurn n (c ∷ changes) = (c .named ≡ n) × InTurn (n + 1) changes
 
@@ -124,14 +124,14 @@ RunsRight = (h : List StoreCall) → Right (book h)
 -- however many calls came between, and whoever made them
 abbrev pub SameVersion : Type 0
 SameVersion = (h more : List StoreCall) (code : ℕ)
-    → settingsRead (after h) code .refusal ≡ accepted → settingsRead (after (h ++ more)) code .refusal ≡ accepted
-    → settingsRead (after (h ++ more)) code .version ≡ settingsRead (after h) code .version
-    → settingsRead (after (h ++ more)) code ≡ settingsRead (after h) code
+    → settingsRead (afterCalls h) code .refusal ≡ accepted → settingsRead (afterCalls (h ++ more)) code .refusal ≡ accepted
+    → settingsRead (afterCalls (h ++ more)) code .version ≡ settingsRead (afterCalls h) code .version
+    → settingsRead (afterCalls (h ++ more)) code ≡ settingsRead (afterCalls h) code
 
 abbrev pub NothingUndone : Type 0
 NothingUndone = (h more : List StoreCall) (code : ℕ) (asked : Alterations)
-    → settingsRead (after h) code .refusal ≡ accepted
-    → let seen = settingsRead (after h) code in
-    let done = settingsChanged (after (h ++ more)) code (seen .version) asked in
+    → settingsRead (afterCalls h) code .refusal ≡ accepted
+    → let seen = settingsRead (afterCalls h) code in
+    let done = settingsChanged (afterCalls (h ++ more)) code (seen .version) asked in
     done .refusal ≡ accepted
     → settingsRead (done .store) code ≡ record { refusal = accepted; settings = settingsAltered (seen .settings) asked; version = seen .version + 1 }

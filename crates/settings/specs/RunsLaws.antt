@@ -21,10 +21,10 @@ use Rattle.basic_laws.specs.FoldLaws.{fold-append}
 use Rattle.refusals.specs.Refusals.{accepted, notFound, staleVersion}
 use Rattle.rom.specs.Code.{codeRefusal}
 use Rattle.device.specs.declared.Settings.{Settings}
-use Rattle.settings.specs.Store.{live, blank, keptAt, entryAt, withEntry, withNew}
+use Rattle.settings.specs.Store.{liveEntries, blank, keptAt, entryAt, withEntry, withNewEntry}
 use Rattle.settings.specs.Calls.{firstEntry, there, gone, alteredEntry, settingsAltered, missing, locatedWhere, located, changeRefused, changedEntry, settingsAdded, settingsRemoved, settingsRead, settingsChanged}
-use Rattle.settings.specs.Runs.{StoreCall, add, remove, read, change, Accepted, Account, noAccount, joining, leaving, changing, Book, onAccepted, codesAfter, entered, book, after, settled, noneShown, shownOf, InTurn, RunsRight, SameVersion, NothingUndone}
-use Rattle.settings.specs.StoreLaws.{kept-found, kept-nowhere, same-places, new-live, new-place, added-cases, removed-cases, changed-cases}
+use Rattle.settings.specs.Runs.{StoreCall, add, remove, read, change, AcceptedChange, Account, noAccount, joining, leaving, changing, Book, onAccepted, codesJoined, entered, book, afterCalls, settled, noneShown, shownOf, InTurn, RunsRight, SameVersion, NothingUndone}
+use Rattle.settings.specs.StoreLaws.{kept-found, kept-nowhere, same-places, new-live, new-place, store-added-cases, removed-cases, changed-cases}
 use Rattle.settings.specs.declared.Alterations.{Alterations}
 use Rattle.settings.specs.declared.Current.{Current}
 use Rattle.settings.specs.declared.Entry.{Entry}
@@ -58,7 +58,7 @@ gone-matches a e m = record { known-is = m .known-is; present-is = refl; setting
 
 settled-more : (named : ℕ) (asked : Alterations) (a : Account) → settled (changing named asked a) ≡ settingsAltered (settled a) asked
 unfolding fold
-settled-more named asked a = fold-append (λ (s : Settings) (c : Accepted). settingsAltered s (c .asked)) (a .first) (a .changes) (record { named = named; asked = asked } ∷ [])
+settled-more named asked a = fold-append (λ (s : Settings) (c : AcceptedChange). settingsAltered s (c .asked)) (a .first) (a .changes) (record { named = named; asked = asked } ∷ [])
 
 altered-matches : (named : ℕ) (asked : Alterations) (a : Account) (e : Entry) → Matches a e → Matches (changing named asked a) (alteredEntry e asked)
 altered-matches named asked a e m = record {
@@ -91,17 +91,17 @@ module _ (s : Store) (code : ℕ) (accounts : ℕ → Account) (f : Account → 
 
 module _ (s : Store) (e : Entry) (accounts : ℕ → Account) (f : Account → Account) (held : (k : ℕ) → Held s (accounts k) (keptAt s k)) where
   new-held : s .count < length (s .entries) → keptAt s (e .code) ≡ Nowhere → Matches (f (accounts (e .code))) e
-      → (k : ℕ) → Held (withNew s e) (if eqb k (e .code) then f (accounts k) else accounts k) (keptAt (withNew s e) k)
+      → (k : ℕ) → Held (withNewEntry s e) (if eqb k (e .code) then f (accounts k) else accounts k) (keptAt (withNewEntry s e) k)
   new-held room none m k = rw (new-place s e room none k) (by-test (eqb k (e .code)) refl)
     where
-      by-place : (p : Kept) → keptAt s k ≡ p → Held s (accounts k) p → Held (withNew s e) (accounts k) p
+      by-place : (p : Kept) → keptAt s k ≡ p → Held s (accounts k) p → Held (withNewEntry s e) (accounts k) p
       by-place (At j) q h =
           let counted = kept-found s k j q .counted in
           let apart : j ≢ s .count = λ g. omega arith in
           rw (getD-set-other (s .entries) (s .count) j e blank apart) h
       by-place Nowhere q h = h
 
-      by-test : (t : Bool) → eqb k (e .code) ≡ t → Held (withNew s e) (if t then f (accounts k) else accounts k) (if t then At (s .count) else keptAt s k)
+      by-test : (t : Bool) → eqb k (e .code) ≡ t → Held (withNewEntry s e) (if t then f (accounts k) else accounts k) (if t then At (s .count) else keptAt s k)
       by-test true g = let is = eqb-true k (e .code) g in rw (is, getD-set-same (s .entries) (s .count) e blank room) m
       by-test false g = by-place (keptAt s k) refl (held k)
 
@@ -110,12 +110,12 @@ module _ (s : Store) (e : Entry) (accounts : ℕ → Account) (f : Account → A
 record Keeps (b : Book) : Type 0 where
   pub long : length (b .store .entries) ≡ 32
   pub few : b .store .count ≤ 32
-  pub codes-are : map (λ e. e .code) (live (b .store)) ≡ b .codes
+  pub codes-are : map (λ e. e .code) (liveEntries (b .store)) ≡ b .codes
   pub distinct : Distinct (b .codes)
   pub held : (k : ℕ) → Held (b .store) (b .accounts k) (keptAt (b .store) k)
   pub turn : (k : ℕ) → InTurn 0 (b .accounts k .changes)
 
-turn-more : (n : ℕ) (changes : List Accepted) (c : Accepted) → InTurn n changes → c .named ≡ n + length changes → InTurn n (changes ++ (c ∷ []))
+turn-more : (n : ℕ) (changes : List AcceptedChange) (c : AcceptedChange) → InTurn n changes → c .named ≡ n + length changes → InTurn n (changes ++ (c ∷ []))
 turn-more n [] c t e = (omega arith, tt)
 turn-more n (d ∷ changes) c t e = (t .0, turn-more (n + 1) changes c (t .1) (omega arith))
 
@@ -142,7 +142,7 @@ module _ (b : Book) (code : ℕ) (g : Keeps b) where
         few = g .few;
         codes-are =
             ap (map (λ (x : Entry). x .code)) (take-set-lt (s .count) (s .entries) i e counted)
-            ∙ map-set-same (λ (x : Entry). x .code) (live s) i e blank (same ∙ ap (λ (x : Entry). x .code) (sym (getD-take (s .count) (s .entries) i blank counted)))
+            ∙ map-set-same (λ (x : Entry). x .code) (liveEntries s) i e blank (same ∙ ap (λ (x : Entry). x .code) (sym (getD-take (s .count) (s .entries) i blank counted)))
             ∙ g .codes-are;
         distinct = g .distinct;
         held = replaced-held s code (b .accounts) f (g .held) i e at same m;
@@ -158,7 +158,7 @@ module _ (b : Book) (code : ℕ) (g : Keeps b) where
 
   -- the first entry of a code, behind the others
   new-keeps : (first : Settings) → keptAt (b .store) code ≡ Nowhere → b .store .count < 32
-      → Keeps (record { store = withNew (b .store) (firstEntry code first); codes = b .codes ++ (code ∷ []); accounts = λ k. if eqb k code then joining first (b .accounts k) else b .accounts k })
+      → Keeps (record { store = withNewEntry (b .store) (firstEntry code first); codes = b .codes ++ (code ∷ []); accounts = λ k. if eqb k code then joining first (b .accounts k) else b .accounts k })
   new-keeps first none few =
       let s = b .store in
       let l = g .long in
@@ -167,8 +167,8 @@ module _ (b : Book) (code : ℕ) (g : Keeps b) where
       record {
         long = length-set (s .entries) (s .count) (firstEntry code first) ∙ g .long;
         few = omega arith;
-        codes-are = ap (map (λ (x : Entry). x .code)) (new-live s (firstEntry code first) room) ∙ map-snoc (live s) (firstEntry code first) ∙ ap (λ (l : List ℕ). l ++ (code ∷ [])) (g .codes-are);
-        distinct = distinct-snoc (b .codes) code (g .distinct) (rw (g .codes-are) at (others (live s) (kept-nowhere s code none)));
+        codes-are = ap (map (λ (x : Entry). x .code)) (new-live s (firstEntry code first) room) ∙ map-snoc (liveEntries s) (firstEntry code first) ∙ ap (λ (l : List ℕ). l ++ (code ∷ [])) (g .codes-are);
+        distinct = distinct-snoc (b .codes) code (g .distinct) (rw (g .codes-are) at (others (liveEntries s) (kept-nowhere s code none)));
         held = new-held s (firstEntry code first) (b .accounts) (joining first) (g .held) room none (rw no (first-matches code first));
         turn = by-code;
       }
@@ -198,8 +198,8 @@ refused-keeps b code n f r g =
 
 added-keeps : (b : Book) (code : ℕ) (first : Settings) → Keeps b → Keeps (entered b (add code first))
 added-keeps b code first g =
-    added-cases (b .store) code first
-    (λ r. Keeps (record { store = r .store; codes = codesAfter (r .refusal) code b; accounts = onAccepted (r .refusal) code (joining first) (b .accounts) }))
+    store-added-cases (b .store) code first
+    (λ r. Keeps (record { store = r .store; codes = codesJoined (r .refusal) code b; accounts = onAccepted (r .refusal) code (joining first) (b .accounts) }))
     (λ n r. rw (ne-eqb n accepted r) (refused-keeps b code n (joining first) r g))
     (λ none few. rw (held-none (b .store) (b .accounts code) (keptAt (b .store) code) none (g .held code)) (new-keeps b code g first none few))
     (λ i at.
@@ -273,15 +273,15 @@ runs-right h =
     let s = book h .store in
     let few = g .few in
     let long = g .long in
-    let count : length (live s) ≡ s .count = let l = length-take (s .count) (s .entries) in omega arith in
-    let places : s .count ≡ length (book h .codes) = sym count ∙ sym (length-map (live s) (λ (e : Entry). e .code)) ∙ ap length (g .codes-are) in
+    let count : length (liveEntries s) ≡ s .count = let l = length-take (s .count) (s .entries) in omega arith in
+    let places : s .count ≡ length (book h .codes) = sym count ∙ sym (length-map (liveEntries s) (λ (e : Entry). e .code)) ∙ ap length (g .codes-are) in
     record { read-is = λ code. keeps-read (book h) code g; in-turn = g .turn; places-are = places; places-few = omega arith; codes-distinct = g .distinct }
 
 -- ## Equal versions
 
 -- an account only grows
 record Grown (a a' : Account) : Type 0 where
-  pub more : List Accepted
+  pub more : List AcceptedChange
   pub changes-are : a' .changes ≡ a .changes ++ more
   pub known-is : a .known ≡ true → a' .known ≡ true
   pub first-is : a .known ≡ true → a' .first ≡ a .first
@@ -292,7 +292,7 @@ not-grown a = record { more = []; changes-are = sym (append-nil (a .changes)); k
 grown-then : (a b c : Account) → Grown a b → Grown b c → Grown a c
 grown-then a b c g h = record {
   more = g .more ++ h .more;
-  changes-are = h .changes-are ∙ ap (λ (l : List Accepted). l ++ h .more) (g .changes-are) ∙ append-assoc (a .changes) (g .more) (h .more);
+  changes-are = h .changes-are ∙ ap (λ (l : List AcceptedChange). l ++ h .more) (g .changes-are) ∙ append-assoc (a .changes) (g .more) (h .more);
   known-is = λ k. h .known-is (g .known-is k);
   first-is = λ k. h .first-is (g .known-is k) ∙ g .first-is k;
 }
@@ -355,7 +355,7 @@ present-known b code g p = by-place (keptAt (b .store) code) (g .held code)
     by-place (At i) m = m .known-is
     by-place Nowhere none = let z : false ≡ true = sym (ap (λ (a : Account). a .present) none) ∙ p in let one : _≡_ {A = ℕ} 0 1 = ap (λ (t : Bool). if t then 1 else 0) z in absurd (omega arith)
 
-no-more : (l m : List Accepted) → length (l ++ m) ≡ length l → l ++ m ≡ l
+no-more : (l m : List AcceptedChange) → length (l ++ m) ≡ length l → l ++ m ≡ l
 no-more l [] e = append-nil l
 no-more l (c ∷ m) e = let n = length-append l (c ∷ m) in absurd (omega arith)
 
@@ -418,7 +418,7 @@ present-shown code a named asked = by-code (eqb (codeRefusal code) accepted)
 pub nothing-undone : NothingUndone
 nothing-undone h more code asked first done =
     let b = book (h ++ more) in
-    let seen = settingsRead (after h) code in
+    let seen = settingsRead (afterCalls h) code in
     let call = change code (seen .version) asked in
     let last = change-reads (b .store) code (seen .version) asked done in
     let same : settingsRead (b .store) code ≡ seen = same-version h more code first (last .0) (last .1) in

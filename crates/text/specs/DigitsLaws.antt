@@ -178,12 +178,12 @@ unfolding hexOf all
 hex-are [] = refl
 hex-are (b ∷ bs) = rw (all-append (isDigit 16) (hexDigits 2 b) (hexOf bs), digits-are 16 (lit< tt) (omega arith) 2 b, hex-are bs)
 
-pub bytes-length : (n : ℕ) (cs : List ℕ) → length cs ≡ 2 * n → length (bytesOf cs) ≡ n
+pub pairs-length : (n : ℕ) (cs : List ℕ) → length cs ≡ 2 * n → length (bytesOf cs) ≡ n
 unfolding bytesOf
-bytes-length n [] e = omega arith
-bytes-length n (h ∷ []) e = absurd (omega arith)
-bytes-length zero (h ∷ l ∷ cs) e = absurd (omega arith)
-bytes-length (suc n) (h ∷ l ∷ cs) e = ap suc (bytes-length n cs (omega arith))
+pairs-length n [] e = omega arith
+pairs-length n (h ∷ []) e = absurd (omega arith)
+pairs-length zero (h ∷ l ∷ cs) e = absurd (omega arith)
+pairs-length (suc n) (h ∷ l ∷ cs) e = ap suc (pairs-length n cs (omega arith))
 
 -- a last digit without a partner is passed over
 pub bytes-half : (cs : List ℕ) → length (bytesOf cs) ≡ length cs / 2

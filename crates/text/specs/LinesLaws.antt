@@ -259,10 +259,10 @@ module _ (s : List ℕ) (at next count : ℕ) (before : at < length s) (behind :
 pub count-end : (s : List ℕ) (at count : ℕ) → length s ≤ at → count + length (linesOf (drop at s)) ≡ length (linesOf s) → count ≡ length (linesOf s)
 count-end s at count h e = let none = ap length (lines-done s at h) in omega arith
 
-pub bytes-append : (ls ms : List Line) → linesBytes (ls ++ ms) ≡ linesBytes ls ++ linesBytes ms
+pub line-bytes-append : (ls ms : List Line) → linesBytes (ls ++ ms) ≡ linesBytes ls ++ linesBytes ms
 unfolding linesBytes
-bytes-append [] ms = refl
-bytes-append (l ∷ ls) ms = rw (bytes-append ls ms) (sym (append-assoc (lineBytes l) (linesBytes ls) (linesBytes ms)))
+line-bytes-append [] ms = refl
+line-bytes-append (l ∷ ls) ms = rw (line-bytes-append ls ms) (sym (append-assoc (lineBytes l) (linesBytes ls) (linesBytes ms)))
 
 behind-none : (n : ℕ) → linesOf (linesBytes (drop n (linesOf []))) ≡ drop n (linesOf [])
 unfolding linesOf linesBytes
@@ -279,7 +279,7 @@ lines-behind (c ∷ s) (suc n) = rw (lines-first c s) (lines-behind (drop (feedA
 module _ (s : List ℕ) (n : ℕ) where
   pub bytes-parted : s ≡ linesBytes (take n (linesOf s)) ++ linesBytes (drop n (linesOf s))
   bytes-parted =
-      sym (lines-bytes s) ∙ ap linesBytes (sym (take-append-drop n (linesOf s))) ∙ bytes-append (take n (linesOf s)) (drop n (linesOf s))
+      sym (lines-bytes s) ∙ ap linesBytes (sym (take-append-drop n (linesOf s))) ∙ line-bytes-append (take n (linesOf s)) (drop n (linesOf s))
 
   pub lines-from : drop (length (linesBytes (take n (linesOf s)))) s ≡ linesBytes (drop n (linesOf s))
   lines-from =

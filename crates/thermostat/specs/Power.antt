@@ -1,13 +1,13 @@
 -- Power-up, which the start is too: it alone takes up the mode (house).
---     poweredUp k     the probe as power finds it: limits, mode, polarity and one-shot as they were kept, flags and temperature 0, output inactive, quiet; in thermostat
+--     probePoweredUp k     the probe as power finds it: limits, mode, polarity and one-shot as they were kept, flags and temperature 0, output inactive, quiet; in thermostat
 --                     mode a conversion runs from there on, else none
 use mathlib.Core.Bool.{false}
 use Rattle.thermostat.specs.declared.Kept.{Kept}
 use Rattle.thermostat.specs.declared.Stage.the-variants.{Quiet}
 use Rattle.thermostat.specs.declared.Thermostat.{Thermostat}
 
-unfoldable pub poweredUp : Kept → Thermostat
-poweredUp k = record {
+unfoldable pub probePoweredUp : Kept → Thermostat
+probePoweredUp k = record {
   kept = k;
   stage = Quiet;
   temperature = 0;

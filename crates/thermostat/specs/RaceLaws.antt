@@ -23,8 +23,8 @@ use Rattle.temperature.specs.Range.{wholeInRange}
 use Rattle.temperature.specs.declared.WholeDegrees.{WholeDegrees}
 use Rattle.thermostat.specs.Commands.{writeStatus}
 use Rattle.thermostat.specs.Finish.{above, below, measured, finished}
-use Rattle.thermostat.specs.Record.{withStage}
-use Rattle.thermostat.specs.Slot.{runsAfter, stageAfter, awaitCommand, stored, heardCommand, heardByte, slotted, resetDone}
+use Rattle.thermostat.specs.Record.{probeWithStage}
+use Rattle.thermostat.specs.Slot.{runsAfter, stageAfter, awaitCommand, stored, heardCommand, heardByte, probeSlotted, probeReset}
 use Rattle.thermostat.specs.Status.{statusWritten}
 use Rattle.thermostat.specs.declared.Finished.{Finished}
 use Rattle.thermostat.specs.declared.Flags.{Flags}
@@ -35,7 +35,7 @@ use Rattle.thermostat.specs.declared.Thermostat.{Thermostat}
 use Rattle.thermostat.specs.declared.Writable.{Writable}
 use Rattle.thermostat.specs.declared.Writable.the-variants.{NewHigh, NewLow, NewStatus}
 use Rattle.thermostat.specs.Calls.{changedBits, changedStatus}
-use Rattle.thermostat.specs.Race.{Event, reset, slot, finish, apply, after, ofMaster, offering, readEvents, writeEvents, statusSeen, setAt, both, setIn, keptAsAsked, Raced, RaceClaim}
+use Rattle.thermostat.specs.Race.{Event, reset, slot, finish, happens, afterEvents, mastersOwn, offering, readEvents, writeEvents, statusSeen, setAt, bothFlags, setIn, keptAsAsked, Raced, RaceClaim}
 use Rattle.thermostat.specs.declared.rules.Asked.{Asked}
 
 -- ## A probe outside thermostat mode, by its parts
@@ -64,14 +64,14 @@ module _ (k : Kept) (t : ℕ) (f : Flags) (o c : Bool) where
   abbrev at : Stage → Thermostat
   at s = listening k s t f o c
 
-  stored-follows : (s : Stage) (w : Writable) (b : ℕ) → Follows (withStage (stored (at s) w b) Quiet) (withStage (stored (still k s) w b) Quiet)
+  stored-follows : (s : Stage) (w : Writable) (b : ℕ) → Follows (probeWithStage (stored (at s) w b) Quiet) (probeWithStage (stored (still k s) w b) Quiet)
   unfolding statusWritten
   stored-follows s NewHigh b = (refl, refl, refl)
   stored-follows s NewLow b = (refl, refl, refl)
   stored-follows s NewStatus b = (refl, refl, refl)
 
-  slot-at : (s : Stage) (m : Bool) → Follows (slotted (at s) m .probe) (slotted (still k s) m .probe)
-  unfolding slotted
+  slot-at : (s : Stage) (m : Bool) → Follows (probeSlotted (at s) m .probe) (probeSlotted (still k s) m .probe)
+  unfolding probeSlotted
   slot-at (AwaitCommand s n) m =
       shifted-cases s n m (λ x. Follows (heardCommand (at (AwaitCommand s n)) x) (heardCommand (still k (AwaitCommand s n)) x)) (refl, refl, refl) (λ z. (refl, refl, refl)) (refl, refl, refl)
   slot-at (Take w s n) m =
@@ -85,8 +85,8 @@ module _ (k : Kept) (t : ℕ) (f : Flags) (o c : Bool) where
       let high = and-left (bitAt b 4) (bitAt b 3) h in let low = and-right (bitAt b 4) (bitAt b 3) h in
       rw (high, low, and-true (f .high), and-true (f .low))
 
-  slot-spared : (s : Stage) (m : Bool) → spares s m ≡ true → slotted (at s) m .probe .flags ≡ f
-  unfolding slotted
+  slot-spared : (s : Stage) (m : Bool) → spares s m ≡ true → probeSlotted (at s) m .probe .flags ≡ f
+  unfolding probeSlotted
   slot-spared (AwaitCommand s n) m h = shifted-cases s n m (λ x. heardCommand (at (AwaitCommand s n)) x .flags ≡ f) refl (λ z. refl) refl
   slot-spared (Take NewHigh s n) m h = shifted-cases s n m (λ x. heardByte (at (Take NewHigh s n)) NewHigh x .flags ≡ f) refl (λ z. refl) refl
   slot-spared (Take NewLow s n) m h = shifted-cases s n m (λ x. heardByte (at (Take NewLow s n)) NewLow x .flags ≡ f) refl (λ z. refl) refl
@@ -102,7 +102,7 @@ record Measured (p q : Thermostat) (f : Flags) : Type 0 where
   pub stage : q .stage ≡ p .stage
   pub kept : q .kept ≡ p .kept
   pub mode : q .thermostat ≡ p .thermostat
-  pub flags : q .flags ≡ both (p .flags) f
+  pub flags : q .flags ≡ bothFlags (p .flags) f
 
 finish-keeps : (p : Thermostat) (t : WholeDegrees) → Measured p (finished p t .probe) (setAt p t)
 unfolding finished measured
@@ -128,7 +128,7 @@ finish-keeps p t = by-tests (p .converting) (wholeInRange t)
 -- ## The events, followed by what no finish changes
 
 abbrev slotOf : Kept → Stage → Bool → Thermostat
-slotOf k s m = slotted (still k s) m .probe
+slotOf k s m = probeSlotted (still k s) m .probe
 
 unfoldable sparing : List Event → Kept → Stage → Bool
 sparing [] k s = true
@@ -142,24 +142,24 @@ keptAfter (reset ∷ es) k s = keptAfter es k awaitCommand
 keptAfter (slot m ∷ es) k s = keptAfter es (slotOf k s m .kept) (slotOf k s m .stage)
 keptAfter (finish t ∷ es) k s = keptAfter es k s
 
-sparing-master : (es : List Event) (k : Kept) (s : Stage) → sparing es k s ≡ sparing (ofMaster es) k s
-unfolding sparing ofMaster
+sparing-master : (es : List Event) (k : Kept) (s : Stage) → sparing es k s ≡ sparing (mastersOwn es) k s
+unfolding sparing mastersOwn
 sparing-master [] k s = refl
 sparing-master (reset ∷ es) k s = sparing-master es k awaitCommand
 sparing-master (slot m ∷ es) k s = ap (λ (b : Bool). spares s m && b) (sparing-master es (slotOf k s m .kept) (slotOf k s m .stage))
 sparing-master (finish t ∷ es) k s = sparing-master es k s
 
-kept-master : (es : List Event) (k : Kept) (s : Stage) → keptAfter es k s ≡ keptAfter (ofMaster es) k s
-unfolding keptAfter ofMaster
+kept-master : (es : List Event) (k : Kept) (s : Stage) → keptAfter es k s ≡ keptAfter (mastersOwn es) k s
+unfolding keptAfter mastersOwn
 kept-master [] k s = refl
 kept-master (reset ∷ es) k s = kept-master es k awaitCommand
 kept-master (slot m ∷ es) k s = kept-master es (slotOf k s m .kept) (slotOf k s m .stage)
 kept-master (finish t ∷ es) k s = kept-master es k s
 
-both-assoc : (f g h : Flags) → both (both f g) h ≡ both f (both g h)
+both-assoc : (f g h : Flags) → bothFlags (bothFlags f g) h ≡ bothFlags f (bothFlags g h)
 both-assoc f g h = rw (or-assoc (f .high) (g .high) (h .high), or-assoc (f .low) (g .low) (h .low))
 
-both-none : (f : Flags) → f ≡ both f (record { high = false; low = false })
+both-none : (f : Flags) → f ≡ bothFlags f (record { high = false; low = false })
 both-none f = rw (or-false (f .high), or-false (f .low))
 
 -- ## Any probe that listens, by its parts
@@ -168,46 +168,46 @@ pub by-parts : (p : Thermostat) → p .thermostat ≡ false → p ≡ listening 
 by-parts p e = ap
     (λ (b : Bool). record { kept = p .kept; stage = p .stage; temperature = p .temperature; flags = p .flags; output = p .output; converting = p .converting; thermostat = b }) e
 
-slot-follows : (p : Thermostat) (m : Bool) → p .thermostat ≡ false → Follows (slotted p m .probe) (slotOf (p .kept) (p .stage) m)
+slot-follows : (p : Thermostat) (m : Bool) → p .thermostat ≡ false → Follows (probeSlotted p m .probe) (slotOf (p .kept) (p .stage) m)
 slot-follows p m e =
-    subst⁻¹ (λ (x : Thermostat). Follows (slotted x m .probe) (slotOf (p .kept) (p .stage) m)) (by-parts p e)
+    subst⁻¹ (λ (x : Thermostat). Follows (probeSlotted x m .probe) (slotOf (p .kept) (p .stage) m)) (by-parts p e)
     (slot-at (p .kept) (p .temperature) (p .flags) (p .output) (p .converting) (p .stage) m)
 
-slot-leaves : (p : Thermostat) (m : Bool) → p .thermostat ≡ false → spares (p .stage) m ≡ true → slotted p m .probe .flags ≡ p .flags
+slot-leaves : (p : Thermostat) (m : Bool) → p .thermostat ≡ false → spares (p .stage) m ≡ true → probeSlotted p m .probe .flags ≡ p .flags
 slot-leaves p m e h =
-    subst⁻¹ (λ (x : Thermostat). slotted x m .probe .flags ≡ p .flags) (by-parts p e)
+    subst⁻¹ (λ (x : Thermostat). probeSlotted x m .probe .flags ≡ p .flags) (by-parts p e)
     (slot-spared (p .kept) (p .temperature) (p .flags) (p .output) (p .converting) (p .stage) m h)
 
-reset-starts : (p : Thermostat) → p .thermostat ≡ false → resetDone p .probe ≡ withStage p awaitCommand
-unfolding resetDone
+reset-starts : (p : Thermostat) → p .thermostat ≡ false → probeReset p .probe ≡ probeWithStage p awaitCommand
+unfolding probeReset
 reset-starts p e = rw e
 
 -- ## A run on a probe that listens
 
 record Ran (es : List Event) (p : Thermostat) : Type 0 where
-  pub flags : after es p .flags ≡ both (p .flags) (setIn es p)
-  pub kept : after es p .kept ≡ keptAfter es (p .kept) (p .stage)
-  pub listens : after es p .thermostat ≡ false
+  pub flags : afterEvents es p .flags ≡ bothFlags (p .flags) (setIn es p)
+  pub kept : afterEvents es p .kept ≡ keptAfter es (p .kept) (p .stage)
+  pub listens : afterEvents es p .thermostat ≡ false
 
 runs : (es : List Event) (p : Thermostat) → p .thermostat ≡ false → sparing es (p .kept) (p .stage) ≡ true → Ran es p
-unfolding after setIn sparing keptAfter
+unfolding afterEvents setIn sparing keptAfter
 runs [] p e h = record { flags = both-none (p .flags); kept = refl; listens = e }
 runs (reset ∷ es) p e h =
-    let r = runs es (withStage p awaitCommand) e h in
+    let r = runs es (probeWithStage p awaitCommand) e h in
     let started = reset-starts p e in
     record {
-      flags = subst⁻¹ (λ (x : Thermostat). after es x .flags ≡ both (p .flags) (setIn es x)) started (r .flags);
-      kept = subst⁻¹ (λ (x : Thermostat). after es x .kept ≡ keptAfter es (p .kept) awaitCommand) started (r .kept);
-      listens = subst⁻¹ (λ (x : Thermostat). after es x .thermostat ≡ false) started (r .listens);
+      flags = subst⁻¹ (λ (x : Thermostat). afterEvents es x .flags ≡ bothFlags (p .flags) (setIn es x)) started (r .flags);
+      kept = subst⁻¹ (λ (x : Thermostat). afterEvents es x .kept ≡ keptAfter es (p .kept) awaitCommand) started (r .kept);
+      listens = subst⁻¹ (λ (x : Thermostat). afterEvents es x .thermostat ≡ false) started (r .listens);
     }
 runs (slot m ∷ es) p e h =
-    let q = slotted p m .probe in
+    let q = probeSlotted p m .probe in
     let follows = slot-follows p m e in
     let now = and-left (spares (p .stage) m) (sparing es (slotOf (p .kept) (p .stage) m .kept) (slotOf (p .kept) (p .stage) m .stage)) h in
     let later = and-right (spares (p .stage) m) (sparing es (slotOf (p .kept) (p .stage) m .kept) (slotOf (p .kept) (p .stage) m .stage)) h in
     let r = runs es q (follows .2) (ap₂ (λ (k : Kept) (s : Stage). sparing es k s) (follows .1) (follows .0) ∙ later) in
     record {
-      flags = r .flags ∙ ap (λ (f : Flags). both f (setIn es q)) (slot-leaves p m e now);
+      flags = r .flags ∙ ap (λ (f : Flags). bothFlags f (setIn es q)) (slot-leaves p m e now);
       kept = r .kept ∙ ap₂ (λ (k : Kept) (s : Stage). keptAfter es k s) (follows .1) (follows .0);
       listens = r .listens;
     }
@@ -216,7 +216,7 @@ runs (finish t ∷ es) p e h =
     let m = finish-keeps p t in
     let r = runs es q (m .mode ∙ e) (ap₂ (λ (k : Kept) (s : Stage). sparing es k s) (m .kept) (m .stage) ∙ h) in
     record {
-      flags = r .flags ∙ ap (λ (f : Flags). both f (setIn es q)) (m .flags) ∙ both-assoc (p .flags) (setAt p t) (setIn es q);
+      flags = r .flags ∙ ap (λ (f : Flags). bothFlags f (setIn es q)) (m .flags) ∙ both-assoc (p .flags) (setAt p t) (setIn es q);
       kept = r .kept ∙ ap₂ (λ (k : Kept) (s : Stage). keptAfter es k s) (m .kept) (m .stage);
       listens = r .listens;
     }
@@ -224,45 +224,45 @@ runs (finish t ∷ es) p e h =
 -- ## A run on a probe in thermostat mode, which hears nothing
 
 record Unheard (es : List Event) (p : Thermostat) : Type 0 where
-  pub flags : after es p .flags ≡ both (p .flags) (setIn es p)
-  pub kept : after es p .kept ≡ p .kept
+  pub flags : afterEvents es p .flags ≡ bothFlags (p .flags) (setIn es p)
+  pub kept : afterEvents es p .kept ≡ p .kept
 
-pub reset-unheard : (p : Thermostat) → p .thermostat ≡ true → resetDone p .probe ≡ p
-unfolding resetDone
+pub reset-unheard : (p : Thermostat) → p .thermostat ≡ true → probeReset p .probe ≡ p
+unfolding probeReset
 reset-unheard p e = rw e
 
-slot-unheard : (p : Thermostat) (m : Bool) → p .thermostat ≡ true → slotted p m .probe ≡ p
-unfolding slotted
+slot-unheard : (p : Thermostat) (m : Bool) → p .thermostat ≡ true → probeSlotted p m .probe ≡ p
+unfolding probeSlotted
 slot-unheard p m e = rw e
 
 -- the rest of a run, where its first event is not heard
-unheard-first : (es : List Event) (p q : Thermostat) → q ≡ p → Unheard es p → (after es q .flags ≡ both (p .flags) (setIn es q)) × (after es q .kept ≡ p .kept)
-unheard-first es p q same r = subst⁻¹ (λ (x : Thermostat). (after es x .flags ≡ both (p .flags) (setIn es x)) × (after es x .kept ≡ p .kept)) same (r .flags, r .kept)
+unheard-first : (es : List Event) (p q : Thermostat) → q ≡ p → Unheard es p → (afterEvents es q .flags ≡ bothFlags (p .flags) (setIn es q)) × (afterEvents es q .kept ≡ p .kept)
+unheard-first es p q same r = subst⁻¹ (λ (x : Thermostat). (afterEvents es x .flags ≡ bothFlags (p .flags) (setIn es x)) × (afterEvents es x .kept ≡ p .kept)) same (r .flags, r .kept)
 
 runs-unheard : (es : List Event) (p : Thermostat) → p .thermostat ≡ true → Unheard es p
-unfolding after setIn
+unfolding afterEvents setIn
 runs-unheard [] p e = record { flags = both-none (p .flags); kept = refl }
 runs-unheard (reset ∷ es) p e =
-    let r = unheard-first es p (resetDone p .probe) (reset-unheard p e) (runs-unheard es p e) in record { flags = r .0; kept = r .1 }
+    let r = unheard-first es p (probeReset p .probe) (reset-unheard p e) (runs-unheard es p e) in record { flags = r .0; kept = r .1 }
 runs-unheard (slot m ∷ es) p e =
-    let r = unheard-first es p (slotted p m .probe) (slot-unheard p m e) (runs-unheard es p e) in record { flags = r .0; kept = r .1 }
+    let r = unheard-first es p (probeSlotted p m .probe) (slot-unheard p m e) (runs-unheard es p e) in record { flags = r .0; kept = r .1 }
 runs-unheard (finish t ∷ es) p e =
     let q = finished p t .probe in
     let m = finish-keeps p t in
     let r = runs-unheard es q (m .mode ∙ e) in
     record {
-      flags = r .flags ∙ ap (λ (f : Flags). both f (setIn es q)) (m .flags) ∙ both-assoc (p .flags) (setAt p t) (setIn es q);
+      flags = r .flags ∙ ap (λ (f : Flags). bothFlags f (setIn es q)) (m .flags) ∙ both-assoc (p .flags) (setAt p t) (setIn es q);
       kept = r .kept ∙ m .kept;
     }
 
 -- ## The two calls spare the flags
 
 spared-reading : (k : Kept) (s : Stage) → sparing readEvents k s ≡ true
-unfolding sparing bitsOf slotted runsAfter stageAfter
+unfolding sparing bitsOf probeSlotted runsAfter stageAfter
 spared-reading k s = refl
 
 kept-reading : (k : Kept) (s : Stage) → keptAfter readEvents k s ≡ k
-unfolding keptAfter bitsOf slotted runsAfter stageAfter
+unfolding keptAfter bitsOf probeSlotted runsAfter stageAfter
 kept-reading k s = refl
 
 -- the second call, by the eight bits of its byte
@@ -274,12 +274,12 @@ module _ (l m n o p q r t : Bool) where
   written = reset ∷ offering (bitsOf 8 writeStatus ++ byteBits)
 
   sparing-written : (k : Kept) (s : Stage) → sparing written k s ≡ (bitAt (numberOf byteBits) 4 && bitAt (numberOf byteBits) 3 && true)
-  unfolding sparing bitsOf slotted runsAfter stageAfter
+  unfolding sparing bitsOf probeSlotted runsAfter stageAfter
   sparing-written k s = ap (λ (b : ℕ). bitAt b 4 && bitAt b 3 && true) (eight-in l m n o p q r t)
 
   kept-written : (k : Kept) (s : Stage) → keptAfter written k s
       ≡ record { high = k .high; low = k .low; mode = bitAt (numberOf byteBits) 2; polarity = bitAt (numberOf byteBits) 1; oneshot = bitAt (numberOf byteBits) 0 }
-  unfolding keptAfter bitsOf slotted runsAfter stageAfter statusWritten
+  unfolding keptAfter bitsOf probeSlotted runsAfter stageAfter statusWritten
   kept-written k s =
       ap (λ (b : ℕ). record { high = k .high; low = k .low; mode = bitAt b 2; polarity = bitAt b 1; oneshot = bitAt b 0 }) (eight-in l m n o p q r t)
 
@@ -314,26 +314,26 @@ module _ (b : ℕ) (a : Asked) where
 
 -- ## Runs one after another
 
-after-append : (xs ys : List Event) (p : Thermostat) → after (xs ++ ys) p ≡ after ys (after xs p)
-unfolding after
+after-append : (xs ys : List Event) (p : Thermostat) → afterEvents (xs ++ ys) p ≡ afterEvents ys (afterEvents xs p)
+unfolding afterEvents
 after-append [] ys p = refl
-after-append (x ∷ xs) ys p = after-append xs ys (apply p x)
+after-append (x ∷ xs) ys p = after-append xs ys (happens p x)
 
-none-both : (f : Flags) → both (record { high = false; low = false }) f ≡ f
+none-both : (f : Flags) → bothFlags (record { high = false; low = false }) f ≡ f
 none-both f = refl
 
-set-append : (xs ys : List Event) (p : Thermostat) → setIn (xs ++ ys) p ≡ both (setIn xs p) (setIn ys (after xs p))
-unfolding after setIn
+set-append : (xs ys : List Event) (p : Thermostat) → setIn (xs ++ ys) p ≡ bothFlags (setIn xs p) (setIn ys (afterEvents xs p))
+unfolding afterEvents setIn
 set-append [] ys p = sym (none-both (setIn ys p))
-set-append (reset ∷ xs) ys p = set-append xs ys (resetDone p .probe)
-set-append (slot m ∷ xs) ys p = set-append xs ys (slotted p m .probe)
+set-append (reset ∷ xs) ys p = set-append xs ys (probeReset p .probe)
+set-append (slot m ∷ xs) ys p = set-append xs ys (probeSlotted p m .probe)
 set-append (finish t ∷ xs) ys p =
     let q = finished p t .probe in
-    ap (λ (f : Flags). both (setAt p t) f) (set-append xs ys q) ∙ sym (both-assoc (setAt p t) (setIn xs q) (setIn ys (after xs q)))
+    ap (λ (f : Flags). bothFlags (setAt p t) f) (set-append xs ys q) ∙ sym (both-assoc (setAt p t) (setIn xs q) (setIn ys (afterEvents xs q)))
 
 -- ## The claim
 
-module _ (p : Thermostat) (a : Asked) (reading writing : List Event) (r : ofMaster reading ≡ readEvents) (w : ofMaster writing ≡ writeEvents (changedStatus (statusSeen reading p) a)) where
+module _ (p : Thermostat) (a : Asked) (reading writing : List Event) (r : mastersOwn reading ≡ readEvents) (w : mastersOwn writing ≡ writeEvents (changedStatus (statusSeen reading p) a)) where
   raced-unheard : p .thermostat ≡ true → Raced p a (reading ++ writing)
   raced-unheard e =
       let all = runs-unheard (reading ++ writing) p e in
@@ -341,17 +341,17 @@ module _ (p : Thermostat) (a : Asked) (reading writing : List Event) (r : ofMast
 
   raced-heard : p .thermostat ≡ false → Raced p a (reading ++ writing)
   raced-heard e =
-      let q = after reading p in
+      let q = afterEvents reading p in
       let first = runs reading p e (sparing-master reading (p .kept) (p .stage) ∙ ap (λ (es : List Event). sparing es (p .kept) (p .stage)) r ∙ spared-reading (p .kept) (p .stage)) in
       let second = runs writing q (first .listens) (sparing-master writing (q .kept) (q .stage) ∙ ap (λ (es : List Event). sparing es (q .kept) (q .stage)) w ∙ spared-writing (statusSeen reading p) a (q .kept) (q .stage)) in
       let once : q .kept ≡ p .kept = first .kept ∙ kept-master reading (p .kept) (p .stage) ∙ ap (λ (es : List Event). keptAfter es (p .kept) (p .stage)) r ∙ kept-reading (p .kept) (p .stage) in
-      let twice : after writing q .kept ≡ keptAsAsked (q .kept) a
+      let twice : afterEvents writing q .kept ≡ keptAsAsked (q .kept) a
       = second .kept ∙ kept-master writing (q .kept) (q .stage) ∙ ap (λ (es : List Event). keptAfter es (q .kept) (q .stage)) w ∙ kept-writing (statusSeen reading p) a (q .kept) (q .stage) in
       record {
         flags = ap (λ (x : Thermostat). x .flags) (after-append reading writing p) ∙ second .flags
-            ∙ ap (λ (f : Flags). both f (setIn writing q)) (first .flags)
+            ∙ ap (λ (f : Flags). bothFlags f (setIn writing q)) (first .flags)
             ∙ both-assoc (p .flags) (setIn reading p) (setIn writing q)
-            ∙ ap (λ (f : Flags). both (p .flags) f) (sym (set-append reading writing p));
+            ∙ ap (λ (f : Flags). bothFlags (p .flags) f) (sym (set-append reading writing p));
         asked = ap (λ (x : Thermostat). x .kept) (after-append reading writing p) ∙ twice ∙ ap (λ (k : Kept). keptAsAsked k a) once
             ∙ choice-else (p .thermostat) (p .kept) (keptAsAsked (p .kept) a) e;
       }

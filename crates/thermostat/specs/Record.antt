@@ -1,5 +1,5 @@
 -- The record of a DS1821 with one part replaced, all else as it was.
---     withStage p s          where it stands in the protocol
+--     probeWithStage p s          where it stands in the protocol
 --     withConverting p c     whether a conversion runs
 --     withHigh p b           the high limit, as a signed byte; withLow p b, the low one
 use Prim.Native.Nat.{ℕ}
@@ -8,8 +8,8 @@ use Rattle.thermostat.specs.declared.Kept.{Kept}
 use Rattle.thermostat.specs.declared.Stage.{Stage}
 use Rattle.thermostat.specs.declared.Thermostat.{Thermostat}
 
-abbrev pub withStage : Thermostat → Stage → Thermostat
-withStage p s = record {
+abbrev pub probeWithStage : Thermostat → Stage → Thermostat
+probeWithStage p s = record {
   kept = p .kept;
   stage = s;
   temperature = p .temperature;

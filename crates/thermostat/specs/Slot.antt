@@ -1,12 +1,12 @@
 -- The reset and the slot of a DS1821. In thermostat mode it neither hears the wire nor answers; else it takes a command right after a reset, and then takes or sends
 -- one byte, lowest bit first, as every 1-Wire device does (`shifted`, `byteSlot`), and is quiet.
---     registerOf p r        what is sent of a register: the byte as it stands
---     offerOf p             what the probe puts on the line in the next slot: 1 unless it sends a 0
---     lineShown p m         what the line shows where the master offers m: the AND of both
+--     probeRegister p r        what is sent of a register: the byte as it stands
+--     probeOffer p             what the probe puts on the line in the next slot: 1 unless it sends a 0
+--     probeLineShown p m         what the line shows where the master offers m: the AND of both
 --     runsAfter c running   whether a conversion runs after command c; stageAfter c, where it leads; commandDone p c, the probe after it, converting or not
 --     stored p w b          the probe after the host wrote the byte b
---     heard p l             the probe after a slot in which the line showed l
---     slotted p m           one slot in which the master offers m; resetDone p, a reset, with presence outside thermostat mode. Neither is ever refused
+--     probeHeard p l             the probe after a slot in which the line showed l
+--     probeSlotted p m           one slot in which the master offers m; resetDone p, a reset, with presence outside thermostat mode. Neither is ever refused
 use Prim.Native.Nat.{ℕ, _+_}
 use mathlib.Core.Bool.{Bool, true, false, not, _&&_}
 use lib.Dec.{ltb, eqb}
@@ -21,7 +21,7 @@ use Rattle.thermostat.specs.declared.Stage.the-variants.{AwaitCommand, T
 use Rattle.thermostat.specs.declared.Thermostat.{Thermostat}
 use Rattle.thermostat.specs.declared.Writable.{Writable}
 use Rattle.thermostat.specs.declared.Writable.the-variants.{NewHigh, NewLow, NewStatus}
-use Rattle.thermostat.specs.Record.{withStage, withConverting, withHigh, withLow}
+use Rattle.thermostat.specs.Record.{probeWithStage, withConverting, withHigh, withLow}
 use Rattle.thermostat.specs.Status.{statusOf, statusWritten}
 use Rattle.thermostat.specs.Commands.{startConversion, stopConversion, readTemperature, writeHigh, writeLow, readHigh, readLow, writeStatus, readStatus}
 use Rattle.thermostat.specs.declared.wire.ResetDone.{ResetDone}
@@ -29,23 +29,23 @@ use Rattle.thermostat.specs.declared.wire.Slotted.{Slotted}
 
 -- ## What it offers
 
-abbrev pub registerOf : Thermostat → Readable → ℕ
-registerOf p Temperature = p .temperature
-registerOf p HighLimit = p .kept .high
-registerOf p LowLimit = p .kept .low
-registerOf p Status = statusOf p
+abbrev pub probeRegister : Thermostat → Readable → ℕ
+probeRegister p Temperature = p .temperature
+probeRegister p HighLimit = p .kept .high
+probeRegister p LowLimit = p .kept .low
+probeRegister p Status = statusOf p
 
-abbrev pub offerAt : Thermostat → Stage → Bool
-offerAt p (AwaitCommand s n) = true
-offerAt p (Take w s n) = true
-offerAt p (Send r j) = byteSlot (registerOf p r) j
-offerAt p Quiet = true
+abbrev pub probeOfferAt : Thermostat → Stage → Bool
+probeOfferAt p (AwaitCommand s n) = true
+probeOfferAt p (Take w s n) = true
+probeOfferAt p (Send r j) = byteSlot (probeRegister p r) j
+probeOfferAt p Quiet = true
 
-abbrev pub offerOf : Thermostat → Bool
-offerOf p = if p .thermostat then true else offerAt p (p .stage)
+abbrev pub probeOffer : Thermostat → Bool
+probeOffer p = if p .thermostat then true else probeOfferAt p (p .stage)
 
-abbrev pub lineShown : Thermostat → Bool → Bool
-lineShown p m = offerOf p && m
+abbrev pub probeLineShown : Thermostat → Bool → Bool
+probeLineShown p m = probeOffer p && m
 
 -- ## What it hears
 
@@ -69,7 +69,7 @@ stageAfter c =
     else Quiet
 
 abbrev pub commandDone : Thermostat → ℕ → Thermostat
-commandDone p c = withStage (withConverting p (runsAfter c (p .converting))) (stageAfter c)
+commandDone p c = probeWithStage (withConverting p (runsAfter c (p .converting))) (stageAfter c)
 
 abbrev pub stored : Thermostat → Writable → ℕ → Thermostat
 stored p NewHigh b = withHigh p b
@@ -78,15 +78,15 @@ stored p NewStatus b = statusWritten p b
 
 -- a command is acted on at its eighth bit
 abbrev pub heardCommand : Thermostat → Shifted → Thermostat
-heardCommand p (Partial s n) = withStage p (AwaitCommand s n)
+heardCommand p (Partial s n) = probeWithStage p (AwaitCommand s n)
 heardCommand p (Whole c) = commandDone p c
-heardCommand p Beyond = withStage p Quiet
+heardCommand p Beyond = probeWithStage p Quiet
 
 -- a byte is stored at its eighth bit
 abbrev pub heardByte : Thermostat → Writable → Shifted → Thermostat
-heardByte p w (Partial s n) = withStage p (Take w s n)
-heardByte p w (Whole b) = withStage (stored p w b) Quiet
-heardByte p w Beyond = withStage p Quiet
+heardByte p w (Partial s n) = probeWithStage p (Take w s n)
+heardByte p w (Whole b) = probeWithStage (stored p w b) Quiet
+heardByte p w Beyond = probeWithStage p Quiet
 
 -- the next bit of a byte that is sent, or quiet after the eighth
 abbrev pub sentOn : Readable → ℕ → Stage
@@ -95,16 +95,16 @@ sentOn r j = if ltb j 7 then Send r (j + 1) else Quiet
 abbrev pub heardAt : Thermostat → Bool → Stage → Thermostat
 heardAt p l (AwaitCommand s n) = heardCommand p (shifted s n l)
 heardAt p l (Take w s n) = heardByte p w (shifted s n l)
-heardAt p l (Send r j) = withStage p (sentOn r j)
+heardAt p l (Send r j) = probeWithStage p (sentOn r j)
 heardAt p l Quiet = p
 
-abbrev pub heard : Thermostat → Bool → Thermostat
-heard p l = if p .thermostat then p else heardAt p l (p .stage)
+abbrev pub probeHeard : Thermostat → Bool → Thermostat
+probeHeard p l = if p .thermostat then p else heardAt p l (p .stage)
 
 -- ## The wire
 
-unfoldable pub slotted : Thermostat → Bool → Slotted
-slotted p m = record { line = lineShown p m; probe = heard p (lineShown p m) }
+unfoldable pub probeSlotted : Thermostat → Bool → Slotted
+probeSlotted p m = record { line = probeLineShown p m; probe = probeHeard p (probeLineShown p m) }
 
-unfoldable pub resetDone : Thermostat → ResetDone
-resetDone p = record { presence = not (p .thermostat); probe = if p .thermostat then p else withStage p awaitCommand }
+unfoldable pub probeReset : Thermostat → ResetDone
+probeReset p = record { presence = not (p .thermostat); probe = if p .thermostat then p else probeWithStage p awaitCommand }

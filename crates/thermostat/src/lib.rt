@@ -6,10 +6,10 @@ pub mod wire;
 
 ghost use mathlib.Core.Bool.{not, _&&_, _||_};
 ghost use mathlib.Core.Path.{_≡_};
-ghost use Rattle.thermostat.specs.Record.{withStage, withConverting, withHigh, withLow};
+ghost use Rattle.thermostat.specs.Record.{probeWithStage, withConverting, withHigh, withLow};
 ghost use Rattle.thermostat.specs.Status.{statusOf, statusWritten};
 ghost use Rattle.thermostat.specs.Finish.{above, below, reaches, outputAfter, measured, finished};
-ghost use Rattle.thermostat.specs.Power.{poweredUp};
+ghost use Rattle.thermostat.specs.Power.{probePoweredUp};
 use temperature::WholeDegrees;
 
 // What the probe keeps without power: the two limits as signed bytes, and the last three bits of the
@@ -83,7 +83,7 @@ pub struct Finished {
 }
 
 pub fn with_stage(p: Thermostat, stage: Stage) -> Thermostat
-    ensures answer { λ r. ⌜ r ≡ withStage p stage ⌝ }
+    ensures answer { λ r. ⌜ r ≡ probeWithStage p stage ⌝ }
 {
     Thermostat { stage, ..p }
 }
@@ -265,7 +265,7 @@ pub fn finish(p: Thermostat, t: WholeDegrees) -> Finished
 
 // A probe that keeps these things, powered up.
 pub fn start(kept: Kept) -> Thermostat
-    ensures answer { λ r. ⌜ r ≡ poweredUp kept ⌝ }
+    ensures answer { λ r. ⌜ r ≡ probePoweredUp kept ⌝ }
 {
     Thermostat {
         kept,
@@ -283,7 +283,7 @@ pub fn start(kept: Kept) -> Thermostat
 
 // The power goes away and comes back.
 pub fn power_cycle(p: Thermostat) -> Thermostat
-    ensures answer { λ r. ⌜ r ≡ poweredUp (p .kept) ⌝ }
+    ensures answer { λ r. ⌜ r ≡ probePoweredUp (p .kept) ⌝ }
 {
     let kept = p.kept;
     start(kept)

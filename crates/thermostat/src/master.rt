@@ -1,7 +1,7 @@
 // The two calls by which a host changes the mode, the polarity or one-shot of a DS1821 and loses no flag.
 ghost use mathlib.Core.Path.{_≡_};
-ghost use Rattle.thermostat.specs.Calls.{sent, shownBy, afterReading, statusRead, changedStatus, changed};
-ghost use Rattle.thermostat.specs.Replies.{byteReadOf};
+ghost use Rattle.thermostat.specs.Calls.{byteSent, byteShownBy, afterReading, statusRead, changedStatus, statusChanged};
+ghost use Rattle.thermostat.specs.Replies.{probeByteRead};
 use crate::Thermostat;
 use crate::rules::Asked;
 use crate::rules::Changed;
@@ -16,7 +16,7 @@ struct ByteRead {
 
 // The eight bits of a byte, lowest first.
 fn send(probe: Thermostat, byte: u8) -> Thermostat
-    ensures answer { λ r. ⌜ r ≡ sent byte probe ⌝ }
+    ensures answer { λ r. ⌜ r ≡ byteSent byte probe ⌝ }
 {
     let mut p = probe;
     let mut left = byte;
@@ -31,7 +31,7 @@ fn send(probe: Thermostat, byte: u8) -> Thermostat
 }
 
 fn read_byte(probe: Thermostat) -> ByteRead
-    ensures answer { λ r. ⌜ r ≡ byteReadOf probe ⌝ }
+    ensures answer { λ r. ⌜ r ≡ probeByteRead probe ⌝ }
 {
     let mut p = probe;
     let mut byte: u8 = 0;
@@ -84,7 +84,7 @@ fn changed_status(status: u8, asked: Asked) -> u8
 // Writes the status back, with the mode, polarity and one-shot that are asked: reset, 0Ch and the byte.
 // The status is what `read_status` gave.
 pub fn change(probe: Thermostat, status: u8, asked: Asked) -> Changed
-    ensures answer { λ r. ⌜ r ≡ changed probe status asked ⌝ }
+    ensures answer { λ r. ⌜ r ≡ statusChanged probe status asked ⌝ }
     ensures flags { λ r. ⌜ r .probe .flags ≡ probe .flags ⌝ }
 {
     let r = wire::reset(probe);

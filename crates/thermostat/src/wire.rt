@@ -1,7 +1,7 @@
 // The wire of a DS1821: resets and slots, its commands, and the bytes that it takes and sends.
 ghost use mathlib.Core.Path.{_≡_};
 ghost use Rattle.thermostat.specs.declared.Stage.the-variants.{Take, Send};
-ghost use Rattle.thermostat.specs.Slot.{registerOf, stored, runsAfter, stageAfter, commandDone, heardCommand, heardByte, sentOn, offerOf, lineShown, heard, slotted, resetDone};
+ghost use Rattle.thermostat.specs.Slot.{probeRegister, stored, runsAfter, stageAfter, commandDone, heardCommand, heardByte, sentOn, probeOffer, probeLineShown, probeHeard, probeSlotted, probeReset};
 use crate::Readable;
 use crate::Stage;
 use crate::Thermostat;
@@ -38,7 +38,7 @@ pub struct Slotted {
 }
 
 fn register_of(p: Thermostat, register: Readable) -> u8
-    ensures answer { λ r. ⌜ r ≡ registerOf p register ⌝ }
+    ensures answer { λ r. ⌜ r ≡ probeRegister p register ⌝ }
 {
     let kept = p.kept;
     match register {
@@ -51,7 +51,7 @@ fn register_of(p: Thermostat, register: Readable) -> u8
 
 // What the probe puts on the line in the next slot.
 fn offer(p: Thermostat) -> bool
-    ensures answer { λ r. ⌜ r ≡ offerOf p ⌝ }
+    ensures answer { λ r. ⌜ r ≡ probeOffer p ⌝ }
 {
     if p.thermostat {
         return true;
@@ -180,7 +180,7 @@ fn send_on(register: Readable, bit: u8) -> Stage
 
 // The line has shown this bit.
 fn hear(p: Thermostat, line: bool) -> Thermostat
-    ensures answer { λ r. ⌜ r ≡ heard p line ⌝ }
+    ensures answer { λ r. ⌜ r ≡ probeHeard p line ⌝ }
 {
     if p.thermostat {
         return p;
@@ -202,14 +202,14 @@ fn hear(p: Thermostat, line: bool) -> Thermostat
 
 // What the line shows when the master offers this bit.
 fn line_shown(p: Thermostat, bit: bool) -> bool
-    ensures answer { λ r. ⌜ r ≡ lineShown p bit ⌝ }
+    ensures answer { λ r. ⌜ r ≡ probeLineShown p bit ⌝ }
 {
     offer(p) && bit
 }
 
 // One slot in which the master offers this bit; 1 to read.
 pub fn slot(p: Thermostat, bit: bool) -> Slotted
-    ensures answer { λ r. ⌜ r ≡ slotted p bit ⌝ }
+    ensures answer { λ r. ⌜ r ≡ probeSlotted p bit ⌝ }
 {
     let line = line_shown(p, bit);
     Slotted {
@@ -220,7 +220,7 @@ pub fn slot(p: Thermostat, bit: bool) -> Slotted
 
 // A reset, and whether the probe showed its presence.
 pub fn reset(p: Thermostat) -> ResetDone
-    ensures answer { λ r. ⌜ r ≡ resetDone p ⌝ }
+    ensures answer { λ r. ⌜ r ≡ probeReset p ⌝ }
 {
     if p.thermostat {
         return ResetDone {

@@ -7,7 +7,7 @@ ghost use lib.ListN.{length};
 ghost use Rattle.text.specs.Lines.{Line};
 ghost use Rattle.text.specs.Putting.{lineRoom};
 ghost use Rattle.sessions.specs.Gathering.{mostHeld};
-ghost use Rattle.sessions.specs.Session.{ended, endSaid, after, runAt, Standing, Answerable};
+ghost use Rattle.sessions.specs.Session.{heldEnded, endSaid, runAfter, runAt, Standing, Answerable};
 ghost use Rattle.thermostat_session.specs.ProbeSession.{probeConsole, firstProbe};
 use libc::STDIN_FILENO;
 use libc::STDOUT_FILENO;
@@ -46,7 +46,7 @@ fn answer_line(probe: Thermostat, line: &[u8], fed: bool, out: &mut [u8]) -> The
 // A line that has its feed is answered, and held no more.
 fn end_line(probe: Thermostat, line: &[u8], held: usize, whole: bool, out: &mut [u8]) -> Session
     requires { ⌜ (held ≤ length (now line)) × (lineRoom ≤ length (now out)) × Answerable probeConsole firstProbe (endSaid probeConsole (runAt probe (now line) held) whole) ⌝ }
-    ensures { λ r. ⌜ (runAt (r .probe) (now (line .entry)) (r .held) ≡ ended probeConsole (runAt probe (now (line .entry)) held) whole) × (r .held ≤ held) ⌝ }
+    ensures { λ r. ⌜ (runAt (r .probe) (now (line .entry)) (r .held) ≡ heldEnded probeConsole (runAt probe (now (line .entry)) held) whole) × (r .held ≤ held) ⌝ }
 {
     if whole {
         return Session {
@@ -65,7 +65,7 @@ fn end_line(probe: Thermostat, line: &[u8], held: usize, whole: bool, out: &mut 
 // All that was read, line by line.
 fn take(start: Session, line: &mut [u8], chunk: &[u8], out: &mut [u8]) -> Session
     requires { ⌜ (lineRoom ≤ length (now out)) × Standing probeConsole firstProbe (start .probe) (now line) (start .held) ⌝ }
-    ensures session { λ r. ⌜ runAt (r .probe) (now (line .exit)) (r .held) ≡ after probeConsole (runAt (start .probe) (now (line .entry)) (start .held)) (now (chunk .entry)) ⌝ }
+    ensures session { λ r. ⌜ runAt (r .probe) (now (line .exit)) (r .held) ≡ runAfter probeConsole (runAt (start .probe) (now (line .entry)) (start .held)) (now (chunk .entry)) ⌝ }
     ensures standing { λ r. ⌜ Standing probeConsole firstProbe (r .probe) (now (line .exit)) (r .held) ⌝ }
 {
     let mut s = start;

@@ -17,14 +17,14 @@ use Rattle.thermostat.specs.declared.Thermostat.{Thermostat}
 use Rattle.thermostat_session.specs.ProbeRequests.{ofProbe, probeRequestOf}
 use Rattle.thermostat_session.specs.declared.requests.ProbeRequest.the-variants.{Bad}
 use Rattle.thermostat_session.specs.ProbeLines.{replyLine}
-use Rattle.thermostat_session.specs.ProbeConsole.{responded, probeAsked, probeSaid, probeLeaves}
+use Rattle.thermostat_session.specs.ProbeConsole.{probeResponded, probeAsked, probeSaid, probeLeaves}
 use Rattle.thermostat_session.specs.declared.Responded.{Responded}
 
 module _ (p : Thermostat) (l : Line) (out : List ℕ) where
   pub said-without : length out < lineRoom → (record { refusal = noRoom; count = 0; probe = p } ≡ probeSaid p l out) × (out ≡ probeLeaves p l out) × (0 ≤ lineRoom)
   said-without h = rw (lt-leb lineRoom (length out) h) (refl, refl, omega arith)
 
-  pub said-with : lineRoom ≤ length out → (r : Responded) → r ≡ responded p (probeAsked l) → (w : Written) → w ≡ lineAnswer out 0 (replyLine (r .reply))
+  pub said-with : lineRoom ≤ length out → (r : Responded) → r ≡ probeResponded p (probeAsked l) → (w : Written) → w ≡ lineAnswer out 0 (replyLine (r .reply))
       → (out' : List ℕ) → out' ≡ lineLeaves out 0 (replyLine (r .reply)) → w .next ≤ 0 + lineRoom
       → (record { refusal = w .refusal; count = w .next; probe = r .probe } ≡ probeSaid p l out) × (out' ≡ probeLeaves p l out) × (w .next ≤ lineRoom)
   said-with h r answers w answer out' left few =

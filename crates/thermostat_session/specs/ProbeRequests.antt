@@ -1,5 +1,5 @@
 -- What a line asks of a DS1821: the table of its console, by name, number of fields and request. Whatever matches no row, or has a field that is none, is `Bad`.
---     degreesIn w            whole degrees, written as a count of sixteenths is: -32768 to 32767 in one to five digits, with a minus in front where negative
+--     degreesAsked w            whole degrees, written as a count of sixteenths is: -32768 to 32767 in one to five digits, with a minus in front where negative
 --     limitIn w              a limit: degrees from -128 to 127, as the signed byte that the probe keeps
 --     askedIn m p o          three bits: mode, polarity, one-shot
 --     ofProbe ws             the calls on the probe, by the words of a line
@@ -28,18 +28,18 @@ use Rattle.thermostat_session.specs.declared.requests.ProbeRequest.the-v
 -- ## Fields
 
 -- the same number, of degrees
-abbrev pub inDegrees : CountRead → DegreesRead
-inDegrees c = record { valid = c .valid; degrees = record { 0 = c .count .0 } }
+abbrev pub countInDegrees : CountRead → DegreesRead
+countInDegrees c = record { valid = c .valid; degrees = record { 0 = c .count .0 } }
 
-unfoldable pub degreesIn : List ℕ → DegreesRead
-degreesIn w = inDegrees (countIn w)
+unfoldable pub degreesAsked : List ℕ → DegreesRead
+degreesAsked w = countInDegrees (countIn w)
 
 -- what is read of a limit: degrees that a signed byte holds
 abbrev pub asLimit : DegreesRead → LimitRead
 asLimit d = record { valid = d .valid && eqb (limitByteOf (d .degrees) .refusal) accepted; byte = limitByteOf (d .degrees) .byte }
 
 unfoldable pub limitIn : List ℕ → LimitRead
-limitIn w = asLimit (degreesIn w)
+limitIn w = asLimit (degreesAsked w)
 
 -- whether a bit that was read is 1
 abbrev pub isOne : NumberRead → Bool
@@ -65,14 +65,14 @@ startAsked h l a =
     }
     else Bad
 
-abbrev pub slotAsked : NumberRead → ProbeRequest
-slotAsked bit = if bit .valid then Slot (isOne bit) else Bad
+abbrev pub probeSlotAsked : NumberRead → ProbeRequest
+probeSlotAsked bit = if bit .valid then Slot (isOne bit) else Bad
 
 abbrev pub finishAsked : DegreesRead → ProbeRequest
 finishAsked d = if d .valid then Finish (d .degrees) else Bad
 
-abbrev pub changeAsked : NumberRead → AskedRead → ProbeRequest
-changeAsked status a = if status .valid && a .valid then Change (status .number) (a .asked) else Bad
+abbrev pub probeChangeAsked : NumberRead → AskedRead → ProbeRequest
+probeChangeAsked status a = if status .valid && a .valid then Change (status .number) (a .asked) else Bad
 
 -- ## The table
 
@@ -82,11 +82,11 @@ ofProbe ws =
     let field = wordOf ws in
     if asks (ascii "start") 5 ws then startAsked (limitIn (field 1)) (limitIn (field 2)) (askedIn (field 3) (field 4) (field 5))
     else if asks (ascii "reset") 0 ws then Reset
-    else if asks (ascii "slot") 1 ws then slotAsked (bitIn (field 1))
-    else if asks (ascii "finish") 1 ws then finishAsked (degreesIn (field 1))
+    else if asks (ascii "slot") 1 ws then probeSlotAsked (bitIn (field 1))
+    else if asks (ascii "finish") 1 ws then finishAsked (degreesAsked (field 1))
     else if asks (ascii "cycle") 0 ws then Cycle
     else if asks (ascii "status") 0 ws then Status
-    else if asks (ascii "change") 4 ws then changeAsked (byteIn (field 1)) (askedIn (field 2) (field 3) (field 4))
+    else if asks (ascii "change") 4 ws then probeChangeAsked (byteIn (field 1)) (askedIn (field 2) (field 3) (field 4))
     else if asks (ascii "show") 0 ws then Show
     else Bad
 

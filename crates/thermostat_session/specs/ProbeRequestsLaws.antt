@@ -11,7 +11,7 @@ use Rattle.lines.specs.Fields.{byteIn, bitIn}
 use Rattle.bench_requests.specs.Requests.{asks}
 use Rattle.bench_requests.specs.RequestsLaws.{asks-name, asks-fields}
 use Rattle.thermostat_session.specs.declared.requests.ProbeRequest.the-variants.{Bad, Reset, Cycle, Status, Show}
-use Rattle.thermostat_session.specs.ProbeRequests.{degreesIn, limitIn, askedIn, startAsked, slotAsked, finishAsked, changeAsked, ofProbe}
+use Rattle.thermostat_session.specs.ProbeRequests.{degreesAsked, limitIn, askedIn, startAsked, probeSlotAsked, finishAsked, probeChangeAsked, ofProbe}
 
 module _ (ws : List (List ℕ)) where
   pub row-start : asks (ascii "start") 5 ws ≡ true
@@ -23,11 +23,11 @@ module _ (ws : List (List ℕ)) where
   unfolding ofProbe same
   row-reset e = rw (asks-name (ascii "reset") 0 ws e, asks-fields (ascii "reset") 0 ws e)
 
-  pub row-slot : asks (ascii "slot") 1 ws ≡ true → slotAsked (bitIn (wordOf ws 1)) ≡ ofProbe ws
+  pub row-slot : asks (ascii "slot") 1 ws ≡ true → probeSlotAsked (bitIn (wordOf ws 1)) ≡ ofProbe ws
   unfolding ofProbe same
   row-slot e = rw (asks-name (ascii "slot") 1 ws e, asks-fields (ascii "slot") 1 ws e)
 
-  pub row-finish : asks (ascii "finish") 1 ws ≡ true → finishAsked (degreesIn (wordOf ws 1)) ≡ ofProbe ws
+  pub row-finish : asks (ascii "finish") 1 ws ≡ true → finishAsked (degreesAsked (wordOf ws 1)) ≡ ofProbe ws
   unfolding ofProbe same
   row-finish e = rw (asks-name (ascii "finish") 1 ws e, asks-fields (ascii "finish") 1 ws e)
 
@@ -39,7 +39,7 @@ module _ (ws : List (List ℕ)) where
   unfolding ofProbe same
   row-status e = rw (asks-name (ascii "status") 0 ws e, asks-fields (ascii "status") 0 ws e)
 
-  pub row-change : asks (ascii "change") 4 ws ≡ true → changeAsked (byteIn (wordOf ws 1)) (askedIn (wordOf ws 2) (wordOf ws 3) (wordOf ws 4)) ≡ ofProbe ws
+  pub row-change : asks (ascii "change") 4 ws ≡ true → probeChangeAsked (byteIn (wordOf ws 1)) (askedIn (wordOf ws 2) (wordOf ws 3) (wordOf ws 4)) ≡ ofProbe ws
   unfolding ofProbe same
   row-change e = rw (asks-name (ascii "change") 4 ws e, asks-fields (ascii "change") 4 ws e)
 

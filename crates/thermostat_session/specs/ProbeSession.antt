@@ -4,17 +4,17 @@
 -- Assumes nothing.
 use mathlib.Core.Bool.{false}
 use Rattle.sessions.specs.Session.{Console}
-use Rattle.thermostat.specs.Power.{poweredUp}
+use Rattle.thermostat.specs.Power.{probePoweredUp}
 use Rattle.thermostat.specs.declared.Thermostat.{Thermostat}
 use Rattle.thermostat_session.specs.ProbeLines.{replyLine}
-use Rattle.thermostat_session.specs.ProbeConsole.{responded, probeAsked}
+use Rattle.thermostat_session.specs.ProbeConsole.{probeResponded, probeAsked}
 
 abbrev pub probeConsole : Console
 probeConsole = record {
   State = Thermostat;
-  says = λ p l. replyLine (responded p (probeAsked l) .reply);
-  next = λ p l. responded p (probeAsked l) .probe;
+  says = λ p l. replyLine (probeResponded p (probeAsked l) .reply);
+  next = λ p l. probeResponded p (probeAsked l) .probe;
 }
 
 abbrev pub firstProbe : Thermostat
-firstProbe = poweredUp record { high = 0; low = 0; mode = false; polarity = false; oneshot = false }
+firstProbe = probePoweredUp record { high = 0; low = 0; mode = false; polarity = false; oneshot = false }

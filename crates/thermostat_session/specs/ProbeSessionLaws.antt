@@ -12,13 +12,13 @@ use Rattle.basic_laws.specs.LaidLaws.{laid-front}
 use Rattle.text.specs.Lines.{Line, linesOf}
 use Rattle.pieces.specs.Pieces.{together}
 use Rattle.text.specs.Putting.{lineRoom}
-use Rattle.sessions.specs.Session.{inTurn, fresh, session, cut, Enough}
+use Rattle.sessions.specs.Session.{inTurn, freshRun, session, cut, HeldEnough}
 use Rattle.sessions.specs.SessionLaws.{session-cuts}
 use Rattle.thermostat.specs.declared.Thermostat.{Thermostat}
 use Rattle.thermostat_session.specs.declared.requests.ProbeRequest.{ProbeRequest}
 use Rattle.thermostat_session.specs.declared.requests.ProbeRequest.the-variants.{Bad}
 use Rattle.thermostat_session.specs.ProbeLines.{replyLine}
-use Rattle.thermostat_session.specs.ProbeConsole.{responded, probeAsked, probeSaid, probeLeaves}
+use Rattle.thermostat_session.specs.ProbeConsole.{probeResponded, probeAsked, probeSaid, probeLeaves}
 use Rattle.thermostat_session.specs.ProbeConsoleLaws.{held-asks}
 use Rattle.thermostat_session.specs.ProbeSession.{probeConsole}
 use Rattle.thermostat_session.specs.declared.ProbeSaid.{ProbeSaid}
@@ -27,14 +27,14 @@ use Rattle.thermostat_session.specs.declared.ProbeSaid.{ProbeSaid}
 asked-same : (l : Line) → probeAsked (cut l) ≡ probeAsked l
 asked-same l = ap (λ (q : ProbeRequest). if l .fed then q else Bad) (held-asks (l .chars))
 
-probe-enough : Enough probeConsole
+probe-enough : HeldEnough probeConsole
 probe-enough = record {
-  says-same = λ p l. ap (λ (q : ProbeRequest). replyLine (responded p q .reply)) (asked-same l);
-  next-same = λ p l. ap (λ (q : ProbeRequest). responded p q .probe) (asked-same l);
+  says-same = λ p l. ap (λ (q : ProbeRequest). replyLine (probeResponded p q .reply)) (asked-same l);
+  next-same = λ p l. ap (λ (q : ProbeRequest). probeResponded p q .probe) (asked-same l);
 }
 
 -- whatever the cuts, each line is answered on the probe that the lines before it left
-pub probe-session : (p : Thermostat) (cs : List (List ℕ)) → session probeConsole (fresh p) cs ≡ inTurn probeConsole p (linesOf (together cs))
+pub probe-session : (p : Thermostat) (cs : List (List ℕ)) → session probeConsole (freshRun p) cs ≡ inTurn probeConsole p (linesOf (together cs))
 probe-session = session-cuts probeConsole probe-enough
 
 -- what the call for a line leaves at the front of a buffer with room, and the probe
@@ -45,4 +45,4 @@ said-front p l out room r answer out' left few =
     let said = rw t at answer in
     let wrote = rw t at left in
     let count = ap (λ (q : ProbeSaid). q .count) said in
-    (laid-front out (replyLine (responded p (probeAsked l) .reply)) out' (r .count) count wrote (omega arith) .1, ap (λ (q : ProbeSaid). q .probe) said)
+    (laid-front out (replyLine (probeResponded p (probeAsked l) .reply)) out' (r .count) count wrote (omega arith) .1, ap (λ (q : ProbeSaid). q .probe) said)

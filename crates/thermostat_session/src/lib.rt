@@ -7,7 +7,7 @@ ghost use Prim.Native.Nat.{_≤_};
 ghost use Rattle.text.specs.Lines.{Line};
 ghost use Rattle.text.specs.Putting.{lineRoom};
 ghost use Rattle.thermostat.specs.Calls.{statusRead};
-ghost use Rattle.thermostat_session.specs.ProbeConsole.{replies, statusReplied, responded, probeAsked, probeSaid, probeLeaves};
+ghost use Rattle.thermostat_session.specs.ProbeConsole.{replies, statusReplied, probeResponded, probeAsked, probeSaid, probeLeaves};
 use crate::answers::Reply;
 use crate::requests::ProbeRequest;
 use refusals::ACCEPTED;
@@ -52,7 +52,7 @@ fn read(probe: Thermostat) -> Responded
 
 // The call that a request asks for, and its answer.
 pub fn respond(probe: Thermostat, request: ProbeRequest) -> Responded
-    ensures answer { λ r. ⌜ r ≡ responded probe request ⌝ }
+    ensures answer { λ r. ⌜ r ≡ probeResponded probe request ⌝ }
 {
     match request {
         ProbeRequest::Bad => say(Reply::Unknown, probe),

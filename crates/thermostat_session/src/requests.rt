@@ -2,7 +2,7 @@
 ghost use mathlib.Core.Path.{_≡_};
 ghost use Rattle.lines.specs.Words.{wordsOf, wordOf};
 ghost use Rattle.lines.specs.Fields.{byteIn, bitIn};
-ghost use Rattle.thermostat_session.specs.ProbeRequests.{degreesIn, limitIn, askedIn, startAsked, slotAsked, finishAsked, changeAsked, ofProbe, probeRequestOf};
+ghost use Rattle.thermostat_session.specs.ProbeRequests.{degreesAsked, limitIn, askedIn, startAsked, probeSlotAsked, finishAsked, probeChangeAsked, ofProbe, probeRequestOf};
 use bench_requests::LONGEST;
 use bench_requests::asks;
 use lines::fields;
@@ -46,7 +46,7 @@ pub struct AskedRead {
 
 // Degrees are written as counts are.
 fn degrees_in(w: &[u8]) -> DegreesRead
-    ensures { λ r. ⌜ r ≡ degreesIn (now (w .entry)) ⌝ }
+    ensures { λ r. ⌜ r ≡ degreesAsked (now (w .entry)) ⌝ }
 {
     let read = fields::count_in(w);
     let count = read.count;
@@ -109,7 +109,7 @@ fn start(line: &[u8]) -> ProbeRequest
 
 // `slot BIT`
 fn slot(line: &[u8]) -> ProbeRequest
-    ensures { λ r. ⌜ r ≡ slotAsked (bitIn (wordOf (wordsOf (now (line .entry))) 1)) ⌝ }
+    ensures { λ r. ⌜ r ≡ probeSlotAsked (bitIn (wordOf (wordsOf (now (line .entry))) 1)) ⌝ }
 {
     let bit = bit_in(word(line, 1));
     if bit.valid {
@@ -120,7 +120,7 @@ fn slot(line: &[u8]) -> ProbeRequest
 
 // `finish DEGREES`
 fn finish(line: &[u8]) -> ProbeRequest
-    ensures { λ r. ⌜ r ≡ finishAsked (degreesIn (wordOf (wordsOf (now (line .entry))) 1)) ⌝ }
+    ensures { λ r. ⌜ r ≡ finishAsked (degreesAsked (wordOf (wordsOf (now (line .entry))) 1)) ⌝ }
 {
     let read = degrees_in(word(line, 1));
     let degrees = read.degrees;
@@ -132,7 +132,7 @@ fn finish(line: &[u8]) -> ProbeRequest
 
 // `change STATUS MODE POLARITY ONESHOT`
 fn change(line: &[u8]) -> ProbeRequest
-    ensures { λ r. ⌜ r ≡ changeAsked (byteIn (wordOf (wordsOf (now (line .entry))) 1)) (askedIn (wordOf (wordsOf (now (line .entry))) 2) (wordOf (wordsOf (now (line .entry))) 3) (wordOf (wordsOf (now (line .entry))) 4)) ⌝ }
+    ensures { λ r. ⌜ r ≡ probeChangeAsked (byteIn (wordOf (wordsOf (now (line .entry))) 1)) (askedIn (wordOf (wordsOf (now (line .entry))) 2) (wordOf (wordsOf (now (line .entry))) 3) (wordOf (wordsOf (now (line .entry))) 4)) ⌝ }
 {
     let status = text::read_fixed(word(line, 1), 16, 2);
     let a = asked_in(word(line, 2), word(line, 3), word(line, 4));

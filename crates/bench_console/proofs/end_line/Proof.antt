@@ -2,7 +2,7 @@
 use mathlib.Core.Path.{refl, ap}
 use native.Mathlib.Omega.{arith}
 use lib.Seq.{length-take-le}
-use Rattle.sessions.specs.Session.{fresh}
+use Rattle.sessions.specs.Session.{freshRun}
 use Rattle.bench_session.specs.SettingsSession.{Both}
 use borrow.Author.Needs.{needs}
 use Rattle.bench_console.proofs.end_line.Statement.{statement}
@@ -24,7 +24,7 @@ returns : tie.Need-returns
 returns c =
     let answered = c .before .before .before .before .before in
     let fed = answered .before .before .before in
-    rw (fed .if1 .taken) (ap (λ (v : Both). fresh v) (answered .answer-line .ensures), omega arith)
+    rw (fed .if1 .taken) (ap (λ (v : Both). freshRun v) (answered .answer-line .ensures), omega arith)
 
 returns-2 : tie.Need-returns-2
 returns-2 c = rw (c .if1 .left) (refl, omega arith)

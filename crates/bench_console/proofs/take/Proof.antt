@@ -5,7 +5,7 @@ use mathlib.Core.Path.{_≡_, refl, sym, _∙_}
 use native.Mathlib.Omega.{arith}
 use denote.Ref.{now}
 use lib.ListN.{length, drop}
-use Rattle.sessions.specs.Session.{after, runAt, Standing}
+use Rattle.sessions.specs.Session.{runAfter, runAt, Standing}
 use Rattle.sessions.specs.SessionLaws.{piece-done, line-taken}
 use Rattle.bench_session.specs.SettingsSession.{both, benchConsole, nothingYet}
 use borrow.Author.Needs.{needs}
@@ -15,7 +15,7 @@ use Rattle.bench_console.proofs.take.Tie as tie
 abbrev Inv-loop : tie.InvT-loop
 Inv-loop line₀ chunk out₀ s₀ at₀ line out s at =
     (at ≤ length chunk) × (length line ≡ length line₀) × (length out ≡ length out₀) × Standing benchConsole nothingYet (both (s .bench) (s .store)) line (s .held)
-    × (after benchConsole (runAt (both (s₀ .bench) (s₀ .store)) line₀ (s₀ .held)) chunk ≡ after benchConsole (runAt (both (s .bench) (s .store)) line (s .held)) (drop at chunk))
+    × (runAfter benchConsole (runAt (both (s₀ .bench) (s₀ .store)) line₀ (s₀ .held)) chunk ≡ runAfter benchConsole (runAt (both (s .bench) (s .store)) line (s .held)) (drop at chunk))
 
 abbrev μ-loop : tie.MeasureT-loop
 μ-loop line₀ chunk out₀ s₀ at₀ line out s at = length chunk - at

@@ -5,14 +5,14 @@ use mathlib.Core.Path.{_≡_, refl, _∙_}
 use native.Mathlib.Omega.{arith}
 use lib.ListN.{length, take}
 use Rattle.pieces.specs.Pieces.{Ran, start, more}
-use Rattle.mending.specs.Claims.{longestHeld}
+use Rattle.mending.specs.Claims.{mostHeldOfMending}
 use borrow.Author.Needs.{needs}
 use Rattle.mend_recording.proofs.mend_pieces.Statement.{statement}
 use Rattle.mend_recording.proofs.mend_pieces.Tie as tie
 
 abbrev Inv-loop : tie.InvT-loop
 Inv-loop buffer₀ left₀ report₀ piece₀ turns₀ buffer left report piece turns =
-    (piece .held ≤ length buffer₀) × (length buffer ≡ length buffer₀) × (length left ≡ length left₀) × (length report ≡ length report₀) × Ran longestHeld (take (piece .held) buffer)
+    (piece .held ≤ length buffer₀) × (length buffer ≡ length buffer₀) × (length left ≡ length left₀) × (length report ≡ length report₀) × Ran mostHeldOfMending (take (piece .held) buffer)
 
 abbrev μ-loop : tie.MeasureT-loop
 μ-loop buffer₀ left₀ report₀ piece₀ turns₀ buffer left report piece turns = turns

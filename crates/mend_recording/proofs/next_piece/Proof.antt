@@ -8,7 +8,7 @@ use lib.Seq.{length-take-le}
 use Rattle.text.specs.Lines.{linesOf}
 use Rattle.pieces.specs.Pieces.{carried, ended, fed}
 use Rattle.pieces.specs.Walk.{read-behind}
-use Rattle.mending.specs.Claims.{longestHeld}
+use Rattle.mending.specs.Claims.{mostHeldOfMending}
 use Rattle.mending.specs.Laws.{front-held, lines-few}
 use borrow.Author.Needs.{needs}
 use Rattle.mend_recording.proofs.next_piece.Statement.{statement}
@@ -64,7 +64,7 @@ returns-2 c =
     let left = front-held s (now (a .args .left)) (now (a .args .report)) room noted (m .mend-piece .result .held) (m .mend-piece .last .0) (drop filled after) (m .mend-piece .ensures .0 .0) (m .mend-piece .ensures .1) in
     let piece = read-behind before after held filled (read .read-behind .ensures .0 .0) (read .read-behind .ensures .1) in
     let less = m .mend-piece .ensures .0 .1 in
-    (omega arith, fed (take (filled - held) (drop held after)) (left ∙ ap (carried longestHeld) piece))
+    (omega arith, fed (take (filled - held) (drop held after)) (left ∙ ap (carried mostHeldOfMending) piece))
 
 pub next-piece-spec : {M : Type 1} → statement M
 next-piece-spec =

@@ -2,7 +2,7 @@
 use mathlib.Core.Path.{refl, ap}
 use native.Mathlib.Omega.{arith}
 use lib.Seq.{length-take-le}
-use Rattle.sessions.specs.Session.{fresh}
+use Rattle.sessions.specs.Session.{freshRun}
 use Rattle.packed_session.specs.TableSession.{TableState}
 use borrow.Author.Needs.{needs}
 use Rattle.packed_console.proofs.end_line.Statement.{statement}
@@ -27,7 +27,7 @@ returns : tie.Need-returns
 returns c =
     let answered = c .before .before .before .before in
     let fed = answered .before .before .before .before in
-    rw (fed .if1 .taken) (ap (λ (v : TableState). fresh v) (answered .answer-line .ensures), omega arith)
+    rw (fed .if1 .taken) (ap (λ (v : TableState). freshRun v) (answered .answer-line .ensures), omega arith)
 
 returns-2 : tie.Need-returns-2
 returns-2 c = rw (c .if1 .left) (refl, omega arith)

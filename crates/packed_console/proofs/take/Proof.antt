@@ -5,7 +5,7 @@ use mathlib.Core.Path.{_≡_, refl, sym, _∙_}
 use native.Mathlib.Omega.{arith}
 use denote.Ref.{now}
 use lib.ListN.{length, drop}
-use Rattle.sessions.specs.Session.{after, runAt, Standing}
+use Rattle.sessions.specs.Session.{runAfter, runAt, Standing}
 use Rattle.sessions.specs.SessionLaws.{piece-done, line-taken}
 use Rattle.packed_session.specs.TableSession.{tableState, tableConsole, firstState}
 use borrow.Author.Needs.{needs}
@@ -16,7 +16,7 @@ abbrev Inv-loop : tie.InvT-loop
 Inv-loop t₀ line₀ chunk out₀ s₀ at₀ t line out s at =
     (at ≤ length chunk) × (length line ≡ length line₀) × (length out ≡ length out₀) × (length t ≡ length t₀)
     × Standing tableConsole firstState (tableState t (s .store)) line (s .held)
-    × (after tableConsole (runAt (tableState t₀ (s₀ .store)) line₀ (s₀ .held)) chunk ≡ after tableConsole (runAt (tableState t (s .store)) line (s .held)) (drop at chunk))
+    × (runAfter tableConsole (runAt (tableState t₀ (s₀ .store)) line₀ (s₀ .held)) chunk ≡ runAfter tableConsole (runAt (tableState t (s .store)) line (s .held)) (drop at chunk))
 
 abbrev μ-loop : tie.MeasureT-loop
 μ-loop t₀ line₀ chunk out₀ s₀ at₀ t line out s at = length chunk - at

@@ -2,7 +2,7 @@
 use denote.Ref.{now}
 use mathlib.Core.Path.{ap, _∙_}
 use Rattle.text.specs.Lines.{Line}
-use Rattle.thermostat_session.specs.ProbeConsole.{responded}
+use Rattle.thermostat_session.specs.ProbeConsole.{probeResponded}
 use Rattle.thermostat_session.specs.ProbeConsoleLaws.{said-without, said-with}
 use borrow.Author.Needs.{needs}
 use Rattle.thermostat_session.proofs.answer.Statement.{statement}
@@ -34,7 +34,7 @@ returns-2 c =
     let room = asked .before in
     let a = room .before .before .before .args in
     let line : Line = record { chars = now (a .line); fed = a .fed } in
-    let answers = done .respond .ensures ∙ ap (responded (a .probe)) (asked .asked .ensures) in
+    let answers = done .respond .ensures ∙ ap (probeResponded (a .probe)) (asked .asked .ensures) in
     let said = said-with (a .probe) line (now (a .out)) (room .if1 .left) (done .respond .result) answers (w .write .result) (w .write .ensures .0) _ (w .write .ensures .1 .0) (w .write .ensures .1 .1) in
     (said .0, (said .1, said .2))
 

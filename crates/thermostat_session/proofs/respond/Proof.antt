@@ -1,5 +1,5 @@
 -- Request by request: what is said is what the call came to, and the call came to what its promise says. Assumes nothing.
-use Rattle.thermostat_session.specs.ProbeConsole.{responded}
+use Rattle.thermostat_session.specs.ProbeConsole.{probeResponded}
 use borrow.Author.Needs.{needs}
 use Rattle.thermostat_session.proofs.respond.Statement.{statement}
 use Rattle.thermostat_session.proofs.respond.Tie as tie
@@ -77,39 +77,39 @@ say-requires-8 : tie.Need-say-requires-8
 say-requires-8 c κs = search needs
 
 returns : tie.Need-returns
-unfolding responded
+unfolding probeResponded
 returns c = rw (c .before .enum-told .given .1, c .say .ensures)
 
 returns-2 : tie.Need-returns-2
-unfolding responded
+unfolding probeResponded
 returns-2 c = rw (c .before .before .before .request .given .1, c .say2 .ensures, c .before .start .ensures)
 
 returns-3 : tie.Need-returns-3
-unfolding responded
+unfolding probeResponded
 returns-3 c = rw (c .before .before .before .enum-told2 .given .1, c .say3 .ensures, c .before .before .reset .ensures)
 
 returns-4 : tie.Need-returns-4
-unfolding responded
+unfolding probeResponded
 returns-4 c = rw (c .before .before .before .before .request2 .given .1, c .say4 .ensures, c .before .before .slot .ensures)
 
 returns-5 : tie.Need-returns-5
-unfolding responded
+unfolding probeResponded
 returns-5 c = rw (c .before .before .before .before .request3 .given .1, c .say5 .ensures, c .before .before .finish .ensures)
 
 returns-6 : tie.Need-returns-6
-unfolding responded
+unfolding probeResponded
 returns-6 c = rw (c .before .before .enum-told3 .given .1, c .say6 .ensures, c .before .power-cycle .ensures)
 
 returns-7 : tie.Need-returns-7
-unfolding responded
+unfolding probeResponded
 returns-7 c = rw (c .before .enum-told4 .given .1, c .read .ensures)
 
 returns-8 : tie.Need-returns-8
-unfolding responded
+unfolding probeResponded
 returns-8 c = rw (c .before .before .before .before .request4 .given .1, c .say7 .ensures, c .before .before .change .ensures .0)
 
 returns-9 : tie.Need-returns-9
-unfolding responded
+unfolding probeResponded
 returns-9 c = rw (c .before .enum-told5 .given .1, c .say8 .ensures)
 
 pub respond-spec : {M : Type 1} → statement M

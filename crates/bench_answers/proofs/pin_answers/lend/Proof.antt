@@ -7,7 +7,7 @@ use lib.Seq.{length-take-le}
 use Rattle.master_rules.specs.Pins.{PinsOutcome, pinsOutcome}
 use Rattle.bench_answers.specs.Whole.{Says}
 use Rattle.bench_answers.specs.PinLines.{ofPins}
-use Rattle.bench_answers.specs.PinLinesLaws.{just-enough}
+use Rattle.bench_answers.specs.PinLinesLaws.{pins-just-enough}
 use borrow.Author.Needs.{needs}
 use Rattle.bench_answers.proofs.pin_answers.lend.Statement.{statement}
 use Rattle.bench_answers.proofs.pin_answers.lend.Tie as tie
@@ -58,7 +58,7 @@ returns-2 c =
     let else = ask .before .before .before in
     let start = else .before .before .before in
     let a = start .args in
-    let same : pinsOutcome (a .bench) (length (now (a .list))) ≡ pinsOutcome (a .bench) (a .places) = ap (pinsOutcome (a .bench)) (start .pre .0) ∙ just-enough (a .bench) (a .places) (else .if1 .left) in
+    let same : pinsOutcome (a .bench) (length (now (a .list))) ≡ pinsOutcome (a .bench) (a .places) = ap (pinsOutcome (a .bench)) (start .pre .0) ∙ pins-just-enough (a .bench) (a .places) (else .if1 .left) in
     subst (λ (o : PinsOutcome). Says (now (a .out)) (ofPins o) (ask .ask2 .last .1 .1 .0) (ask .ask2 .result)) same (ask .ask2 .ensures)
 
 pub lend-spec : {M : Type 1} → statement M

@@ -4,7 +4,7 @@ use mathlib.Core.Path.{sym, _∙_}
 use borrow.Author.Tests.{not-true, not-false}
 use Rattle.master_rules.specs.declared.SharedPin.the-variants.{NoPin}
 use Rattle.bench_answers.specs.PinLines.{pinsLine}
-use Rattle.bench_answers.specs.PinLinesLaws.{refusal-short}
+use Rattle.bench_answers.specs.PinLinesLaws.{pins-refusal-short}
 use Rattle.text.specs.PuttingLaws.{line-refused, line-done}
 use borrow.Author.Needs.{needs}
 use Rattle.bench_answers.proofs.pin_answers.refusal_line.Statement.{statement}
@@ -40,7 +40,7 @@ returns-2 c =
     let put = c .before .before .before in
     let room = put .before .before .before in
     let a = room .before .before .before .args in
-    let short = refusal-short (a .refusal) (search needs) in
+    let short = pins-refusal-short (a .refusal) (search needs) in
     let done = line-done (now (a .out)) (a .at) (pinsLine (a .refusal) 0 NoPin) (sym (room .has-room .ensures) ∙ not-false (room .has-room .result) (put .before .before .if1 .left)) short _ _ (put .put-counts .ensures) in
     (c .behind .ensures ∙ done .0, done .1)
 

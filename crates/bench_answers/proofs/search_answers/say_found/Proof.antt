@@ -6,7 +6,7 @@ use native.Mathlib.Omega.{arith}
 use lib.ListN.{length}
 use Rattle.basic_laws.specs.LaidLaws.{laid-length}
 use Rattle.bench_answers.specs.Answers.{searchLine, codeLines}
-use Rattle.bench_answers.specs.AnswersLaws.{search-short, codes-length}
+use Rattle.bench_answers.specs.AnswersLaws.{search-short, code-lines-length}
 use Rattle.bench_answers.specs.FoundLaws.{line-laid, says-found, codes-few as lines-few}
 use borrow.Author.Needs.{needs}
 use Rattle.bench_answers.proofs.search_answers.say_found.Statement.{statement}
@@ -52,7 +52,7 @@ returns c =
     let short = search-short (a .args .refusal) (length (now (a .args .codes))) (a .args .passes) (a .args .slots) (length (now (a .args .recording))) (search needs) (omega arith) (search needs) (search needs) (omega arith) in
     let text = searchLine (a .args .refusal) (length (now (a .args .codes))) (a .args .passes) (a .args .slots) (length (now (a .args .recording))) in
     let lines = codeLines (now (a .args .codes)) in
-    let place = codes .put-codes .ensures .0 ∙ ap (λ (n : ℕ). head .search-line .result .next + n) (sym (codes-length (now (a .args .codes)))) in
+    let place = codes .put-codes .ensures .0 ∙ ap (λ (n : ℕ). head .search-line .result .next + n) (sym (code-lines-length (now (a .args .codes)))) in
     says-found (now (a .args .out)) text lines (now (a .args .recording)) (head .search-line .last .0) (codes .put-codes .last .0) (frames .lay .last .0) (head .search-line .result) (frames .lay .result) (codes .put-codes .result) (a .args .bench)
     (a .pre .2) short (lines-few (now (a .args .codes)) codes-few) bytes-few (head .search-line .ensures .0) (head .search-line .ensures .1) place (codes .put-codes .ensures .1) (frames .lay .ensures .0) (frames .lay .ensures .1)
 

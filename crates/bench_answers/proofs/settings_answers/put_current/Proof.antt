@@ -3,8 +3,8 @@ use denote.Ref.{now}
 use Rattle.text.specs.Decimal.{decimal}
 use Rattle.text.specs.Digits.{hexDigits}
 use Rattle.text.specs.PuttingLaws.{puts-field, field-puts}
-use Rattle.bench_answers.specs.SettingsLines.{fieldsLine}
-use Rattle.bench_answers.specs.SettingsLinesLaws.{fields-short}
+use Rattle.bench_answers.specs.SettingsLines.{settingsFields}
+use Rattle.bench_answers.specs.SettingsLinesLaws.{settings-fields-short}
 use borrow.Author.Needs.{needs}
 use Rattle.bench_answers.proofs.settings_answers.put_current.Statement.{statement}
 use Rattle.bench_answers.proofs.settings_answers.put_current.Tie as tie
@@ -28,7 +28,7 @@ same-length : tie.Need-same-length
 same-length c = search needs
 
 returns : tie.Need-returns
-unfolding fieldsLine
+unfolding settingsFields
 returns c =
     let version = c .before .before in
     let configuration = version .before .before .before .before in
@@ -42,7 +42,7 @@ returns c =
           (puts-field (hexDigits 2 (a .low)) 0x20 (field-puts (high .put-digits .last .0) (high .put-digits .result) (hexDigits 2 (a .low)) 0x20 (low .put-digits2 .last .0) (low .put-digits2 .result) (low .put-digits2 .ensures .0, low .put-digits2 .ensures .1))
           (puts-field (hexDigits 2 (a .configuration)) 0x20 (field-puts (low .put-digits2 .last .0) (low .put-digits2 .result) (hexDigits 2 (a .configuration)) 0x20 (configuration .put-digits3 .last .0) (configuration .put-digits3 .result) (configuration .put-digits3 .ensures .0, configuration .put-digits3 .ensures .1))
           (field-puts (configuration .put-digits3 .last .0) (configuration .put-digits3 .result) (decimal (a .version)) 0x0A (version .put-number2 .last .0) (version .put-number2 .result) (version .put-number2 .ensures .0, version .put-number2 .ensures .1))))),
-      fields-short (a .refusal) (a .high) (a .low) (a .configuration) (a .version) (start .fits .refusal .fits) (start .fits .version .fits),
+      settings-fields-short (a .refusal) (a .high) (a .low) (a .configuration) (a .version) (start .fits .refusal .fits) (start .fits .version .fits),
     )
 
 pub put-current-spec : {M : Type 1} → statement M

@@ -11,8 +11,8 @@ use Rattle.basic_laws.specs.ComplementLaws.{read16, held16, widened, widened-ba
 use Rattle.text.specs.Decimal.{decimal, signedDecimal}
 use Rattle.text.specs.Putting.{Puts, flag}
 use Rattle.text.specs.PuttingLaws.{puts-field, field-puts}
-use Rattle.bench_answers.specs.WhyLine.{fieldsLine}
-use Rattle.bench_answers.specs.WhyLineLaws.{fields-short}
+use Rattle.bench_answers.specs.WhyLine.{whyFields}
+use Rattle.bench_answers.specs.WhyLineLaws.{why-fields-short}
 use borrow.Author.Needs.{needs}
 use Rattle.bench_answers.proofs.why_answers.put_fields.Statement.{statement}
 use Rattle.bench_answers.proofs.why_answers.put_fields.Tie as tie
@@ -56,7 +56,7 @@ same-length : tie.Need-same-length
 same-length c = search needs
 
 returns : tie.Need-returns
-unfolding fieldsLine
+unfolding whyFields
 returns c =
     let differs = c .before .before in
     let low = differs .before .before .before .before in
@@ -66,7 +66,7 @@ returns c =
     let refusal = reason .before .before .before .before in
     let start = refusal .before .before .before in
     let a = start .args in
-    let short = fields-short (a .refusal) (a .reason) (a .count) (a .high) (a .low) (a .differs) (start .fits .refusal .fits) (start .fits .reason .fits) (start .fits .count) (start .fits .high) (start .fits .low) in (
+    let short = why-fields-short (a .refusal) (a .reason) (a .count) (a .high) (a .low) (a .differs) (start .fits .refusal .fits) (start .fits .reason .fits) (start .fits .count) (start .fits .high) (start .fits .low) in (
       puts-field (decimal (a .refusal)) 0x20 (field-puts (now (a .out)) (a .at) (decimal (a .refusal)) 0x20 (refusal .put-number .last .0) (refusal .put-number .result) (refusal .put-number .ensures .0, refusal .put-number .ensures .1))
           (puts-field (decimal (a .reason)) 0x20 (field-puts (refusal .put-number .last .0) (refusal .put-number .result) (decimal (a .reason)) 0x20 (reason .put-number2 .last .0) (reason .put-number2 .result) (reason .put-number2 .ensures .0, reason .put-number2 .ensures .1))
           (puts-field (signedDecimal (a .count)) 0x20 (given (a .count) (start .fits .count) _ _ _ _ (field-puts (reason .put-number2 .last .0) (reason .put-number2 .result) (signedDecimal (wide (a .count))) 0x20 (count .put-signed .last .0) (count .put-signed .result) (count .put-signed .ensures .0, count .put-signed .ensures .1)))

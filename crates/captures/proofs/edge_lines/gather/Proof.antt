@@ -6,13 +6,13 @@ use lib.ListN.{length, take}
 use lib.Seq.{take-length}
 use Rattle.basic_laws.specs.Fold.{fold}
 use Rattle.basic_laws.specs.FoldLaws.{fold-step}
-use Rattle.captures.specs.Partial.{longer}
+use Rattle.captures.specs.Partial.{longerPartial}
 use borrow.Author.Needs.{needs}
 use Rattle.captures.proofs.edge_lines.gather.Statement.{statement}
 use Rattle.captures.proofs.edge_lines.gather.Tie as tie
 
 abbrev Inv-loop : tie.InvT-loop
-Inv-loop characters held₀ i₀ held i = (i ≤ length characters) × (held ≡ fold longer held₀ (take i characters))
+Inv-loop characters held₀ i₀ held i = (i ≤ length characters) × (held ≡ fold longerPartial held₀ (take i characters))
 
 abbrev μ-loop : tie.MeasureT-loop
 μ-loop characters held₀ i₀ held i = length characters - i
@@ -36,7 +36,7 @@ loop-less c = search needs
 loop-again : tie.Need-loop-again Inv-loop μ-loop
 loop-again c =
     let at-loop = c .before .before .before in
-    (omega arith, c .lengthen .ensures ∙ rw (at-loop .loop .inv .1) (fold-step longer _ _ _ _ (c .before .before .loop-test .taken)))
+    (omega arith, c .lengthen .ensures ∙ rw (at-loop .loop .inv .1) (fold-step longerPartial _ _ _ _ (c .before .before .loop-test .taken)))
 
 returns : tie.Need-returns Inv-loop μ-loop
 returns c =

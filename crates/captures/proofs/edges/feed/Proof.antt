@@ -3,7 +3,7 @@ use Prim.Native.Nat.{_-_, _≤_}
 use mathlib.Core.Path.{_≡_, sym, ap, _∙_}
 use lib.ListN.{length, drop, drop-of-length-le}
 use Rattle.basic_laws.specs.Fold.{fold}
-use Rattle.captures.specs.Edges.{Reading, onByte, answers}
+use Rattle.captures.specs.Edges.{Reading, onByte, answersOf}
 use mathlib.Core.List.{[]}
 use denote.Ref.{now}
 use borrow.Author.Needs.{needs}
@@ -49,7 +49,7 @@ returns c =
     let none : drop (at-loop .loop .at) (now (a .s)) ≡ [] = drop-of-length-le (now (a .s)) (end .loop-test .left) in
     let whole : record { reader = at-loop .loop .held; out = at-loop .loop .out } ≡ fold onByte record { reader = a .reader; out = now (a .out) } (now (a .s)) =
     ap (fold onByte record { reader = at-loop .loop .held; out = at-loop .loop .out }) (sym none) ∙ inv .2 in
-    (c .answer-of .ensures ∙ ap (λ (x : Reading). answers (x .reader)) whole, ap (λ (x : Reading). x .out) whole)
+    (c .answer-of .ensures ∙ ap (λ (x : Reading). answersOf (x .reader)) whole, ap (λ (x : Reading). x .out) whole)
 
 pub feed-spec : {M : Type 1} → statement M
 feed-spec =

@@ -6,7 +6,7 @@ use lib.ListN.{length, drop, length-drop}
 use Prim.Native.Nat.{_≤_}
 use denote.Ref.{now}
 use native.Mathlib.Omega.{arith}
-use Rattle.captures.specs.EdgesLaws.{stays, lengthens, line-fed}
+use Rattle.captures.specs.EdgesLaws.{refused-stays, lengthens, line-fed}
 use mathlib.Core.Path.{sym, _∙_}
 use borrow.Author.Needs.{needs}
 use Rattle.captures.proofs.edges.feed_line.Statement.{statement}
@@ -27,7 +27,7 @@ returns : tie.Need-returns
 returns c =
     let a = c .before .before .before .before .args in
     let x : Reading = record { reader = a .reader; out = now (a .out) } in
-    (stays x (c .if1 .taken) _ ∙ sym (stays x (c .if1 .taken) _), (c .before .before .before .before .pre, omega arith))
+    (refused-stays x (c .if1 .taken) _ ∙ sym (refused-stays x (c .if1 .taken) _), (c .before .before .before .before .pre, omega arith))
 
 line-end-requires : tie.Need-line-end-requires
 line-end-requires c κs = search needs

@@ -1,4 +1,4 @@
--- The loop's invariant is `Walking`: text and report of the lines before `at` are laid, and what is to come is that of the lines from it on. The measure is
+-- The loop's invariant is `MendingWalk`: text and report of the lines before `at` are laid, and what is to come is that of the lines from it on. The measure is
 -- what is left of the text. Assumes nothing.
 use Prim.Native.Nat.{ℕ, _-_}
 use denote.Ref.{now}
@@ -9,12 +9,12 @@ use lib.ListN.{length}
 use borrow.Author.Needs.{needs}
 use Rattle.text.specs.Laying.{layAnswer, layLeaves}
 use Rattle.mending.specs.declared.LineMended.{LineMended}
-use Rattle.mending.specs.Laws.{Walking, walking-start, walking-more, walking-done, walking-open}
+use Rattle.mending.specs.Laws.{MendingWalk, walking-start, walking-more, walking-done, walking-open}
 use Rattle.mending.proofs.texts.mend_whole.Statement.{statement}
 use Rattle.mending.proofs.texts.mend_whole.Tie as tie
 
 abbrev Inv-loop : tie.InvT-loop
-Inv-loop s out₀ report₀ at₀ written₀ lines₀ out report at written lines = Walking s out₀ report₀ at written lines out report
+Inv-loop s out₀ report₀ at₀ written₀ lines₀ out report at written lines = MendingWalk s out₀ report₀ at written lines out report
 
 abbrev μ-loop : tie.MeasureT-loop
 μ-loop s out₀ report₀ at₀ written₀ lines₀ out report at written lines = length s - at

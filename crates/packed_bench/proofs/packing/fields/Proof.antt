@@ -1,7 +1,7 @@
 -- Each field from its own bytes. Assumes nothing.
 use mathlib.Core.Path.{_≡_, ap, _∙_}
 use lib.ListN.{getD}
-use Rattle.packed_bench.specs.Bytes.{codeOf, eightAt}
+use Rattle.packed_bench.specs.Bytes.{codeFromBytes, eightAt}
 use Rattle.packed_bench.specs.Parts.{stageOf, activityOf, powerOf}
 use Rattle.packed_bench.specs.Packed.{caseAt, readingAt, fieldsOf}
 use borrow.Author.Needs.{needs}
@@ -78,7 +78,7 @@ returns c =
     let staged = powered .before .before .before in
     let coded = staged .before .before .before in
     let t = coded .before .before .args .t1 in
-    let code : coded .code-of .result ≡ codeOf (eightAt t 0) = coded .code-of .ensures ∙ ap (λ l. codeOf (eightAt l 0)) (coded .before .eight-at .ensures) in
+    let code : coded .code-of .result ≡ codeFromBytes (eightAt t 0) = coded .code-of .ensures ∙ ap (λ l. codeFromBytes (eightAt l 0)) (coded .before .eight-at .ensures) in
     let pad : staged .before .before .eight-at2 .result ≡ eightAt t 8 = staged .before .before .eight-at2 .ensures in
     let stage : staged .stage-of .result ≡ stageOf (caseAt t 16) = staged .stage-of .ensures ∙ ap stageOf (staged .before .case-at .ensures) in
     let activity : powered .before .activity-of .result ≡ activityOf (caseAt t 20) = powered .before .activity-of .ensures ∙ ap activityOf (powered .before .before .case-at2 .ensures) in

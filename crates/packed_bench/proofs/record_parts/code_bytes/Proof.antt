@@ -1,5 +1,5 @@
 -- The definition, byte by byte. Assumes nothing.
-use Rattle.packed_bench.specs.Bytes.{bytesOf}
+use Rattle.packed_bench.specs.Bytes.{bytesLowFirst}
 use mathlib.Core.Path.{refl}
 use borrow.Author.Needs.{needs}
 use Rattle.packed_bench.proofs.record_parts.code_bytes.Statement.{statement}
@@ -30,7 +30,7 @@ cast-t24 : tie.Need-cast-t24
 cast-t24 c = search needs
 
 returns : tie.Need-returns
-unfolding bytesOf
+unfolding bytesLowFirst
 returns c = refl
 
 pub code-bytes-spec : {M : Type 1} → statement M

@@ -1,5 +1,5 @@
 -- Each byte goes below the number of the bytes after it. Assumes nothing.
-use Rattle.packed_bench.specs.Bytes.{codeOf}
+use Rattle.packed_bench.specs.Bytes.{codeFromBytes}
 use borrow.Author.Needs.{needs}
 use Rattle.packed_bench.proofs.record_parts.code_of.Statement.{statement}
 use Rattle.packed_bench.proofs.record_parts.code_of.Tie as tie
@@ -53,7 +53,7 @@ below-requires-8 : tie.Need-below-requires-8
 below-requires-8 c κs = search needs
 
 returns : tie.Need-returns
-unfolding codeOf
+unfolding codeFromBytes
 returns c = rw (c .below8 .ensures .0, c .before .below7 .ensures .0, c .before .before .below6 .ensures .0, c .before .before .before .below5 .ensures .0, c .before .before .before .before .below4 .ensures .0, c .before .before .before .before .before .below3 .ensures .0, c .before .before .before .before .before .before .below2 .ensures .0, c .before .before .before .before .before .before .before .below .ensures .0)
 
 pub code-of-spec : {M : Type 1} → statement M

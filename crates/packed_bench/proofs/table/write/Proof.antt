@@ -11,7 +11,7 @@ use Rattle.basic_laws.specs.Laid.{laid}
 use Rattle.basic_laws.specs.LaidLaws.{laid-length}
 use Rattle.packed_bench.specs.Types.{InTypes}
 use Rattle.bench.specs.Bench.{live, vacant}
-use Rattle.packed_bench.specs.Table.{entryOf, tableOf}
+use Rattle.packed_bench.specs.Table.{entryBytes, tableOf}
 use Rattle.packed_bench.specs.TableLaws.{entry-length}
 use Rattle.packed_bench.specs.LoopLaws.{each-more, table-turn, table-end}
 use Rattle.packed_bench.proofs.table.write.Statement.{statement}
@@ -69,10 +69,10 @@ loop-again c =
     let room : 48 * i + 48 ≤ length t = omega arith in
     let e = q .put-entry .ensures ∙ ap (laid t (48 * i)) (q .before .entry-of .ensures .0) in
     let w = entry-length (drop i ds) in
-    let fits : 48 * i + length (entryOf (drop i ds)) ≤ length t = omega arith in
+    let fits : 48 * i + length (entryBytes (drop i ds)) ≤ length t = omega arith in
     let few = length-take (o .count-of .result) (o .before .records-of .result) in (
       omega arith,
-      ap length e ∙ laid-length t (48 * i) (entryOf (drop i ds)) fits ∙ same,
+      ap length e ∙ laid-length t (48 * i) (entryBytes (drop i ds)) fits ∙ same,
       ap (λ u. laid u (48 * (i + 1)) (tableOf (32 - (i + 1)) (drop (i + 1) ds))) e ∙ sym (table-turn t ds i h room) ∙ p .loop .inv .2,
       each-more InTypes ds i vacant (λ k. rw (getD-take (o .count-of .result) (o .before .records-of .result) i vacant (omega arith)) (q .before .entry-of .ensures .1 (omega arith))) (p .loop .inv .3),
     )

@@ -1,5 +1,5 @@
 -- Request by request, the line that its form has. Assumes nothing.
-use Rattle.packed_session.specs.TableAnswers.{refusedText}
+use Rattle.packed_session.specs.TableAnswers.{refusedOnTable}
 use borrow.Author.Needs.{needs}
 use Rattle.packed_session.proofs.table_answers.refuse.Statement.{statement}
 use Rattle.packed_session.proofs.table_answers.refuse.Tie as tie
@@ -92,98 +92,98 @@ same-length : tie.Need-same-length
 same-length c = search needs
 
 returns : tie.Need-returns
-unfolding refusedText
+unfolding refusedOnTable
 returns c = let arm = c .before .before in rw (arm .before .before .enum-told .given .1) (arm .bad-line .ensures)
 
 same-length-2 : tie.Need-same-length-2
 same-length-2 c = search needs
 
 returns-2 : tie.Need-returns-2
-unfolding refusedText
+unfolding refusedOnTable
 returns-2 c = let arm = c .before .before in rw (arm .before .before .enum-told2 .given .1) (arm .refusal-line .ensures)
 
 same-length-3 : tie.Need-same-length-3
 same-length-3 c = search needs
 
 returns-3 : tie.Need-returns-3
-unfolding refusedText
+unfolding refusedOnTable
 returns-3 c = let arm = c .before .before in rw (arm .before .before .enum-told3 .given .1) (arm .bit-line .ensures)
 
 same-length-4 : tie.Need-same-length-4
 same-length-4 c = search needs
 
 returns-4 : tie.Need-returns-4
-unfolding refusedText
+unfolding refusedOnTable
 returns-4 c = let arm = c .before .before in rw (arm .before .before .enum-told4 .given .1) (arm .bit-line2 .ensures)
 
 same-length-5 : tie.Need-same-length-5
 same-length-5 c = search needs
 
 returns-5 : tie.Need-returns-5
-unfolding refusedText
+unfolding refusedOnTable
 returns-5 c = let arm = c .before .before in rw (arm .before .before .enum-told5 .given .1) (arm .refusal-line2 .ensures)
 
 same-length-6 : tie.Need-same-length-6
 same-length-6 c = search needs
 
 returns-6 : tie.Need-returns-6
-unfolding refusedText
+unfolding refusedOnTable
 returns-6 c = let arm = c .before .before in rw (arm .before .before .enum-told6 .given .1) (arm .refusal-line3 .ensures)
 
 same-length-7 : tie.Need-same-length-7
 same-length-7 c = search needs
 
 returns-7 : tie.Need-returns-7
-unfolding refusedText
+unfolding refusedOnTable
 returns-7 c = let arm = c .before .before in rw (arm .before .before .enum-told7 .given .1) (arm .refusal-line4 .ensures)
 
 same-length-8 : tie.Need-same-length-8
 same-length-8 c = search needs
 
 returns-8 : tie.Need-returns-8
-unfolding refusedText
+unfolding refusedOnTable
 returns-8 c = let arm = c .before .before in rw (arm .before .before .enum-told8 .given .1) (arm .search-line .ensures)
 
 same-length-9 : tie.Need-same-length-9
 same-length-9 c = search needs
 
 returns-9 : tie.Need-returns-9
-unfolding refusedText
+unfolding refusedOnTable
 returns-9 c = let arm = c .before .before in rw (arm .before .before .enum-told9 .given .1) (arm .search-line2 .ensures)
 
 same-length-10 : tie.Need-same-length-10
 same-length-10 c = search needs
 
 returns-10 : tie.Need-returns-10
-unfolding refusedText
+unfolding refusedOnTable
 returns-10 c = let arm = c .before .before in rw (arm .before .before .enum-told10 .given .1) (arm .no-access .ensures)
 
 same-length-11 : tie.Need-same-length-11
 same-length-11 c = search needs
 
 returns-11 : tie.Need-returns-11
-unfolding refusedText
+unfolding refusedOnTable
 returns-11 c = let arm = c .before .before in rw (arm .before .before .enum-told11 .given .1) (arm .no-access2 .ensures)
 
 same-length-12 : tie.Need-same-length-12
 same-length-12 c = search needs
 
 returns-12 : tie.Need-returns-12
-unfolding refusedText
+unfolding refusedOnTable
 returns-12 c = let arm = c .before .before in rw (arm .before .before .enum-told12 .given .1) (arm .no-device .ensures)
 
 same-length-13 : tie.Need-same-length-13
 same-length-13 c = search needs
 
 returns-13 : tie.Need-returns-13
-unfolding refusedText
+unfolding refusedOnTable
 returns-13 c = let arm = c .before .before in rw (arm .before .before .enum-told13 .given .1) (arm .no-reason .ensures)
 
 same-length-14 : tie.Need-same-length-14
 same-length-14 c = search needs
 
 returns-14 : tie.Need-returns-14
-unfolding refusedText
+unfolding refusedOnTable
 returns-14 c = let arm = c .before .before in rw (arm .before .before .enum-told14 .given .1) (arm .refusal-line5 .ensures)
 
 pub refuse-spec : {M : Type 1} → statement M

@@ -5,7 +5,7 @@ use lib.ListN.{length}
 use Rattle.text.specs.Lines.{Line}
 use Rattle.bench_answers.specs.Whole.{room}
 use Rattle.bench_session.specs.Console.{answered, asked}
-use Rattle.packed_session.specs.TableAnswers.{refusedText}
+use Rattle.packed_session.specs.TableAnswers.{refusedOnTable}
 use Rattle.packed_session.specs.KeptLaws.{answered-keeps}
 use Rattle.packed_session.specs.OnBenchLaws.{refused-told, answered-told}
 use borrow.Author.Needs.{needs}
@@ -31,7 +31,7 @@ returns c =
     let u = k .before in
     let s = u .before .before .before .before .before in
     let l : Line = record { chars = now (s .args .line); fed = s .args .fed } in
-    refused-told (λ b. answered b (asked l)) (λ n. refusedText n (asked l)) (now (s .args .t)) (now (s .args .out)) (s .pre) (u .unpack .result) (u .unpack .ensures) (k .if1 .taken) (q .refuse .result) (q .refuse .last .1 .1 .1 .0) (q .refuse .ensures .0) (q .refuse .ensures .1)
+    refused-told (λ b. answered b (asked l)) (λ n. refusedOnTable n (asked l)) (now (s .args .t)) (now (s .args .out)) (s .pre) (u .unpack .result) (u .unpack .ensures) (k .if1 .taken) (q .refuse .result) (q .refuse .last .1 .1 .1 .0) (q .refuse .ensures .0) (q .refuse .ensures .1)
 
 answer-requires : tie.Need-answer-requires
 answer-requires c κs = search needs
@@ -54,7 +54,7 @@ returns-2 c =
     let s = u .before .before .before .before .before in
     let l : Line = record { chars = now (s .args .line); fed = s .args .fed } in
     let enough = le-leb room (length (now (s .args .out))) (s .pre) in
-    answered-told (λ b. answered b (asked l)) (λ n. refusedText n (asked l)) (now (s .args .t)) (now (s .args .out)) (s .pre) (u .unpack .result) (u .unpack .ensures) (answered-keeps (asked l)) (e .if1 .left) (n .answer .result) _ _ (rw enough at (n .answer .ensures .0)) (rw enough at (n .answer .ensures .1 .0)) (k .pack .ensures .1 .0) (k .pack .ensures .1 .1)
+    answered-told (λ b. answered b (asked l)) (λ n. refusedOnTable n (asked l)) (now (s .args .t)) (now (s .args .out)) (s .pre) (u .unpack .result) (u .unpack .ensures) (answered-keeps (asked l)) (e .if1 .left) (n .answer .result) _ _ (rw enough at (n .answer .ensures .0)) (rw enough at (n .answer .ensures .1 .0)) (k .pack .ensures .1 .0) (k .pack .ensures .1 .1)
 
 pub on-bench-spec : {M : Type 1} → statement M
 on-bench-spec =

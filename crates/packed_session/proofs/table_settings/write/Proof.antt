@@ -8,7 +8,7 @@ use Rattle.bench_answers.specs.Said.{ofAccess}
 use Rattle.bench_answers.specs.Whole.{saying}
 use Rattle.bench_answers.specs.WholeLaws.{line-says}
 use Rattle.settings.specs.Written.{settingsWritten}
-use Rattle.packed_session.specs.TableAnswers.{refusedText}
+use Rattle.packed_session.specs.TableAnswers.{refusedOnTable}
 use Rattle.packed_session.specs.OnBenchLaws.{refused-told, answered-told}
 use Rattle.packed_session.specs.TableSettingsLaws.{settings-keep}
 use borrow.Author.Needs.{needs}
@@ -33,7 +33,7 @@ returns c =
     let k = q .before .before in
     let u = k .before in
     let s = u .before .before .before .before in
-    refused-told (λ b. ofAccess (settingsWritten (s .args .store) b (s .args .code))) (λ n. refusedText n (Read (s .args .code))) (now (s .args .t)) (now (s .args .out)) (s .pre) (u .unpack .result) (u .unpack .ensures) (k .if1 .taken) _ _ (q .refuse .ensures .0) (q .refuse .ensures .1)
+    refused-told (λ b. ofAccess (settingsWritten (s .args .store) b (s .args .code))) (λ n. refusedOnTable n (Read (s .args .code))) (now (s .args .t)) (now (s .args .out)) (s .pre) (u .unpack .result) (u .unpack .ensures) (k .if1 .taken) _ _ (q .refuse .ensures .0) (q .refuse .ensures .1)
 
 write-requires : tie.Need-write-requires
 write-requires c κs = search needs
@@ -61,7 +61,7 @@ returns-2 c =
     let says = line-says (now (s .args .out)) (s .pre) (ofAccess (w .write .result)) _ (n .access .result) (n .access .ensures .0) (n .access .ensures .1 .0) (n .access .ensures .1 .1) in
     let told = says .said ∙ ap (λ (a : Access). saying (ofAccess a)) (w .write .ensures) in
     let left = says .laid-is ∙ ap (λ (a : Access). laid (now (s .args .out)) 0 (ofAccess a .text)) (w .write .ensures) in
-    answered-told (λ b. ofAccess (settingsWritten (s .args .store) b (s .args .code))) (λ n. refusedText n (Read (s .args .code))) (now (s .args .t)) (now (s .args .out)) (s .pre) (u .unpack .result) (u .unpack .ensures)
+    answered-told (λ b. ofAccess (settingsWritten (s .args .store) b (s .args .code))) (λ n. refusedOnTable n (Read (s .args .code))) (now (s .args .t)) (now (s .args .out)) (s .pre) (u .unpack .result) (u .unpack .ensures)
     (settings-keep (s .args .store) (s .args .code)) (e .if1 .left) (n .access .result) _ _ told left (k .pack .ensures .1 .0) (k .pack .ensures .1 .1)
 
 pub write-spec : {M : Type 1} → statement M

@@ -1,7 +1,7 @@
 -- By whether the device is quiet. Assumes nothing.
 use mathlib.Core.Bool.{not, and-true}
 use borrow.Author.Needs.{needs}
-use Rattle.search.specs.Standing.{fits, oneAt, zeroAt, surveyedWith}
+use Rattle.search.specs.Standing.{fits, oneAt, zeroSentAt, surveyedWith}
 use Rattle.search.proofs.place.survey_with.Statement.{statement}
 use Rattle.search.proofs.place.survey_with.Tie as tie
 
@@ -15,7 +15,7 @@ both-requires : tie.Need-both-requires
 both-requires c κs = search needs
 
 returns : tie.Need-returns
-unfolding surveyedWith fits oneAt zeroAt
+unfolding surveyedWith fits oneAt zeroSentAt
 returns c =
     let if1 = c .before in
     let quiet = if1 .before in
@@ -42,7 +42,7 @@ both-requires-5 : tie.Need-both-requires-5
 both-requires-5 c κs = search needs
 
 returns-2 : tie.Need-returns-2
-unfolding surveyedWith fits oneAt zeroAt
+unfolding surveyedWith fits oneAt zeroSentAt
 returns-2 c =
     let ones = c .before in
     let inner = ones .before .before in

@@ -1,7 +1,7 @@
 -- Where the reset shows presence the command and the byte are sent; else the answer is 4. Either way the flags are as they were: `flags-left`. Assumes nothing.
 use mathlib.Core.Path.{_≡_, ap, _∙_}
 use Rattle.refusals.specs.Refusals.{accepted, noPresence}
-use Rattle.thermostat.specs.Calls.{changed}
+use Rattle.thermostat.specs.Calls.{statusChanged}
 use Rattle.thermostat.specs.CallsLaws.{flags-left}
 use Rattle.thermostat.specs.declared.rules.Changed.{Changed}
 use borrow.Author.Needs.{needs}
@@ -21,20 +21,20 @@ send-requires-2 : tie.Need-send-requires-2
 send-requires-2 c κs = search needs
 
 returns : tie.Need-returns
-unfolding changed
+unfolding statusChanged
 returns c =
     let byte = c .before in let sending = byte .before in let if1 = sending .before in let start = if1 .before .before in
     let a = start .before .args in
-    let answer : record { refusal = accepted; probe = c .send2 .result } ≡ changed (a .probe) (a .status) (a .asked)
+    let answer : record { refusal = accepted; probe = c .send2 .result } ≡ statusChanged (a .probe) (a .status) (a .asked)
     = simp (c .send2 .ensures, byte .changed-status .ensures, sending .send .ensures, ← start .reset .ensures, if1 .if1 .taken) in
     (answer, ap (λ (r : Changed). r .probe .flags) answer ∙ flags-left (a .probe) (a .status) (a .asked))
 
 returns-2 : tie.Need-returns-2
-unfolding changed
+unfolding statusChanged
 returns-2 c =
     let start = c .before .before in
     let a = start .before .args in
-    let answer : record { refusal = noPresence; probe = start .reset .result .probe } ≡ changed (a .probe) (a .status) (a .asked)
+    let answer : record { refusal = noPresence; probe = start .reset .result .probe } ≡ statusChanged (a .probe) (a .status) (a .asked)
     = simp (← start .reset .ensures, c .if1 .left) in
     (answer, ap (λ (r : Changed). r .probe .flags) answer ∙ flags-left (a .probe) (a .status) (a .asked))
 

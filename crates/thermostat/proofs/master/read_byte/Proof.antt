@@ -10,8 +10,8 @@ use Rattle.commands.specs.BytesLaws.{shifted-on}
 use Rattle.search_laws.specs.Reads.{bitsShown, afterReads}
 use Rattle.search_laws.specs.ReadsLaws.{reads-more, shown-more}
 use Rattle.search_laws.specs.Wire.{slots}
-use Rattle.thermostat.specs.Slot.{slotted}
-use Rattle.thermostat.specs.Calls.{alone, shownBy}
+use Rattle.thermostat.specs.Slot.{probeSlotted}
+use Rattle.thermostat.specs.Calls.{alone, byteShownBy}
 use Rattle.thermostat.proofs.master.read_byte.Statement.{statement}
 use Rattle.thermostat.proofs.master.read_byte.Tie as tie
 
@@ -47,7 +47,7 @@ loop-again c =
       omega arith,
       rw (slotted1 .slot .ensures, at-loop .loop .inv .1) (reads-more alone i p),
       c .push .ensures
-          ∙ rw (slotted1 .slot .ensures, at-loop .loop .inv .1, at-loop .loop .inv .2, left) (shifted-on i (8 - (i + 1)) (numberOf (bitsShown alone i p)) (slotted (afterReads alone i p) true .line) seven)
+          ∙ rw (slotted1 .slot .ensures, at-loop .loop .inv .1, at-loop .loop .inv .2, left) (shifted-on i (8 - (i + 1)) (numberOf (bitsShown alone i p)) (probeSlotted (afterReads alone i p) true .line) seven)
           ∙ ap (λ (n : ℕ). n * 2 ^ (8 - (i + 1))) (shown-more alone i p),
     )
 
@@ -55,7 +55,7 @@ returns : tie.Need-returns Inv-loop μ-loop
 returns c =
     let p = c .before .before .args .probe in
     let all : c .before .loop .i ≡ 8 = omega arith in
-    rw (c .before .loop .inv .1, c .before .loop .inv .2, all, mul-one (shownBy p))
+    rw (c .before .loop .inv .1, c .before .loop .inv .2, all, mul-one (byteShownBy p))
 
 pub read-byte-spec : {M : Type 1} → statement M
 read-byte-spec =

@@ -1,5 +1,5 @@
 -- The line, and the probe that has heard it. Assumes nothing.
-use Rattle.thermostat.specs.Slot.{slotted}
+use Rattle.thermostat.specs.Slot.{probeSlotted}
 use borrow.Author.Needs.{needs}
 use Rattle.thermostat.proofs.wire.slot.Statement.{statement}
 use Rattle.thermostat.proofs.wire.slot.Tie as tie
@@ -11,7 +11,7 @@ hear-requires : tie.Need-hear-requires
 hear-requires c κs = search needs
 
 returns : tie.Need-returns
-unfolding slotted
+unfolding probeSlotted
 returns c = simp (c .hear .ensures, c .before .line-shown .ensures)
 
 pub slot-spec : {M : Type 1} → statement M
