@@ -11,7 +11,7 @@ ghost use Rattle.bench.specs.Bench.{vacant, emptyBench, placeOf, free};
 ghost use Rattle.bench.specs.Slot.{slotted, resetDone};
 ghost use Rattle.bench.specs.Still.{stillAt};
 ghost use Rattle.bench.specs.Calls.{putLast, addedTo, deviceAt, putBack, conversionFinished, copyFinished, powerCycled, looked};
-use crate::wire::Table;
+use crate::wire::Devices;
 use device::Device;
 use device::Ended;
 use device::Joining;
@@ -351,7 +351,7 @@ pub fn look(bench: Bench, code: u64) -> Looked
 // ---- The records themselves, for those who keep them elsewhere
 
 // The places of the table; devices stand in the first ones.
-pub fn records_of(bench: Bench) -> Table
+pub fn records_of(bench: Bench) -> Devices
     ensures answer { λ r. ⌜ r ≡ bench .devices ⌝ }
 {
     bench.devices
@@ -365,7 +365,7 @@ pub fn count_of(bench: Bench) -> u8
 }
 
 // The bench that has these records. It need not be one that calls have made.
-pub fn of_records(devices: Table, count: u8) -> Bench
+pub fn of_records(devices: Devices, count: u8) -> Bench
     ensures answer { λ r. ⌜ r ≡ record { devices = devices; count = count } ⌝ }
 {
     Bench { devices, count }

@@ -10,7 +10,7 @@ use device::power_and_finishes;
 // How many devices a bench can hold.
 pub const PLACES: usize = 32;
 
-pub type Table = [Device; 32];
+pub type Devices = [Device; 32];
 
 // How many places are taken where so many are counted.
 pub fn places(count: u8) -> usize
@@ -21,14 +21,14 @@ pub fn places(count: u8) -> usize
 }
 
 // Whether no line-powered device is busy, so that a reset or a slot can pass.
-pub fn is_free(table: Table, count: u8) -> bool
-    ensures answer { λ r. ⌜ r ≡ freeWire (take count table) ⌝ }
+pub fn is_free(devices: Devices, count: u8) -> bool
+    ensures answer { λ r. ⌜ r ≡ freeWire (take count devices) ⌝ }
 {
     let taken = count as usize;
     let mut i: usize = 0;
     while i < PLACES {
         if i < taken {
-            if device::holds_wire(table[i]) {
+            if device::holds_wire(devices[i]) {
                 return false;
             }
         }
@@ -38,10 +38,10 @@ pub fn is_free(table: Table, count: u8) -> bool
 }
 
 // Every device listens for a ROM command.
-pub fn restart_all(table: Table, count: u8) -> Table
-    ensures answer { λ r. ⌜ r ≡ allRestarted count table ⌝ }
+pub fn restart_all(devices: Devices, count: u8) -> Devices
+    ensures answer { λ r. ⌜ r ≡ allRestarted count devices ⌝ }
 {
-    let mut next = table;
+    let mut next = devices;
     let taken = count as usize;
     let mut i: usize = 0;
     while i < PLACES {

@@ -25,8 +25,8 @@ use Rattle.frame.specs.WritingLaws.{fed-length}
 use Rattle.frame.specs.Recording.{Writable, none, one}
 use Rattle.captures.specs.declared.pulses.Pulse.{Pulse}
 use Rattle.captures.specs.declared.pulses.Pulse.the-variants.{One, Zero, Reset, Other}
-use Rattle.captures.specs.declared.pulses.Stage.{Stage}
-use Rattle.captures.specs.declared.pulses.Stage.the-variants.{Idle, FirstLow, Released, Presence, High, Low}
+use Rattle.captures.specs.declared.pulses.PulseStage.{PulseStage}
+use Rattle.captures.specs.declared.pulses.PulseStage.the-variants.{Idle, FirstLow, Released, Presence, High, Low}
 use Rattle.captures.specs.declared.pulses.Wire.{Wire}
 use Rattle.captures.specs.declared.pulses.Step.{Step}
 use Rattle.captures.specs.Bounds.{isReset, isWait, isSilence, isPresence, pulseOf}
@@ -66,10 +66,10 @@ module _ (w : Wire) (sound : FrameSound (w .frame)) (t : ℕ) where
   pulse-refused : Fair w (refuses w badPulse)
   pulse-refused = refuses-fair badPulse (λ z. omega arith) (omega arith)
 
-  moves-fair : (s : Stage) → Fair w (moves w s t)
+  moves-fair : (s : PulseStage) → Fair w (moves w s t)
   moves-fair s = record { sound = sound; grows = omega arith; roomless = λ z. omega arith; small = omega arith }
 
-  blank-fair : (s : Stage) (p : Bool) → Fair w (goes s t (blankFrame p))
+  blank-fair : (s : PulseStage) (p : Bool) → Fair w (goes s t (blankFrame p))
   blank-fair s p = let seven = blank-seven p in record { sound = blank-sound p; grows = omega arith; roomless = λ z. omega arith; small = omega arith }
 
   restarts-fair : (c : Bool) → Fair w (restarts t c)
@@ -101,7 +101,7 @@ module _ (w : Wire) (sound : FrameSound (w .frame)) (t : ℕ) where
   low-fair Reset = restarts-fair true
   low-fair Other = pulse-refused
 
-  level-fair : (s : Stage) (d : ℕ) → Fair w (afterLevel s w t d)
+  level-fair : (s : PulseStage) (d : ℕ) → Fair w (afterLevel s w t d)
   level-fair Idle d = moves-fair FirstLow
   level-fair FirstLow d = chosen w (isReset d) (restarts t false) (refuses w badPulse) (restarts-fair false) pulse-refused
   level-fair Released d =

@@ -28,8 +28,8 @@ use Rattle.frame.specs.WritingLaws.{lineable-count, fed-length}
 use Rattle.frame.specs.Recording.{writeAll}
 use Rattle.frame.specs.RecordingLaws.{write-append}
 use Rattle.captures.specs.declared.pulses.Wire.{Wire}
-use Rattle.captures.specs.declared.pulses.Stage.{Stage}
-use Rattle.captures.specs.declared.pulses.Stage.the-variants.{Idle, FirstLow, Released, Presence, High, Low}
+use Rattle.captures.specs.declared.pulses.PulseStage.{PulseStage}
+use Rattle.captures.specs.declared.pulses.PulseStage.the-variants.{Idle, FirstLow, Released, Presence, High, Low}
 use Rattle.captures.specs.declared.pulses.Ending.{Ending}
 use Rattle.captures.specs.Rule.{untouched, endingAt}
 use Rattle.captures.specs.declared.edges.Answer.{Answer}
@@ -90,7 +90,7 @@ one-line : (f : Frame) → length (writeAll (f ∷ [])) ≡ length (fedLine f)
 unfolding writeAll
 one-line f = ap length (append-nil (fedLine f))
 
-ending-small : (s : Stage) → endingAt s .refusal < 256
+ending-small : (s : PulseStage) → endingAt s .refusal < 256
 ending-small Idle = omega arith
 ending-small FirstLow = omega arith
 ending-small Released = omega arith

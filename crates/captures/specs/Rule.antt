@@ -21,8 +21,8 @@ use Rattle.frame.specs.declared.Frame.{Frame}
 use Rattle.frame.specs.Frames.{mostSlots, blankFrame, pushed}
 use Rattle.captures.specs.declared.pulses.Pulse.{Pulse}
 use Rattle.captures.specs.declared.pulses.Pulse.the-variants.{One, Zero, Reset, Other}
-use Rattle.captures.specs.declared.pulses.Stage.{Stage}
-use Rattle.captures.specs.declared.pulses.Stage.the-variants.{Idle, FirstLow, Released, Presence, High, Low}
+use Rattle.captures.specs.declared.pulses.PulseStage.{PulseStage}
+use Rattle.captures.specs.declared.pulses.PulseStage.the-variants.{Idle, FirstLow, Released, Presence, High, Low}
 use Rattle.captures.specs.declared.pulses.Wire.{Wire}
 use Rattle.captures.specs.declared.pulses.Step.{Step}
 use Rattle.captures.specs.declared.pulses.Ending.{Ending}
@@ -33,7 +33,7 @@ abbrev pub untouched : Wire
 untouched = record { stage = Idle; last = 0; frame = blankFrame false }
 
 -- whether there was an edge
-abbrev pub begun : Stage → Bool
+abbrev pub begun : PulseStage → Bool
 begun Idle = false
 begun FirstLow = true
 begun Released = true
@@ -48,11 +48,11 @@ abbrev pub refuses : Wire → ℕ → Step
 refuses w n = record { refusal = n; closes = false; wire = w }
 
 -- the line is at a stage, with a frame open
-abbrev pub goes : Stage → ℕ → Frame → Step
+abbrev pub goes : PulseStage → ℕ → Frame → Step
 goes s t f = record { refusal = accepted; closes = false; wire = record { stage = s; last = t; frame = f } }
 
 -- the same with the frame that was open
-abbrev pub moves : Wire → Stage → ℕ → Step
+abbrev pub moves : Wire → PulseStage → ℕ → Step
 moves w s t = goes s t (w .frame)
 
 -- a reset: a frame without presence is open
@@ -85,7 +85,7 @@ afterLow w t Reset = restarts t true
 afterLow w t Other = refuses w badPulse
 
 -- every high but that after a reset may last any time
-abbrev pub afterLevel : Stage → Wire → ℕ → ℕ → Step
+abbrev pub afterLevel : PulseStage → Wire → ℕ → ℕ → Step
 afterLevel Idle w t d = moves w FirstLow t
 afterLevel FirstLow w t d = afterFirstLow w t d
 afterLevel Released w t d = afterRelease w t d
@@ -100,7 +100,7 @@ edgeStep w t = if begun (w .stage) && leb t (w .last) then refuses w notLater el
 -- ## The end
 
 -- before any edge there is no frame; in a low the end is refused; in a high it closes the open frame
-abbrev pub endingAt : Stage → Ending
+abbrev pub endingAt : PulseStage → Ending
 endingAt Idle = record { refusal = accepted; closes = false }
 endingAt FirstLow = record { refusal = badPulse; closes = false }
 endingAt Released = record { refusal = accepted; closes = true }

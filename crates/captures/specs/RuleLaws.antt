@@ -9,13 +9,13 @@ use lib.Dec.{leb, ltb}
 use Rattle.basic_laws.specs.ChoiceLaws.{choice-then, choice-else}
 use Rattle.refusals.specs.Refusals.{accepted, malformed, badPulse, notLater}
 use Rattle.frame.specs.Frames.{mostSlots, blankFrame, pushed}
-use Rattle.captures.specs.declared.pulses.Stage.{Stage}
-use Rattle.captures.specs.declared.pulses.Stage.the-variants.{Idle, FirstLow, Released, Presence, High, Low}
+use Rattle.captures.specs.declared.pulses.PulseStage.{PulseStage}
+use Rattle.captures.specs.declared.pulses.PulseStage.the-variants.{Idle, FirstLow, Released, Presence, High, Low}
 use Rattle.captures.specs.declared.pulses.Wire.{Wire}
 use Rattle.captures.specs.BoundsLaws.{between-below, between-within, between-above}
 use Rattle.captures.specs.Rule.{begun, goes, refuses, moves, restarts, takesSlot, afterFirstLow, afterRelease, afterPresence, afterLevel, edgeStep, endingAt}
 
-pub first-any : (s : Stage) (w : Wire) (t d e : ℕ) → begun s ≡ false → afterLevel s w t d ≡ afterLevel s w t e
+pub first-any : (s : PulseStage) (w : Wire) (t d e : ℕ) → begun s ≡ false → afterLevel s w t d ≡ afterLevel s w t e
 first-any Idle w t d e h = refl
 first-any FirstLow w t d e h = absurd (false≢true (sym h))
 first-any Released w t d e h = absurd (false≢true (sym h))
@@ -37,7 +37,7 @@ module _ (w : Wire) (t : ℕ) (some : begun (w .stage) ≡ true) where
       choice-else late (refuses w notLater) (afterLevel (w .stage) w t (t - w .last)) (ap (λ (b : Bool). b && leb t (w .last)) some ∙ lt-leb t (w .last) h)
 
 -- an end that is refused closes no frame
-pub refused-open : (s : Stage) → (endingAt s .refusal ≡ accepted → ⊥) → endingAt s .closes ≡ false
+pub refused-open : (s : PulseStage) → (endingAt s .refusal ≡ accepted → ⊥) → endingAt s .closes ≡ false
 refused-open Idle h = refl
 refused-open FirstLow h = refl
 refused-open Released h = absurd (h refl)

@@ -9,7 +9,7 @@ ghost use Rattle.captures.specs.Partial.{noLine, counted, longerPartial}
 pub const TIME_DIGITS: u8 = 8;
 
 // One character more than a time has: so many tell that a line is too long.
-const MOST_COUNTED: u8 = 9;
+const MOST_HELD: u8 = 9;
 
 // What is known of a line so far.
 pub struct Partial {
@@ -35,7 +35,7 @@ pub fn none() -> Partial
 fn count_one(count: u8) -> u8
     ensures { λ r. ⌜ r ≡ counted count ⌝ }
 {
-    if count < MOST_COUNTED {
+    if count < MOST_HELD {
         count + 1
     } else {
         count

@@ -13,7 +13,7 @@ pub enum Pulse {
 }
 
 // Where the line stands after its last edge.
-pub enum Stage {
+pub enum PulseStage {
     // high, before any edge
     Idle,
     // in the first low
@@ -30,7 +30,7 @@ pub enum Stage {
 
 // The line and the frame that is open on it. A frame without presence takes no slot.
 pub struct Wire {
-    pub stage: Stage,
+    pub stage: PulseStage,
     // the time of the last edge
     pub last: u32,
     pub frame: Frame,
@@ -100,22 +100,22 @@ pub fn idle() -> Wire
     ensures answer { λ r. ⌜ r ≡ untouched ⌝ }
 {
     Wire {
-        stage: Stage::Idle,
+        stage: PulseStage::Idle,
         last: 0,
         frame: frame::blank(false),
     }
 }
 
-fn has_begun(stage: Stage) -> bool
+fn has_begun(stage: PulseStage) -> bool
     ensures { λ r. ⌜ r ≡ begun stage ⌝ }
 {
     match stage {
-        Stage::Idle => false,
-        Stage::FirstLow => true,
-        Stage::Released => true,
-        Stage::Presence => true,
-        Stage::High => true,
-        Stage::Low => true,
+        PulseStage::Idle => false,
+        PulseStage::FirstLow => true,
+        PulseStage::Released => true,
+        PulseStage::Presence => true,
+        PulseStage::High => true,
+        PulseStage::Low => true,
     }
 }
 
@@ -129,7 +129,7 @@ fn refuse(wire: Wire, refusal: u8) -> Step
     }
 }
 
-fn go(stage: Stage, time: u32, frame: Frame) -> Step
+fn go(stage: PulseStage, time: u32, frame: Frame) -> Step
     ensures { λ r. ⌜ r ≡ goes stage time frame ⌝ }
 {
     Step {
@@ -144,7 +144,7 @@ fn go(stage: Stage, time: u32, frame: Frame) -> Step
 }
 
 // The frame stays as it is.
-fn move_on(wire: Wire, stage: Stage, time: u32) -> Step
+fn move_on(wire: Wire, stage: PulseStage, time: u32) -> Step
     ensures { λ r. ⌜ r ≡ moves wire stage time ⌝ }
 {
     let frame = wire.frame;
@@ -159,7 +159,7 @@ fn restart(time: u32, closes: bool) -> Step
         refusal: refusals::ACCEPTED,
         closes,
         wire: Wire {
-            stage: Stage::Released,
+            stage: PulseStage::Released,
             last: time,
             frame: frame::blank(false),
         },
@@ -176,7 +176,7 @@ fn take_slot(wire: Wire, time: u32, bit: bool) -> Step
     if frame::MOST_SLOTS <= frame.count {
         return refuse(wire, refusals::MALFORMED);
     }
-    go(Stage::High, time, frame::push(frame, bit))
+    go(PulseStage::High, time, frame::push(frame, bit))
 }
 
 fn after_first_low(wire: Wire, time: u32, lasted: u32) -> Step
@@ -198,12 +198,12 @@ fn after_release(wire: Wire, time: u32, lasted: u32) -> Step
         return refuse(wire, refusals::BAD_PULSE);
     }
     if lasted <= LONGEST_WAIT {
-        return move_on(wire, Stage::Presence, time);
+        return move_on(wire, PulseStage::Presence, time);
     }
     if lasted < SHORTEST_SILENCE {
         return refuse(wire, refusals::BAD_PULSE);
     }
-    move_on(wire, Stage::Low, time)
+    move_on(wire, PulseStage::Low, time)
 }
 
 fn after_presence(wire: Wire, time: u32, lasted: u32) -> Step
@@ -213,7 +213,7 @@ fn after_presence(wire: Wire, time: u32, lasted: u32) -> Step
         return refuse(wire, refusals::BAD_PULSE);
     }
     if lasted <= LONGEST_PRESENCE {
-        return go(Stage::High, time, frame::blank(true));
+        return go(PulseStage::High, time, frame::blank(true));
     }
     refuse(wire, refusals::BAD_PULSE)
 }
@@ -236,12 +236,12 @@ fn after_level(wire: Wire, time: u32, lasted: u32) -> Step
 {
     let stage = wire.stage;
     match stage {
-        Stage::Idle => move_on(wire, Stage::FirstLow, time),
-        Stage::FirstLow => after_first_low(wire, time, lasted),
-        Stage::Released => after_release(wire, time, lasted),
-        Stage::Presence => after_presence(wire, time, lasted),
-        Stage::High => move_on(wire, Stage::Low, time),
-        Stage::Low => after_low(wire, time, lasted),
+        PulseStage::Idle => move_on(wire, PulseStage::FirstLow, time),
+        PulseStage::FirstLow => after_first_low(wire, time, lasted),
+        PulseStage::Released => after_release(wire, time, lasted),
+        PulseStage::Presence => after_presence(wire, time, lasted),
+        PulseStage::High => move_on(wire, PulseStage::Low, time),
+        PulseStage::Low => after_low(wire, time, lasted),
     }
 }
 
@@ -262,31 +262,31 @@ pub fn edge(wire: Wire, time: u32) -> Step
 }
 
 // The end of the edges.
-pub fn end_at(stage: Stage) -> Ending
+pub fn end_at(stage: PulseStage) -> Ending
     ensures answer { λ r. ⌜ r ≡ endingAt stage ⌝ }
 {
     match stage {
-        Stage::Idle => Ending {
+        PulseStage::Idle => Ending {
             refusal: refusals::ACCEPTED,
             closes: false,
         },
-        Stage::FirstLow => Ending {
+        PulseStage::FirstLow => Ending {
             refusal: refusals::BAD_PULSE,
             closes: false,
         },
-        Stage::Released => Ending {
+        PulseStage::Released => Ending {
             refusal: refusals::ACCEPTED,
             closes: true,
         },
-        Stage::Presence => Ending {
+        PulseStage::Presence => Ending {
             refusal: refusals::BAD_PULSE,
             closes: false,
         },
-        Stage::High => Ending {
+        PulseStage::High => Ending {
             refusal: refusals::ACCEPTED,
             closes: true,
         },
-        Stage::Low => Ending {
+        PulseStage::Low => Ending {
             refusal: refusals::BAD_PULSE,
             closes: false,
         },

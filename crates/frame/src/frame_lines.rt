@@ -11,9 +11,9 @@ use crate::Frame;
 use text::laying;
 use text::laying::Written;
 
-mod reading;
+mod parsing;
 
-pub use reading::read_line;
+pub use parsing::read_line;
 
 // What stands at a place of a recording.
 pub struct LineRead {

@@ -3,10 +3,10 @@ ghost use mathlib.Core.Path.{_≡_};
 ghost use Rattle.crc.specs.Crc.{crcOf};
 ghost use Rattle.host.specs.HostNaming.{nextAnswer, nextLeaves};
 use crate::Answer;
-use crate::LONGEST_HELD;
+use crate::MOST_HELD;
 
 // Room for a line that is not finished yet.
-pub type Line = [u8; LONGEST_HELD];
+pub type Line = [u8; MOST_HELD];
 
 // The CRC of bytes; 0 of none.
 #[no_mangle]

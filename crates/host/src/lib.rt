@@ -19,7 +19,7 @@ pub const MORE_WANTED: u32 = 7;
 pub const REFUSED: u32 = 100;
 
 // As much of a line as tells that it is over-long: one character more than a line may have.
-pub const LONGEST_HELD: usize = 135;
+pub const MOST_HELD: usize = 135;
 
 // What a call comes to. The order of the fields is that of the C header.
 #[repr(C)]
@@ -101,8 +101,8 @@ fn hold(line: &mut [u8], held: usize, more: &[u8]) -> usize
     ensures answer { λ r. ⌜ r ≡ length (heldFrom (take held (now (line .entry))) (now (more .entry))) ⌝ }
     ensures written { λ r. ⌜ now (line .exit) ≡ laid (now (line .entry)) 0 (heldFrom (take held (now (line .entry))) (now (more .entry))) ⌝ }
 {
-    let start = least(held, LONGEST_HELD);
-    let count = least(more.len(), LONGEST_HELD - start);
+    let start = least(held, MOST_HELD);
+    let count = least(more.len(), MOST_HELD - start);
     laying::lay(line, start, &more[0..count]);
     start + count
 }
@@ -114,7 +114,7 @@ pub fn next(line: &mut [u8], held: usize, bytes: &[u8], at: usize, ended: bool) 
     ensures answer { λ r. ⌜ r ≡ lentAnswer (now (line .entry)) held (now (bytes .entry)) at ended ⌝ }
     ensures written { λ r. ⌜ now (line .exit) ≡ lentLeaves (now (line .entry)) held (now (bytes .entry)) at ⌝ }
 {
-    if line.len() < LONGEST_HELD {
+    if line.len() < MOST_HELD {
         return tell_name(naming::refuse(refusals::NO_ROOM), 0);
     }
     let from = least(at, bytes.len());

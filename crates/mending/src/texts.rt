@@ -16,7 +16,7 @@ ghost use Rattle.mending.specs.Laws.{Through};
 use text::laying;
 
 // As much of an unfinished line as tells that it is over-long: one character more than is mended.
-const LONGEST_HELD: usize = 257;
+const MOST_HELD: usize = 257;
 
 // What came of a text.
 pub struct TextMended {
@@ -104,7 +104,7 @@ pub fn feed(s: &mut [u8], out: &mut [u8], report: &mut [u8]) -> PieceMended
         return no_room();
     }
     let done = mend_whole(s, out, report);
-    let held = pieces::keep_front(s, done.next, LONGEST_HELD);
+    let held = pieces::keep_front(s, done.next, MOST_HELD);
     PieceMended {
         refusal: refusals::ACCEPTED,
         written: done.written,

@@ -5,7 +5,7 @@ ghost use Prim.Native.Nat.{_*_, _≤_};
 ghost use lib.ListN.{length, take};
 ghost use Rattle.pieces.specs.Pieces.{feedAnswer, feedKept, feedWritten, finishWritten, Stepped, Ran, Sayable};
 ghost use Rattle.naming.specs.Printing.{printedLine};
-ghost use Rattle.naming.specs.Streaming.{mostPrinted, longestCarried};
+ghost use Rattle.naming.specs.Streaming.{mostPrinted, mostHeldOfRecording};
 use libc::STDIN_FILENO;
 use libc::STDOUT_FILENO;
 use naming::streaming;
@@ -41,9 +41,9 @@ fn write_said(said: &[u8]) -> bool
 
 // Prints the lines that have their feed.
 fn print_piece(bytes: &mut [u8], text: &mut [u8]) -> Piece
-    ensures answer { λ r. ⌜ (r .held ≡ feedAnswer printedLine mostPrinted longestCarried (now (bytes .entry)) (now (text .entry)) .held) × (r .held ≤ length (now (bytes .entry))) ⌝ }
-    ensures kept { λ r. ⌜ now (bytes .exit) ≡ feedKept printedLine mostPrinted longestCarried (now (bytes .entry)) (now (text .entry)) ⌝ }
-    ensures written { λ r. ⌜ now (text .exit) ≡ feedWritten printedLine mostPrinted longestCarried (now (bytes .entry)) (now (text .entry)) ⌝ }
+    ensures answer { λ r. ⌜ (r .held ≡ feedAnswer printedLine mostPrinted mostHeldOfRecording (now (bytes .entry)) (now (text .entry)) .held) × (r .held ≤ length (now (bytes .entry))) ⌝ }
+    ensures kept { λ r. ⌜ now (bytes .exit) ≡ feedKept printedLine mostPrinted mostHeldOfRecording (now (bytes .entry)) (now (text .entry)) ⌝ }
+    ensures written { λ r. ⌜ now (text .exit) ≡ feedWritten printedLine mostPrinted mostHeldOfRecording (now (bytes .entry)) (now (text .entry)) ⌝ }
 {
     let fed = streaming::feed(bytes, text);
     let end = fed.written;
@@ -57,7 +57,7 @@ fn print_piece(bytes: &mut [u8], text: &mut [u8]) -> Piece
 fn next_piece(buffer: &mut [u8], held: usize, text: &mut [u8]) -> Piece
     requires { ⌜ (held ≤ length (now buffer)) × (mostPrinted * length (now buffer) ≤ length (now text)) ⌝ }
     ensures answer { λ r. ⌜ r .held ≤ length (now (buffer .entry)) ⌝ }
-    ensures kept { λ r. ⌜ Stepped longestCarried (take held (now (buffer .entry))) (take (r .held) (now (buffer .exit))) ⌝ }
+    ensures kept { λ r. ⌜ Stepped mostHeldOfRecording (take held (now (buffer .entry))) (take (r .held) (now (buffer .exit))) ⌝ }
 {
     let filled = read_behind(buffer, held);
     if filled == held {
@@ -71,7 +71,7 @@ fn next_piece(buffer: &mut [u8], held: usize, text: &mut [u8]) -> Piece
 fn print_pieces(buffer: &mut [u8], text: &mut [u8]) -> usize
     requires { ⌜ mostPrinted * length (now buffer) ≤ length (now text) ⌝ }
     ensures answer { λ r. ⌜ r ≤ length (now (buffer .entry)) ⌝ }
-    ensures kept { λ r. ⌜ Ran longestCarried (take r (now (buffer .exit))) ⌝ }
+    ensures kept { λ r. ⌜ Ran mostHeldOfRecording (take r (now (buffer .exit))) ⌝ }
 {
     let mut held: usize = 0;
     let mut turns = u64::MAX;

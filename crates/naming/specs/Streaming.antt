@@ -13,8 +13,8 @@ abbrev pub printed : List ℕ → List ℕ
 printed s = said printedLine s
 
 -- one character more than a line may have
-abbrev pub longestCarried : ℕ
-longestCarried = 135
+abbrev pub mostHeldOfRecording : ℕ
+mostHeldOfRecording = 135
 
 -- an empty line is refused with ten bytes
 abbrev pub mostPrinted : ℕ

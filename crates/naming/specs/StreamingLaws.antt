@@ -27,7 +27,7 @@ use Rattle.naming.specs.Laws.{named-small}
 use Rattle.naming.specs.declared.Name.the-variants.{Other}
 use Rattle.naming.specs.Printing.{word, refusedWord, refusedText, printedName, printedLine}
 use Rattle.naming.specs.PrintingLaws.{printed-length}
-use Rattle.naming.specs.Streaming.{printed, longestCarried, mostPrinted}
+use Rattle.naming.specs.Streaming.{printed, mostHeldOfRecording, mostPrinted}
 
 -- ## A line's text takes at most ten bytes for each byte of the line
 
@@ -57,12 +57,12 @@ text-short l h = by-reading (readLine l) refl
 
 -- ## Over-long lines print the same, whatever stands in them
 
-long-printed : (l : Line) → longestCarried ≤ length (l .chars) → printedLine l ≡ printedName (refusedName malformed)
+long-printed : (l : Line) → mostHeldOfRecording ≤ length (l .chars) → printedLine l ≡ printedName (refusedName malformed)
 long-printed l h = let k : longestLine < length (l .chars) = omega arith in ap (λ (r : LineContent). printedName (readNamed r)) (read-long l k)
 
-pub carried-tells : Enough printedLine longestCarried
+pub carried-tells : Enough printedLine mostHeldOfRecording
 carried-tells = record { some = lit< tt; same = λ l m a b agree fed. long-printed l a ∙ sym (long-printed m b) }
 
 -- what the calls print for the pieces of a recording, whatever the cuts, is what is printed for the whole
-pub recording-cuts : (cs : List (List ℕ)) → pieces printedLine longestCarried [] cs ≡ printed (together cs)
-recording-cuts cs = any-cuts printedLine longestCarried carried-tells cs
+pub recording-cuts : (cs : List (List ℕ)) → pieces printedLine mostHeldOfRecording [] cs ≡ printed (together cs)
+recording-cuts cs = any-cuts printedLine mostHeldOfRecording carried-tells cs

@@ -7,14 +7,14 @@ ghost use Rattle.basic_laws.specs.Laid.{laid};
 ghost use Rattle.pieces.specs.Pieces.{FeedWithin, saidWhole, feedAnswer, feedKept, feedWritten, finishAnswer, finishWritten};
 ghost use Rattle.pieces.specs.Walk.{Told};
 ghost use Rattle.naming.specs.Printing.{printedLine};
-ghost use Rattle.naming.specs.Streaming.{mostPrinted, longestCarried};
+ghost use Rattle.naming.specs.Streaming.{mostPrinted, mostHeldOfRecording};
 use crate::printing;
 use pieces::Fed;
 use pieces::Progress;
 use text::laying::Written;
 
 // As much of an unfinished line as tells that it is over-long: one character more than a line may have.
-const LONGEST_CARRIED: usize = 135;
+const MOST_HELD: usize = 135;
 
 // The most bytes printed for one byte of a recording: an empty line is refused with ten.
 const MOST_PRINTED: usize = 10;
@@ -42,9 +42,9 @@ fn print_whole(s: &[u8], out: &mut [u8]) -> Progress
 // One piece: the text of its whole lines, and what is carried over moved to the front. The buffer for
 // the text must have ten bytes for each byte of the piece.
 pub fn feed(s: &mut [u8], out: &mut [u8]) -> Fed
-    ensures answer { λ r. ⌜ (r ≡ feedAnswer printedLine mostPrinted longestCarried (now (s .entry)) (now (out .entry))) × FeedWithin (now (s .entry)) (now (out .entry)) r ⌝ }
-    ensures kept { λ r. ⌜ now (s .exit) ≡ feedKept printedLine mostPrinted longestCarried (now (s .entry)) (now (out .entry)) ⌝ }
-    ensures written { λ r. ⌜ now (out .exit) ≡ feedWritten printedLine mostPrinted longestCarried (now (s .entry)) (now (out .entry)) ⌝ }
+    ensures answer { λ r. ⌜ (r ≡ feedAnswer printedLine mostPrinted mostHeldOfRecording (now (s .entry)) (now (out .entry))) × FeedWithin (now (s .entry)) (now (out .entry)) r ⌝ }
+    ensures kept { λ r. ⌜ now (s .exit) ≡ feedKept printedLine mostPrinted mostHeldOfRecording (now (s .entry)) (now (out .entry)) ⌝ }
+    ensures written { λ r. ⌜ now (out .exit) ≡ feedWritten printedLine mostPrinted mostHeldOfRecording (now (s .entry)) (now (out .entry)) ⌝ }
 {
     if out.len() / MOST_PRINTED < s.len() {
         return Fed {
@@ -54,7 +54,7 @@ pub fn feed(s: &mut [u8], out: &mut [u8]) -> Fed
         };
     }
     let done = print_whole(s, out);
-    let held = pieces::keep_front(s, done.next, LONGEST_CARRIED);
+    let held = pieces::keep_front(s, done.next, MOST_HELD);
     Fed {
         refusal: refusals::ACCEPTED,
         written: done.written,

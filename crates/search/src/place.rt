@@ -9,7 +9,7 @@ ghost use Rattle.search.specs.Place.{chosen, placed};
 ghost use Rattle.search.specs.Standing.{quietAt, firstOf, startsAt, surveyStart, surveyedWith, settledOf};
 use bench::Bench;
 use bench::wire;
-use bench::wire::Table;
+use bench::wire::Devices;
 use device::Device;
 use device::Phase;
 use device::Stage;
@@ -117,8 +117,8 @@ fn survey_with(s: Survey, d: Device, place: u8) -> Survey
     }
 }
 
-fn look_over(table: Table, count: u8, place: u8) -> Survey
-    ensures answer { λ r. ⌜ r ≡ fold (surveyedWith place) surveyStart (take count table) ⌝ }
+fn look_over(devices: Devices, count: u8, place: u8) -> Survey
+    ensures answer { λ r. ⌜ r ≡ fold (surveyedWith place) surveyStart (take count devices) ⌝ }
 {
     let taken = wire::places(count);
     let mut s = Survey {
@@ -128,7 +128,7 @@ fn look_over(table: Table, count: u8, place: u8) -> Survey
     };
     let mut i: usize = 0;
     while i < taken {
-        s = survey_with(s, table[i], place);
+        s = survey_with(s, devices[i], place);
         i += 1;
     }
     s
@@ -149,10 +149,10 @@ fn settled(d: Device, place: u8, bit: bool) -> Device
 }
 
 // Every device after them. A quiet one is left as it stands.
-fn settle(table: Table, count: u8, place: u8, bit: bool) -> Table
-    ensures answer { λ r. ⌜ r ≡ mapFront (settledOf place bit) count table ⌝ }
+fn settle(devices: Devices, count: u8, place: u8, bit: bool) -> Devices
+    ensures answer { λ r. ⌜ r ≡ mapFront (settledOf place bit) count devices ⌝ }
 {
-    let mut next = table;
+    let mut next = devices;
     let taken = wire::places(count);
     let mut i: usize = 0;
     while i < taken {
@@ -213,13 +213,13 @@ fn by_slots(bench: Bench, plan: bool) -> Placed
 pub fn slots_at(bench: Bench, place: u8, plan: bool) -> Placed
     ensures answer { λ r. ⌜ r ≡ placed bench plan ⌝ }
 {
-    let table = bench::records_of(bench);
+    let devices = bench::records_of(bench);
     let count = bench::count_of(bench);
-    let s = look_over(table, count, place);
+    let s = look_over(devices, count, place);
     if both(s.fits, !both(s.ones, s.zeros)) {
         let bit = choose(s.ones, s.zeros, plan);
         return Placed {
-            bench: bench::of_records(settle(table, count, place, bit), count),
+            bench: bench::of_records(settle(devices, count, place, bit), count),
             first: s.ones,
             second: s.zeros,
             taken: bit,

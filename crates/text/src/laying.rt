@@ -214,7 +214,7 @@ fn decode(out: &mut [u8], s: &[u8])
 }
 
 // The bytes that pairs of hexadecimal digits stand for, laid at the front.
-pub fn lay_bytes(out: &mut [u8], s: &[u8]) -> Written
+pub fn read_bytes(out: &mut [u8], s: &[u8]) -> Written
     ensures answer { λ r. ⌜ r ≡ decodeAnswer (now (out .entry)) (now (s .entry)) ⌝ }
     ensures written { λ r. ⌜ now (out .exit) ≡ decodeLeaves (now (out .entry)) (now (s .entry)) ⌝ }
 {

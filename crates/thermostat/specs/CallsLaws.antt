@@ -21,8 +21,8 @@ use Rattle.thermostat.specs.Slot.{runsAfter, stageAfter, probeSlotted, p
 use Rattle.thermostat.specs.Status.{statusOf, statusWritten}
 use Rattle.thermostat.specs.declared.Flags.{Flags}
 use Rattle.thermostat.specs.declared.Kept.{Kept}
-use Rattle.thermostat.specs.declared.Stage.{Stage}
-use Rattle.thermostat.specs.declared.Stage.the-variants.{Quiet}
+use Rattle.thermostat.specs.declared.ProbeStage.{ProbeStage}
+use Rattle.thermostat.specs.declared.ProbeStage.the-variants.{Quiet}
 use Rattle.thermostat.specs.declared.Thermostat.{Thermostat}
 use Rattle.thermostat.specs.Calls.{alone, byteSent, statusRead, changedBits, changedStatus, statusChanged}
 use Rattle.thermostat.specs.Race.{afterEvents, linesShown, offering, readEvents, writeEvents, statusSeen}
@@ -73,7 +73,7 @@ eight-shown a b c d e f g h =
       bit-of-code l 7 (lit< tt),
     )
 
-module _ (k : Kept) (s : Stage) (t : ℕ) (f : Flags) (o c : Bool) where
+module _ (k : Kept) (s : ProbeStage) (t : ℕ) (f : Flags) (o c : Bool) where
   abbrev parts : Thermostat
   parts = listening k s t f o c
 
@@ -132,7 +132,7 @@ unfolding afterEvents slots
 offering-after [] p = refl
 offering-after (b ∷ bits) p = offering-after bits (probeSlotted p b .probe)
 
-events-read : (k : Kept) (s : Stage) (t : ℕ) (f : Flags) (o c : Bool)
+events-read : (k : Kept) (s : ProbeStage) (t : ℕ) (f : Flags) (o c : Bool)
     → let p = listening k s t f o c in
     Path StatusRead (record { refusal = accepted; status = statusSeen readEvents p; probe = afterEvents readEvents p }) (record { refusal = accepted; status = statusOf p; probe = probeWithStage p Quiet })
 unfolding afterEvents linesShown bitsOf probeSlotted probeReset runsAfter stageAfter statusOf

@@ -3,7 +3,7 @@
 --                     mode a conversion runs from there on, else none
 use mathlib.Core.Bool.{false}
 use Rattle.thermostat.specs.declared.Kept.{Kept}
-use Rattle.thermostat.specs.declared.Stage.the-variants.{Quiet}
+use Rattle.thermostat.specs.declared.ProbeStage.the-variants.{Quiet}
 use Rattle.thermostat.specs.declared.Thermostat.{Thermostat}
 
 unfoldable pub probePoweredUp : Kept → Thermostat

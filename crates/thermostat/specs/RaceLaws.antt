@@ -29,8 +29,8 @@ use Rattle.thermostat.specs.Status.{statusWritten}
 use Rattle.thermostat.specs.declared.Finished.{Finished}
 use Rattle.thermostat.specs.declared.Flags.{Flags}
 use Rattle.thermostat.specs.declared.Kept.{Kept}
-use Rattle.thermostat.specs.declared.Stage.{Stage}
-use Rattle.thermostat.specs.declared.Stage.the-variants.{AwaitCommand, Take, Send, Quiet}
+use Rattle.thermostat.specs.declared.ProbeStage.{ProbeStage}
+use Rattle.thermostat.specs.declared.ProbeStage.the-variants.{AwaitCommand, Take, Send, Quiet}
 use Rattle.thermostat.specs.declared.Thermostat.{Thermostat}
 use Rattle.thermostat.specs.declared.Writable.{Writable}
 use Rattle.thermostat.specs.declared.Writable.the-variants.{NewHigh, NewLow, NewStatus}
@@ -40,10 +40,10 @@ use Rattle.thermostat.specs.declared.rules.Asked.{Asked}
 
 -- ## A probe outside thermostat mode, by its parts
 
-abbrev pub listening : Kept → Stage → ℕ → Flags → Bool → Bool → Thermostat
+abbrev pub listening : Kept → ProbeStage → ℕ → Flags → Bool → Bool → Thermostat
 listening k s t f o c = record { kept = k; stage = s; temperature = t; flags = f; output = o; converting = c; thermostat = false }
 
-abbrev still : Kept → Stage → Thermostat
+abbrev still : Kept → ProbeStage → Thermostat
 still k s = listening k s 0 (record { high = false; low = false }) false false
 
 -- where the one stands and what it keeps is as of the other, and it listens
@@ -52,7 +52,7 @@ Follows p q = (p .stage ≡ q .stage) × (p .kept ≡ q .kept) × (p .thermostat
 
 -- ## A slot
 
-abbrev spares : Stage → Bool → Bool
+abbrev spares : ProbeStage → Bool → Bool
 spares (AwaitCommand s n) m = true
 spares (Take NewHigh s n) m = true
 spares (Take NewLow s n) m = true
@@ -61,16 +61,16 @@ spares (Send r j) m = true
 spares Quiet m = true
 
 module _ (k : Kept) (t : ℕ) (f : Flags) (o c : Bool) where
-  abbrev at : Stage → Thermostat
+  abbrev at : ProbeStage → Thermostat
   at s = listening k s t f o c
 
-  stored-follows : (s : Stage) (w : Writable) (b : ℕ) → Follows (probeWithStage (stored (at s) w b) Quiet) (probeWithStage (stored (still k s) w b) Quiet)
+  stored-follows : (s : ProbeStage) (w : Writable) (b : ℕ) → Follows (probeWithStage (stored (at s) w b) Quiet) (probeWithStage (stored (still k s) w b) Quiet)
   unfolding statusWritten
   stored-follows s NewHigh b = (refl, refl, refl)
   stored-follows s NewLow b = (refl, refl, refl)
   stored-follows s NewStatus b = (refl, refl, refl)
 
-  slot-at : (s : Stage) (m : Bool) → Follows (probeSlotted (at s) m .probe) (probeSlotted (still k s) m .probe)
+  slot-at : (s : ProbeStage) (m : Bool) → Follows (probeSlotted (at s) m .probe) (probeSlotted (still k s) m .probe)
   unfolding probeSlotted
   slot-at (AwaitCommand s n) m =
       shifted-cases s n m (λ x. Follows (heardCommand (at (AwaitCommand s n)) x) (heardCommand (still k (AwaitCommand s n)) x)) (refl, refl, refl) (λ z. (refl, refl, refl)) (refl, refl, refl)
@@ -79,13 +79,13 @@ module _ (k : Kept) (t : ℕ) (f : Flags) (o c : Bool) where
   slot-at (Send r j) m = (refl, refl, refl)
   slot-at Quiet m = (refl, refl, refl)
 
-  status-spared : (s : Stage) (b : ℕ) → (bitAt b 4 && bitAt b 3) ≡ true → statusWritten (at s) b .flags ≡ f
+  status-spared : (s : ProbeStage) (b : ℕ) → (bitAt b 4 && bitAt b 3) ≡ true → statusWritten (at s) b .flags ≡ f
   unfolding statusWritten
   status-spared s b h =
       let high = and-left (bitAt b 4) (bitAt b 3) h in let low = and-right (bitAt b 4) (bitAt b 3) h in
       rw (high, low, and-true (f .high), and-true (f .low))
 
-  slot-spared : (s : Stage) (m : Bool) → spares s m ≡ true → probeSlotted (at s) m .probe .flags ≡ f
+  slot-spared : (s : ProbeStage) (m : Bool) → spares s m ≡ true → probeSlotted (at s) m .probe .flags ≡ f
   unfolding probeSlotted
   slot-spared (AwaitCommand s n) m h = shifted-cases s n m (λ x. heardCommand (at (AwaitCommand s n)) x .flags ≡ f) refl (λ z. refl) refl
   slot-spared (Take NewHigh s n) m h = shifted-cases s n m (λ x. heardByte (at (Take NewHigh s n)) NewHigh x .flags ≡ f) refl (λ z. refl) refl
@@ -127,29 +127,29 @@ finish-keeps p t = by-tests (p .converting) (wholeInRange t)
 
 -- ## The events, followed by what no finish changes
 
-abbrev slotOf : Kept → Stage → Bool → Thermostat
+abbrev slotOf : Kept → ProbeStage → Bool → Thermostat
 slotOf k s m = probeSlotted (still k s) m .probe
 
-unfoldable sparing : List Event → Kept → Stage → Bool
+unfoldable sparing : List Event → Kept → ProbeStage → Bool
 sparing [] k s = true
 sparing (reset ∷ es) k s = sparing es k awaitCommand
 sparing (slot m ∷ es) k s = spares s m && sparing es (slotOf k s m .kept) (slotOf k s m .stage)
 sparing (finish t ∷ es) k s = sparing es k s
 
-unfoldable keptAfter : List Event → Kept → Stage → Kept
+unfoldable keptAfter : List Event → Kept → ProbeStage → Kept
 keptAfter [] k s = k
 keptAfter (reset ∷ es) k s = keptAfter es k awaitCommand
 keptAfter (slot m ∷ es) k s = keptAfter es (slotOf k s m .kept) (slotOf k s m .stage)
 keptAfter (finish t ∷ es) k s = keptAfter es k s
 
-sparing-master : (es : List Event) (k : Kept) (s : Stage) → sparing es k s ≡ sparing (mastersOwn es) k s
+sparing-master : (es : List Event) (k : Kept) (s : ProbeStage) → sparing es k s ≡ sparing (mastersOwn es) k s
 unfolding sparing mastersOwn
 sparing-master [] k s = refl
 sparing-master (reset ∷ es) k s = sparing-master es k awaitCommand
 sparing-master (slot m ∷ es) k s = ap (λ (b : Bool). spares s m && b) (sparing-master es (slotOf k s m .kept) (slotOf k s m .stage))
 sparing-master (finish t ∷ es) k s = sparing-master es k s
 
-kept-master : (es : List Event) (k : Kept) (s : Stage) → keptAfter es k s ≡ keptAfter (mastersOwn es) k s
+kept-master : (es : List Event) (k : Kept) (s : ProbeStage) → keptAfter es k s ≡ keptAfter (mastersOwn es) k s
 unfolding keptAfter mastersOwn
 kept-master [] k s = refl
 kept-master (reset ∷ es) k s = kept-master es k awaitCommand
@@ -205,19 +205,19 @@ runs (slot m ∷ es) p e h =
     let follows = slot-follows p m e in
     let now = and-left (spares (p .stage) m) (sparing es (slotOf (p .kept) (p .stage) m .kept) (slotOf (p .kept) (p .stage) m .stage)) h in
     let later = and-right (spares (p .stage) m) (sparing es (slotOf (p .kept) (p .stage) m .kept) (slotOf (p .kept) (p .stage) m .stage)) h in
-    let r = runs es q (follows .2) (ap₂ (λ (k : Kept) (s : Stage). sparing es k s) (follows .1) (follows .0) ∙ later) in
+    let r = runs es q (follows .2) (ap₂ (λ (k : Kept) (s : ProbeStage). sparing es k s) (follows .1) (follows .0) ∙ later) in
     record {
       flags = r .flags ∙ ap (λ (f : Flags). bothFlags f (setIn es q)) (slot-leaves p m e now);
-      kept = r .kept ∙ ap₂ (λ (k : Kept) (s : Stage). keptAfter es k s) (follows .1) (follows .0);
+      kept = r .kept ∙ ap₂ (λ (k : Kept) (s : ProbeStage). keptAfter es k s) (follows .1) (follows .0);
       listens = r .listens;
     }
 runs (finish t ∷ es) p e h =
     let q = finished p t .probe in
     let m = finish-keeps p t in
-    let r = runs es q (m .mode ∙ e) (ap₂ (λ (k : Kept) (s : Stage). sparing es k s) (m .kept) (m .stage) ∙ h) in
+    let r = runs es q (m .mode ∙ e) (ap₂ (λ (k : Kept) (s : ProbeStage). sparing es k s) (m .kept) (m .stage) ∙ h) in
     record {
       flags = r .flags ∙ ap (λ (f : Flags). bothFlags f (setIn es q)) (m .flags) ∙ both-assoc (p .flags) (setAt p t) (setIn es q);
-      kept = r .kept ∙ ap₂ (λ (k : Kept) (s : Stage). keptAfter es k s) (m .kept) (m .stage);
+      kept = r .kept ∙ ap₂ (λ (k : Kept) (s : ProbeStage). keptAfter es k s) (m .kept) (m .stage);
       listens = r .listens;
     }
 
@@ -257,11 +257,11 @@ runs-unheard (finish t ∷ es) p e =
 
 -- ## The two calls spare the flags
 
-spared-reading : (k : Kept) (s : Stage) → sparing readEvents k s ≡ true
+spared-reading : (k : Kept) (s : ProbeStage) → sparing readEvents k s ≡ true
 unfolding sparing bitsOf probeSlotted runsAfter stageAfter
 spared-reading k s = refl
 
-kept-reading : (k : Kept) (s : Stage) → keptAfter readEvents k s ≡ k
+kept-reading : (k : Kept) (s : ProbeStage) → keptAfter readEvents k s ≡ k
 unfolding keptAfter bitsOf probeSlotted runsAfter stageAfter
 kept-reading k s = refl
 
@@ -273,11 +273,11 @@ module _ (l m n o p q r t : Bool) where
   abbrev written : List Event
   written = reset ∷ offering (bitsOf 8 writeStatus ++ byteBits)
 
-  sparing-written : (k : Kept) (s : Stage) → sparing written k s ≡ (bitAt (numberOf byteBits) 4 && bitAt (numberOf byteBits) 3 && true)
+  sparing-written : (k : Kept) (s : ProbeStage) → sparing written k s ≡ (bitAt (numberOf byteBits) 4 && bitAt (numberOf byteBits) 3 && true)
   unfolding sparing bitsOf probeSlotted runsAfter stageAfter
   sparing-written k s = ap (λ (b : ℕ). bitAt b 4 && bitAt b 3 && true) (eight-in l m n o p q r t)
 
-  kept-written : (k : Kept) (s : Stage) → keptAfter written k s
+  kept-written : (k : Kept) (s : ProbeStage) → keptAfter written k s
       ≡ record { high = k .high; low = k .low; mode = bitAt (numberOf byteBits) 2; polarity = bitAt (numberOf byteBits) 1; oneshot = bitAt (numberOf byteBits) 0 }
   unfolding keptAfter bitsOf probeSlotted runsAfter stageAfter statusWritten
   kept-written k s =
@@ -300,13 +300,13 @@ module _ (b : ℕ) (a : Asked) where
   unfolding changedStatus
   by-bits = ap (λ (bits : List Bool). reset ∷ offering (bitsOf 8 writeStatus ++ bits)) (bits-number (changedBits b a))
 
-  spared-writing : (k : Kept) (s : Stage) → sparing (writeEvents (changedStatus b a)) k s ≡ true
+  spared-writing : (k : Kept) (s : ProbeStage) → sparing (writeEvents (changedStatus b a)) k s ≡ true
   unfolding changedStatus
   spared-writing k s =
       ap (λ (es : List Event). sparing es k s) by-bits ∙ sparing-written (bit 0) (bit 1) (bit 2) (bit 3) (bit 4) (bit 5) (bit 6) (bit 7) k s
       ∙ ap₂ (λ (x y : Bool). x && y && true) (ones-for-flags .0) (ones-for-flags .1)
 
-  kept-writing : (k : Kept) (s : Stage) → keptAfter (writeEvents (changedStatus b a)) k s ≡ keptAsAsked k a
+  kept-writing : (k : Kept) (s : ProbeStage) → keptAfter (writeEvents (changedStatus b a)) k s ≡ keptAsAsked k a
   unfolding changedStatus
   kept-writing k s =
       ap (λ (es : List Event). keptAfter es k s) by-bits ∙ kept-written (bit 0) (bit 1) (bit 2) (bit 3) (bit 4) (bit 5) (bit 6) (bit 7) k s

@@ -5,10 +5,10 @@
 use Prim.Native.Nat.{ℕ}
 use mathlib.Core.Bool.{Bool}
 use Rattle.thermostat.specs.declared.Kept.{Kept}
-use Rattle.thermostat.specs.declared.Stage.{Stage}
+use Rattle.thermostat.specs.declared.ProbeStage.{ProbeStage}
 use Rattle.thermostat.specs.declared.Thermostat.{Thermostat}
 
-abbrev pub probeWithStage : Thermostat → Stage → Thermostat
+abbrev pub probeWithStage : Thermostat → ProbeStage → Thermostat
 probeWithStage p s = record {
   kept = p .kept;
   stage = s;

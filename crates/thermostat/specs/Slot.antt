@@ -16,8 +16,8 @@ use Rattle.commands.specs.declared.Shifted.{Shifted}
 use Rattle.commands.specs.declared.Shifted.the-variants.{Partial, Whole, Beyond}
 use Rattle.thermostat.specs.declared.Readable.{Readable}
 use Rattle.thermostat.specs.declared.Readable.the-variants.{Temperature, HighLimit, LowLimit, Status}
-use Rattle.thermostat.specs.declared.Stage.{Stage}
-use Rattle.thermostat.specs.declared.Stage.the-variants.{AwaitCommand, Take, Send, Quiet}
+use Rattle.thermostat.specs.declared.ProbeStage.{ProbeStage}
+use Rattle.thermostat.specs.declared.ProbeStage.the-variants.{AwaitCommand, Take, Send, Quiet}
 use Rattle.thermostat.specs.declared.Thermostat.{Thermostat}
 use Rattle.thermostat.specs.declared.Writable.{Writable}
 use Rattle.thermostat.specs.declared.Writable.the-variants.{NewHigh, NewLow, NewStatus}
@@ -35,7 +35,7 @@ probeRegister p HighLimit = p .kept .high
 probeRegister p LowLimit = p .kept .low
 probeRegister p Status = statusOf p
 
-abbrev pub probeOfferAt : Thermostat → Stage → Bool
+abbrev pub probeOfferAt : Thermostat → ProbeStage → Bool
 probeOfferAt p (AwaitCommand s n) = true
 probeOfferAt p (Take w s n) = true
 probeOfferAt p (Send r j) = byteSlot (probeRegister p r) j
@@ -49,7 +49,7 @@ probeLineShown p m = probeOffer p && m
 
 -- ## What it hears
 
-abbrev pub awaitCommand : Stage
+abbrev pub awaitCommand : ProbeStage
 awaitCommand = AwaitCommand 0 0
 
 -- whether a conversion runs after command c: one that is stopped leaves no reading
@@ -57,7 +57,7 @@ unfoldable pub runsAfter : ℕ → Bool → Bool
 runsAfter c running = if eqb c startConversion then true else if eqb c stopConversion then false else running
 
 -- where command c leads: to a byte that is sent or taken, else to quiet
-unfoldable pub stageAfter : ℕ → Stage
+unfoldable pub stageAfter : ℕ → ProbeStage
 stageAfter c =
     if eqb c readTemperature then Send Temperature 0
     else if eqb c writeHigh then Take NewHigh 0 0
@@ -89,10 +89,10 @@ heardByte p w (Whole b) = probeWithStage (stored p w b) Quiet
 heardByte p w Beyond = probeWithStage p Quiet
 
 -- the next bit of a byte that is sent, or quiet after the eighth
-abbrev pub sentOn : Readable → ℕ → Stage
+abbrev pub sentOn : Readable → ℕ → ProbeStage
 sentOn r j = if ltb j 7 then Send r (j + 1) else Quiet
 
-abbrev pub heardAt : Thermostat → Bool → Stage → Thermostat
+abbrev pub heardAt : Thermostat → Bool → ProbeStage → Thermostat
 heardAt p l (AwaitCommand s n) = heardCommand p (shifted s n l)
 heardAt p l (Take w s n) = heardByte p w (shifted s n l)
 heardAt p l (Send r j) = probeWithStage p (sentOn r j)

@@ -46,7 +46,7 @@ pub enum Writable {
 }
 
 // Where the probe stands in the protocol. A place that no sequence of slots reaches behaves as quiet.
-pub enum Stage {
+pub enum ProbeStage {
     AwaitCommand {
         shift: u8,
         count: u8,
@@ -65,7 +65,7 @@ pub enum Stage {
 
 pub struct Thermostat {
     pub kept: Kept,
-    pub stage: Stage,
+    pub stage: ProbeStage,
     // the last reading, as a signed byte
     pub temperature: u8,
     pub flags: Flags,
@@ -82,7 +82,7 @@ pub struct Finished {
     pub probe: Thermostat,
 }
 
-pub fn with_stage(p: Thermostat, stage: Stage) -> Thermostat
+pub fn with_stage(p: Thermostat, stage: ProbeStage) -> Thermostat
     ensures answer { λ r. ⌜ r ≡ probeWithStage p stage ⌝ }
 {
     Thermostat { stage, ..p }
@@ -269,7 +269,7 @@ pub fn start(kept: Kept) -> Thermostat
 {
     Thermostat {
         kept,
-        stage: Stage::Quiet,
+        stage: ProbeStage::Quiet,
         temperature: 0,
         flags: Flags {
             high: false,

@@ -1,9 +1,9 @@
 // The wire of a DS1821: resets and slots, its commands, and the bytes that it takes and sends.
 ghost use mathlib.Core.Path.{_≡_};
-ghost use Rattle.thermostat.specs.declared.Stage.the-variants.{Take, Send};
+ghost use Rattle.thermostat.specs.declared.ProbeStage.the-variants.{Take, Send};
 ghost use Rattle.thermostat.specs.Slot.{probeRegister, stored, runsAfter, stageAfter, commandDone, heardCommand, heardByte, sentOn, probeOffer, probeLineShown, probeHeard, probeSlotted, probeReset};
 use crate::Readable;
-use crate::Stage;
+use crate::ProbeStage;
 use crate::Thermostat;
 use crate::Writable;
 use commands::Shifted;
@@ -58,14 +58,14 @@ fn offer(p: Thermostat) -> bool
     }
     let stage = p.stage;
     match stage {
-        Stage::Send { register, bit } => commands::byte_slot(register_of(p, register), bit),
-        Stage::AwaitCommand { shift: _, count: _ } => true,
-        Stage::Take {
+        ProbeStage::Send { register, bit } => commands::byte_slot(register_of(p, register), bit),
+        ProbeStage::AwaitCommand { shift: _, count: _ } => true,
+        ProbeStage::Take {
             register: _,
             shift: _,
             count: _,
         } => true,
-        Stage::Quiet => true,
+        ProbeStage::Quiet => true,
     }
 }
 
@@ -81,10 +81,10 @@ fn runs_after(command: u8, running: bool) -> bool
 }
 
 // A byte to take, from its first bit.
-fn take(register: Writable) -> Stage
+fn take(register: Writable) -> ProbeStage
     ensures answer { λ r. ⌜ r ≡ Take register 0 0 ⌝ }
 {
-    Stage::Take {
+    ProbeStage::Take {
         register,
         shift: 0,
         count: 0,
@@ -92,14 +92,14 @@ fn take(register: Writable) -> Stage
 }
 
 // A byte to send, from its first bit.
-fn send(register: Readable) -> Stage
+fn send(register: Readable) -> ProbeStage
     ensures answer { λ r. ⌜ r ≡ Send register 0 ⌝ }
 {
-    Stage::Send { register, bit: 0 }
+    ProbeStage::Send { register, bit: 0 }
 }
 
 // Where a command leads.
-fn stage_after(command: u8) -> Stage
+fn stage_after(command: u8) -> ProbeStage
     ensures answer { λ r. ⌜ r ≡ stageAfter command ⌝ }
 {
     match command {
@@ -110,7 +110,7 @@ fn stage_after(command: u8) -> Stage
         READ_LOW => send(Readable::LowLimit),
         WRITE_STATUS => take(Writable::NewStatus),
         READ_STATUS => send(Readable::Status),
-        _ => Stage::Quiet,
+        _ => ProbeStage::Quiet,
     }
 }
 
@@ -129,10 +129,10 @@ fn hear_command(p: Thermostat, taken: Shifted) -> Thermostat
     match taken {
         Shifted::Partial { shift, count } => crate::with_stage(
             p,
-            Stage::AwaitCommand { shift, count },
+            ProbeStage::AwaitCommand { shift, count },
         ),
         Shifted::Whole(command) => obey(p, command),
-        Shifted::Beyond => crate::with_stage(p, Stage::Quiet),
+        Shifted::Beyond => crate::with_stage(p, ProbeStage::Quiet),
     }
 }
 
@@ -154,28 +154,28 @@ fn hear_byte(p: Thermostat, register: Writable, taken: Shifted) -> Thermostat
     match taken {
         Shifted::Partial { shift, count } => crate::with_stage(
             p,
-            Stage::Take {
+            ProbeStage::Take {
                 register,
                 shift,
                 count,
             },
         ),
-        Shifted::Whole(byte) => crate::with_stage(store(p, register, byte), Stage::Quiet),
-        Shifted::Beyond => crate::with_stage(p, Stage::Quiet),
+        Shifted::Whole(byte) => crate::with_stage(store(p, register, byte), ProbeStage::Quiet),
+        Shifted::Beyond => crate::with_stage(p, ProbeStage::Quiet),
     }
 }
 
 // The next bit of a byte that is sent.
-fn send_on(register: Readable, bit: u8) -> Stage
+fn send_on(register: Readable, bit: u8) -> ProbeStage
     ensures answer { λ r. ⌜ r ≡ sentOn register bit ⌝ }
 {
     if bit < 7 {
-        return Stage::Send {
+        return ProbeStage::Send {
             register,
             bit: bit + 1,
         };
     }
-    Stage::Quiet
+    ProbeStage::Quiet
 }
 
 // The line has shown this bit.
@@ -187,16 +187,16 @@ fn hear(p: Thermostat, line: bool) -> Thermostat
     }
     let stage = p.stage;
     match stage {
-        Stage::AwaitCommand { shift, count } => {
+        ProbeStage::AwaitCommand { shift, count } => {
             hear_command(p, commands::shift_in(shift, count, line))
         }
-        Stage::Take {
+        ProbeStage::Take {
             register,
             shift,
             count,
         } => hear_byte(p, register, commands::shift_in(shift, count, line)),
-        Stage::Send { register, bit } => crate::with_stage(p, send_on(register, bit)),
-        Stage::Quiet => p,
+        ProbeStage::Send { register, bit } => crate::with_stage(p, send_on(register, bit)),
+        ProbeStage::Quiet => p,
     }
 }
 
@@ -230,6 +230,6 @@ pub fn reset(p: Thermostat) -> ResetDone
     }
     ResetDone {
         presence: true,
-        probe: crate::with_stage(p, Stage::AwaitCommand { shift: 0, count: 0 }),
+        probe: crate::with_stage(p, ProbeStage::AwaitCommand { shift: 0, count: 0 }),
     }
 }

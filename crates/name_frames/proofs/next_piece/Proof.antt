@@ -9,7 +9,7 @@ use lib.Seq.{length-take-le}
 use Rattle.pieces.specs.Pieces.{carried, ended, fed}
 use Rattle.pieces.specs.Walk.{front-carried, read-behind, room-part}
 use Rattle.naming.specs.Printing.{printedLine}
-use Rattle.naming.specs.Streaming.{mostPrinted, longestCarried}
+use Rattle.naming.specs.Streaming.{mostPrinted, mostHeldOfRecording}
 use borrow.Author.Needs.{needs}
 use Rattle.name_frames.proofs.next_piece.Statement.{statement}
 use Rattle.name_frames.proofs.next_piece.Tie as tie
@@ -55,10 +55,10 @@ returns-2 c =
     let size : length s ≡ filled = length-take-le filled after (omega arith) in
     let wide = a .pre .1 in
     let room : length s ≤ length (now (a .args .text)) / mostPrinted = room-part mostPrinted (length s) (length (now (a .args .text))) (lit< tt) (omega arith) in
-    let left = front-carried printedLine mostPrinted longestCarried s (now (a .args .text)) room (printed .print-piece .result .held) (printed .print-piece .last .0) (drop filled after) (printed .print-piece .ensures .0 .0) (printed .print-piece .ensures .1 .0) in
+    let left = front-carried printedLine mostPrinted mostHeldOfRecording s (now (a .args .text)) room (printed .print-piece .result .held) (printed .print-piece .last .0) (drop filled after) (printed .print-piece .ensures .0 .0) (printed .print-piece .ensures .1 .0) in
     let piece = read-behind before after held filled (read .read-behind .ensures .0 .0) (read .read-behind .ensures .1) in
     let few = printed .print-piece .ensures .0 .1 in
-    (omega arith, fed (take (filled - held) (drop held after)) (left ∙ ap (carried longestCarried) piece))
+    (omega arith, fed (take (filled - held) (drop held after)) (left ∙ ap (carried mostHeldOfRecording) piece))
 
 pub next-piece-spec : {M : Type 1} → statement M
 next-piece-spec =

@@ -5,13 +5,13 @@ use mathlib.Core.Path.{_≡_, refl, _∙_}
 use native.Mathlib.Omega.{arith}
 use lib.ListN.{length, take}
 use Rattle.pieces.specs.Pieces.{Ran, start, more}
-use Rattle.naming.specs.Streaming.{longestCarried}
+use Rattle.naming.specs.Streaming.{mostHeldOfRecording}
 use borrow.Author.Needs.{needs}
 use Rattle.name_frames.proofs.print_pieces.Statement.{statement}
 use Rattle.name_frames.proofs.print_pieces.Tie as tie
 
 abbrev Inv-loop : tie.InvT-loop
-Inv-loop buffer₀ text₀ held₀ turns₀ buffer text held turns = (held ≤ length buffer₀) × (length buffer ≡ length buffer₀) × (length text ≡ length text₀) × Ran longestCarried (take held buffer)
+Inv-loop buffer₀ text₀ held₀ turns₀ buffer text held turns = (held ≤ length buffer₀) × (length buffer ≡ length buffer₀) × (length text ≡ length text₀) × Ran mostHeldOfRecording (take held buffer)
 
 abbrev μ-loop : tie.MeasureT-loop
 μ-loop buffer₀ text₀ held₀ turns₀ buffer text held turns = turns

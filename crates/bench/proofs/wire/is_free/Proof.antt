@@ -13,10 +13,10 @@ use Rattle.bench.proofs.wire.is_free.Statement.{statement}
 use Rattle.bench.proofs.wire.is_free.Tie as tie
 
 abbrev Inv-loop : tie.InvT-loop
-Inv-loop count table taken i₀ i = (i ≤ 32) × (all (λ d. not (holdsWire d)) (onward i count table) ≡ all (λ d. not (holdsWire d)) (take count table))
+Inv-loop count devices taken i₀ i = (i ≤ 32) × (all (λ d. not (holdsWire d)) (onward i count devices) ≡ all (λ d. not (holdsWire d)) (take count devices))
 
 abbrev μ-loop : tie.MeasureT-loop
-μ-loop count table taken i₀ i = 32 - i
+μ-loop count devices taken i₀ i = 32 - i
 
 long : (c : tie.Start Inv-loop μ-loop) → length (c .args .t1) ≡ 32
 long c = search needs

@@ -53,8 +53,8 @@ loop-again c = (
 returns : tie.Need-returns Inv-loop μ-loop
 returns c =
     let entry = c .before .before in
-    let long : length (entry .args .table) ≡ 32 = search needs in
-    let h : length (entry .args .table) ≤ c .before .loop .i = omega arith in
+    let long : length (entry .args .devices) ≡ 32 = search needs in
+    let h : length (entry .args .devices) ≤ c .before .loop .i = omega arith in
     c .before .loop .inv .1 ∙ upto-end _ _ _ _ h
 
 pub restart-all-spec : {M : Type 1} → statement M

@@ -3,7 +3,7 @@ use denote.Ref.{now}
 use lib.Dec.{lit<}
 use Rattle.pieces.specs.Walk.{finish-short, finish-open, finish-whole}
 use Rattle.naming.specs.Printing.{printedLine}
-use Rattle.naming.specs.Streaming.{mostPrinted, longestCarried}
+use Rattle.naming.specs.Streaming.{mostPrinted, mostHeldOfRecording}
 use Rattle.basic_laws.specs.Places.{part-all}
 use Rattle.naming.specs.StreamingLaws.{text-short}
 use borrow.Author.Needs.{needs}
@@ -13,7 +13,7 @@ use Rattle.naming.proofs.streaming.finish.Tie as tie
 returns : tie.Need-returns
 returns c =
     let a = c .before .before .before in
-    finish-short printedLine mostPrinted longestCarried (now (a .args .s)) (now (a .args .out)) (c .if1 .taken)
+    finish-short printedLine mostPrinted mostHeldOfRecording (now (a .args .s)) (now (a .args .out)) (c .if1 .taken)
 
 print-whole-requires : tie.Need-print-whole-requires
 print-whole-requires c κs = search needs

@@ -12,10 +12,10 @@ use Rattle.search.proofs.place.look_over.Statement.{statement}
 use Rattle.search.proofs.place.look_over.Tie as tie
 
 abbrev Inv-loop : tie.InvT-loop
-Inv-loop count place table taken s₀ i₀ s i = (i ≤ taken) × (s ≡ fold (surveyedWith place) surveyStart (take i table))
+Inv-loop count place devices taken s₀ i₀ s i = (i ≤ taken) × (s ≡ fold (surveyedWith place) surveyStart (take i devices))
 
 abbrev μ-loop : tie.MeasureT-loop
-μ-loop count place table taken s₀ i₀ s i = taken - i
+μ-loop count place devices taken s₀ i₀ s i = taken - i
 
 places-requires : tie.Need-places-requires Inv-loop μ-loop
 places-requires c κs = search needs

@@ -54,8 +54,8 @@ loop-again : tie.Need-loop-again Inv-loop μ-loop
 loop-again c =
     let p = c .before .before .before .before in
     let a = p .before .before .args in
-    let long : length (a .table) ≡ 32 = search needs in
-    let h : p .loop .i < length (a .table) = omega (arith, p .before .places .ensures) in
+    let long : length (a .devices) ≡ 32 = search needs in
+    let h : p .loop .i < length (a .devices) = omega (arith, p .before .places .ensures) in
     let quiet = ap not (sym (c .before .is-quiet .ensures)) in (
       omega arith,
       ⊎-elim
@@ -68,9 +68,9 @@ returns : tie.Need-returns Inv-loop μ-loop
 returns c =
     let p = c .before in
     let a = p .before .before .args in
-    let long : length (a .table) ≡ 32 = search needs in
+    let long : length (a .devices) ≡ 32 = search needs in
     let most : p .loop .i ≡ min (a .count) 32 = omega (arith, p .before .places .ensures) in
-    p .loop .inv .1 ∙ rw most (front-most (a .count) 32 (a .table) long (settledOf (a .place) (a .bit)))
+    p .loop .inv .1 ∙ rw most (front-most (a .count) 32 (a .devices) long (settledOf (a .place) (a .bit)))
 
 pub settle-spec : {M : Type 1} → statement M
 settle-spec =

@@ -13,8 +13,8 @@ use Rattle.text.specs.DigitsLaws.{number-below}
 use Rattle.text.specs.NumbersLaws.{fixed-hex}
 use Rattle.frame.specs.ReadLine.{slotCountIn}
 use borrow.Author.Needs.{needs}
-use Rattle.frame.proofs.frame_lines.reading.count_of.Statement.{statement}
-use Rattle.frame.proofs.frame_lines.reading.count_of.Tie as tie
+use Rattle.frame.proofs.frame_lines.parsing.count_of.Statement.{statement}
+use Rattle.frame.proofs.frame_lines.parsing.count_of.Tie as tie
 
 -- the four digits, and the number that was read
 four : (c : tie.Start) → length (take 4 (drop 2 (now (c .args .line)))) ≡ 4

@@ -5,8 +5,8 @@ use denote.Ref.{now}
 use Rattle.frame.specs.ReadLine.{LineContent, found, lineAnswerOf}
 use Rattle.frame.specs.ReadLineLaws.{read-long, read-open, read-other, read-fed}
 use borrow.Author.Needs.{needs}
-use Rattle.frame.proofs.frame_lines.reading.read_line.Statement.{statement}
-use Rattle.frame.proofs.frame_lines.reading.read_line.Tie as tie
+use Rattle.frame.proofs.frame_lines.parsing.read_line.Statement.{statement}
+use Rattle.frame.proofs.frame_lines.parsing.read_line.Tie as tie
 
 refuse-requires : tie.Need-refuse-requires
 refuse-requires c κs = search needs

@@ -35,7 +35,7 @@ fn read_slots(body: &[u8], presence: bool, count: u16, next: usize) -> LineRead
 {
     let n = crate::bytes_for(count);
     let mut bits = [0u8; 64];
-    laying::lay_bytes(&mut bits, body);
+    laying::read_bytes(&mut bits, body);
     let clear = crate::clear_from(&bits[0..n], count);
     if !clear {
         return refuse(refusals::MALFORMED, next);

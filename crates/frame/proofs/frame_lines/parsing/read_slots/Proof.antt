@@ -14,8 +14,8 @@ use Rattle.frame.specs.FramesLaws.{pad-length}
 use Rattle.frame.specs.ReadLine.{LineContent, found, lineAnswerOf}
 use Rattle.frame.specs.ReadLineLaws.{body-length, slots-clear, slots-spare}
 use borrow.Author.Needs.{needs}
-use Rattle.frame.proofs.frame_lines.reading.read_slots.Statement.{statement}
-use Rattle.frame.proofs.frame_lines.reading.read_slots.Tie as tie
+use Rattle.frame.proofs.frame_lines.parsing.read_slots.Statement.{statement}
+use Rattle.frame.proofs.frame_lines.parsing.read_slots.Tie as tie
 
 -- how many bytes the digits stand for
 many : (c : tie.Start) → length (bytesOf (now (c .args .body))) ≡ bytesFor (c .args .count)
@@ -25,14 +25,14 @@ few : (c : tie.Start) → length (bytesOf (now (c .args .body))) ≤ 64
 few c = let m = many c in let p = c .pre .0 in omega arith
 
 -- what the array holds once the digits are decoded
-filled : (c : tie.After-lay-bytes) → c .lay-bytes .last .0 ≡ laid noBits 0 (bytesOf (now (c .before .before .before .before .args .body)))
+filled : (c : tie.After-read-bytes) → c .read-bytes .last .0 ≡ laid noBits 0 (bytesOf (now (c .before .before .before .before .args .body)))
 unfolding noBits
 filled c =
     let a = c .before .before .before .before in
     let x = bytesOf (now (a .args .body)) in
     let size = few a in
     let room : 0 + length x ≤ length noBits = omega arith in
-    c .lay-bytes .ensures .1 ∙ rw (a .pre .2) (lay-fits noBits 0 x room .1)
+    c .read-bytes .ensures .1 ∙ rw (a .pre .2) (lay-fits noBits 0 x room .1)
 
 -- what the test says of the digits' own bytes
 seen : (c : tie.After-clear-from) →
@@ -45,17 +45,17 @@ seen c =
     let x = bytesOf (now (a .args .body)) in
     let n = bytes .before .before .bytes-for .result in
     let e : n - 0 ≡ length x = let m = many a in let b = bytes .before .before .bytes-for .ensures in omega arith in
-    let p : take (n - 0) (bytes .lay-bytes .last .0) ≡ x = rw (e, filled bytes) (laid-read noBits 0 x (omega arith)) in
+    let p : take (n - 0) (bytes .read-bytes .last .0) ≡ x = rw (e, filled bytes) (laid-read noBits 0 x (omega arith)) in
     c .clear-from .ensures ∙ ap (clearFrom (a .args .count)) p
 
 bytes-for-requires : tie.Need-bytes-for-requires
 bytes-for-requires c κs = search needs
 
-slice-aggregate-lay-bytes : tie.Need-slice-aggregate-lay-bytes
-slice-aggregate-lay-bytes c = search needs
+slice-aggregate-read-bytes : tie.Need-slice-aggregate-read-bytes
+slice-aggregate-read-bytes c = search needs
 
-lay-bytes-requires : tie.Need-lay-bytes-requires
-lay-bytes-requires c κs = search needs
+read-bytes-requires : tie.Need-read-bytes-requires
+read-bytes-requires c κs = search needs
 
 sub-clear-from : tie.Need-sub-clear-from
 sub-clear-from c = search needs
@@ -67,8 +67,8 @@ part-clear-from-end : tie.Need-part-clear-from-end
 part-clear-from-end c =
     let bytes = c .before .before in
     let a = bytes .before .before .before .before in
-    let within : bytes .before .before .bytes-for .result ≤ length (bytes .lay-bytes .last .0) =
-    let size : length (bytes .lay-bytes .last .0) ≡ 64 = ap length (filled bytes) ∙ pad-length (bytesOf (now (a .args .body))) (few a) in
+    let within : bytes .before .before .bytes-for .result ≤ length (bytes .read-bytes .last .0) =
+    let size : length (bytes .read-bytes .last .0) ≡ 64 = ap length (filled bytes) ∙ pad-length (bytesOf (now (a .args .body))) (few a) in
     let m = many a in let f = few a in let e = bytes .before .before .bytes-for .ensures in omega arith in
     within
 
@@ -97,8 +97,8 @@ read-slots-spec =
     tie.close
     (tie.spec
     bytes-for-requires
-    slice-aggregate-lay-bytes
-    lay-bytes-requires
+    slice-aggregate-read-bytes
+    read-bytes-requires
     sub-clear-from
     part-clear-from-start
     part-clear-from-end

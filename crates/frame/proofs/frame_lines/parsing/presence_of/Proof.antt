@@ -9,8 +9,8 @@ use Rattle.text.specs.declared.NumberRead.{NumberRead}
 use Rattle.text.specs.Digits.{isDigit}
 use Rattle.text.specs.NumbersLaws.{fixed-hex}
 use borrow.Author.Needs.{needs}
-use Rattle.frame.proofs.frame_lines.reading.presence_of.Statement.{statement}
-use Rattle.frame.proofs.frame_lines.reading.presence_of.Tie as tie
+use Rattle.frame.proofs.frame_lines.parsing.presence_of.Statement.{statement}
+use Rattle.frame.proofs.frame_lines.parsing.presence_of.Tie as tie
 
 sub-read-fixed : tie.Need-sub-read-fixed
 sub-read-fixed c = search needs

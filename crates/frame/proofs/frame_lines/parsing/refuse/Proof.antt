@@ -1,7 +1,7 @@
 -- The frame of a refusal is the blank one. Assumes nothing.
 use borrow.Author.Needs.{needs}
-use Rattle.frame.proofs.frame_lines.reading.refuse.Statement.{statement}
-use Rattle.frame.proofs.frame_lines.reading.refuse.Tie as tie
+use Rattle.frame.proofs.frame_lines.parsing.refuse.Statement.{statement}
+use Rattle.frame.proofs.frame_lines.parsing.refuse.Tie as tie
 
 blank-requires : tie.Need-blank-requires
 blank-requires c κs = search needs

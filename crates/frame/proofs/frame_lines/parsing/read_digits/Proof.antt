@@ -16,8 +16,8 @@ use Rattle.frame.specs.Frames.{countAllowed, bytesFor}
 use Rattle.frame.specs.ReadLine.{LineContent, found, lineAnswerOf, presenceIn, slotCountIn}
 use Rattle.frame.specs.ReadLineLaws.{wrong-length, wrong-presence, wrong-count, right-head}
 use borrow.Author.Needs.{needs}
-use Rattle.frame.proofs.frame_lines.reading.read_digits.Statement.{statement}
-use Rattle.frame.proofs.frame_lines.reading.read_digits.Tie as tie
+use Rattle.frame.proofs.frame_lines.parsing.read_digits.Statement.{statement}
+use Rattle.frame.proofs.frame_lines.parsing.read_digits.Tie as tie
 
 -- the digits of presence, read
 shown : (c : tie.After-presence-of) → c .presence-of .result ≡ presenceIn (now (c .before .before .before .args .line))

@@ -10,8 +10,8 @@ use Rattle.text.specs.Digits.{spells}
 use Rattle.text.specs.DigitsLaws.{bytes-half}
 use Rattle.text.specs.LayingLaws.{decode-other, decode-short, decode-done}
 use borrow.Author.Needs.{needs}
-use Rattle.text.proofs.laying.lay_bytes.Statement.{statement}
-use Rattle.text.proofs.laying.lay_bytes.Tie as tie
+use Rattle.text.proofs.laying.read_bytes.Statement.{statement}
+use Rattle.text.proofs.laying.read_bytes.Tie as tie
 
 -- behind the first test all are digits, and behind the second there is room
 spelt-all : (c : tie.Else1) → spells 16 (now (c .before .before .before .before .args .s)) ≡ true
@@ -73,8 +73,8 @@ returns-3 c =
     let done = decode-done (now (a .args .out)) s (spelt-all head) (length s / 2) (sym (bytes-half s)) (room-there room) in
     (done .0, laid .decode .ensures ∙ done .1)
 
-pub lay-bytes-spec : {M : Type 1} → statement M
-lay-bytes-spec =
+pub read-bytes-spec : {M : Type 1} → statement M
+read-bytes-spec =
     tie.close
     (tie.spec
     all-digits-requires
