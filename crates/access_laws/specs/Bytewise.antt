@@ -3,7 +3,6 @@
 --     StoredBytes d        its part on what is stored, whatever the stage
 --     Bytewise d           the claim
 --     Readable b           the bench is sound, its codes have 64 bits, and each device is bytewise: law `readable-after`, after every history
--- Assumes nothing.
 use Prim.Native.Nat.{ℕ, zero, suc, _+_, _/_, _%_, _<_, _≤_}
 use mathlib.Core.Bool.{Bool, true, false, not, Bool·beq, _&&_, _||_}
 use mathlib.Core.List.{List, [], _∷_}
@@ -93,7 +92,6 @@ TakenByte SendStatus = Unit
 TakenByte SendPower = Unit
 TakenByte Quiet = Unit
 
--- what is stored, whatever the stage
 pub record StoredBytes (d : Device) : Type 0 where
   pub pad-bytes : Bytes (d .scratchpad)
   pub seventh : getD (d .scratchpad) 7 0 ≡ getD (rowOf (d .code) (d .pins) .initial) 7 0

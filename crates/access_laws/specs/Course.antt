@@ -3,8 +3,7 @@
 --     Calm x d           hearing the bit x leaves it as it is whether d holds the wire
 --     Hears E bits d     d offers 1 at each of these bits, hears them calmly, and then E holds of it
 --     Settled d          d sends its scratchpad, takes settings or is quiet: so it stays, whatever the line shows
---     address-heard          every device hears 55h, the code and BEh or 4Eh calmly, and is then settled
--- Assumes nothing.
+--     address-heard      every device hears 55h, the code and BEh or 4Eh calmly, and is then settled
 use Prim.Native.Nat.{ℕ, suc, _+_, _<_}
 use mathlib.Core.Bool.{Bool, true, false, not, Bool·beq, _&&_, true≢false, false≢true}
 use mathlib.Core.List.{List, [], _∷_, _++_}

@@ -1,5 +1,4 @@
 -- The fine reading after a finish: the finish stores the count bytes of its count (`after-fine`), and a read answers the scratchpad of the device (`read-answered`), which stands where it stood.
--- Assumes nothing.
 use Prim.Native.Nat.{ℕ, _<_}
 use mathlib.Core.Bool.{true}
 use mathlib.Core.List.{List, [], _∷_, _++_}

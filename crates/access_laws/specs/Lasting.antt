@@ -1,5 +1,4 @@
 -- What holds of every device that joins, which it does with pins that it can have, and what nothing that can happen to a device takes from it, holds of each device of the bench after every history: `lasts-after`.
--- Assumes nothing.
 use mathlib.Core.Bool.{Bool, false}
 use mathlib.Core.List.{List, [], _∷_}
 use mathlib.Core.Path.{_≡_}

@@ -1,6 +1,5 @@
 -- None of the resets and slots of a read or a write at a code is refused once the call has been admitted: `read-unrefused` and `write-unrefused`. Each device hears 55h,
 -- the code and the function command calmly (`addressed`) and is then settled, so that whoever did not hold the wire before does not hold it after any slot.
--- Assumes nothing.
 use Prim.Native.Nat.{ℕ}
 use mathlib.Core.Bool.{Bool, true, false, not, _&&_, and-true}
 use mathlib.Core.List.{List, [], _∷_, _++_, map}

@@ -1,7 +1,6 @@
 -- The recording of a search, read back, names what was listed: `recording-named`. A pass shows its command and then allowed triples, whose sent bits are the code
 -- (`PassShown`); those are the slots that the naming reads; and the lines of a recording are read as the frames that were written (`read-back`).
 --     Fits c     the bits of a sound code
--- Assumes nothing.
 use Prim.Native.Nat.{ℕ, suc, _*_, _^_, _<_, _≤_}
 use mathlib.Core.Bool.{Bool, true, false}
 use mathlib.Core.List.{List, [], _∷_, _++_, map}

@@ -1,6 +1,5 @@
 -- The refusals of reads and writes on a bench that calls reach: of the tests before anything is sent 5, 7 and 10, then 4, of a reply 5, since a device's own is accepted (`read-answered`) and another code shows
 -- ones; of a write 13 besides. A write reads back on a bench that is readable still, for it makes slots and nothing else. What holds of each of these numbers holds of the refusal: `read-refusal`, `write-refusal`.
--- Assumes nothing.
 use Prim.Native.Nat.{ℕ}
 use mathlib.Core.Bool.{Bool, true, false, not, _&&_, false≢true}
 use mathlib.Core.List.{List, [], _∷_}

@@ -3,7 +3,6 @@
 -- different bits, and is quiet from there on.
 --     picked code d     d about to send its scratchpad, if it has the code, and quiet if not
 --     read-picks        so a reset, 55h, the code and BEh leave every device
--- Assumes nothing.
 use Prim.Native.Nat.{ℕ, zero, suc, _+_, _/_, _^_, _<_}
 use mathlib.Core.Bool.{Bool, true, false, Bool·beq}
 use mathlib.Core.List.{_++_}

@@ -4,7 +4,7 @@
 --     LeastShared pins s     s is the least pin number that two have, or none where no two have one
 --     PinsRight b s o        what the call came to, o, on a bench b whose search comes to s
 --     PinsClaim              that, after every history
--- Which codes a search lists, and in which order, is demand 3's. Assumes nothing.
+-- Which codes a search lists, and in which order, is demand 3's.
 use Prim.Native.Nat.{ℕ, _<_, _≤_}
 use mathlib.Core.Bool.{true}
 use mathlib.Core.List.{List, [], _∷_, map}

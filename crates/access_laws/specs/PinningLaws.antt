@@ -1,7 +1,6 @@
 -- The call for address pins, read by read. Invariant: the bench is readable, and differs from the one before the call in stages alone (`Same`). So each code stands where it stood, its read is answered by
 -- `read-answered`, and the low four bits of the configuration shown are the device's pins: its configuration is as it keeps it, and pins over 15 never joined (`pins-last`).
 --     pins-claim       the claim
--- Assumes nothing.
 use Prim.Native.Nat.{ℕ, zero, suc, _+_, _*_, _/_, _%_, _^_, _<_, _≤_}
 use mathlib.Core.Bool.{Bool, true, false, not, _||_}
 use mathlib.Core.List.{List, [], _∷_, _++_, map, append-nil, append-assoc}

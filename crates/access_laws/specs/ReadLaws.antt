@@ -1,6 +1,5 @@
 -- The answers of reads. A bench that calls reach is sound, and its devices hold bytes (`Readable`): so a read at the code of a device shows its scratchpad with a right
 -- CRC, not all zeros, a configuration in stored form, a reading in range and counts to believe, which the judgement accepts; and a read at any other code shows ones, which it refuses with 5.
--- Assumes nothing.
 use Prim.Native.Nat.{ℕ, _<_}
 use mathlib.Core.Bool.{Bool, true, false, not, _||_, false≢true}
 use mathlib.Core.List.{List, [], _∷_}

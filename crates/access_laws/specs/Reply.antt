@@ -4,7 +4,6 @@
 --     reply-shown        then the bytes shown are R
 --     sending, silence   the two ways to reply
 --     slots-kept         the read slots change nothing but stages
--- Assumes nothing.
 use Prim.Native.Nat.{ℕ, zero, suc, _+_, _/_, _^_, _<_, _≤_}
 use mathlib.Core.Bool.{Bool, true, false, not, _&&_, and-true}
 use mathlib.Core.List.{List, [], _∷_, map}

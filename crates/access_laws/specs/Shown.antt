@@ -8,7 +8,7 @@
 --                           reading in them, with the fine one, and the bench is where the slot rule leaves it
 --     FineIsCount           after every history that ends with an accepted finish of a device in half degrees, the fine reading that a read at its code answers is the count of that finish
 --     NeverDamaged          after every history no read and no write is refused with 6, 11 or 20
--- The nine bytes of a scratchpad are `nineBytes`, as the device sends them. Assumes nothing.
+-- The nine bytes of a scratchpad are `nineBytes`, as the device sends them.
 use Prim.Native.Nat.{ℕ}
 use mathlib.Core.Bool.{true}
 use mathlib.Core.List.{List, [], _∷_, _++_, map}

@@ -1,6 +1,5 @@
 -- What a read at a code shows: 55h, the code and BEh leave the device with the code about to send, and all others quiet (`picked`), so that the read slots show its nine
 -- bytes (`sending`); where no device has the code they show ones (`silence`). None of this changes anything but stages: `read-kept`.
--- Assumes nothing.
 use Prim.Native.Nat.{ℕ, zero, suc, _^_, _<_}
 use mathlib.Core.Bool.{Bool, true, false, not}
 use mathlib.Core.List.{List, [], _∷_, map}

@@ -4,7 +4,6 @@
 --     bitsOf n x       the n lowest bits of x
 --     numberOf bs      the number that has these bits; 0 for no bits
 --     bytesBits l      the bits of each byte of l, in turn
--- Assumes nothing.
 use Prim.Native.Nat.{ℕ, zero, suc, _+_, _*_, _/_, _%_, _^_}
 use mathlib.Core.Bool.{Bool, true, false}
 use mathlib.Core.List.{List, [], _∷_, _++_}

@@ -1,5 +1,4 @@
 -- Numbers and their bits: lengths, there and back, one bit more at the end, a bit by its place, one bit replaced, and bits in two parts.
--- Assumes nothing.
 use Prim.Native.Nat.{ℕ, zero, suc, _+_, _*_, _/_, _%_, _^_, _<_, _≤_}
 use mathlib.Core.Path.{_≡_, refl, sym, ap, _∙_}
 use mathlib.Core.Bool.{Bool, true, false}

@@ -1,6 +1,5 @@
 -- Lists of bytes.
 --     Bytes l      every element of l is below 256
--- Assumes nothing.
 use Prim.Native.Nat.{ℕ, _<_}
 use mathlib.Core.List.{List}
 use lib.ListN.{getD}

@@ -1,5 +1,4 @@
 -- A list of bytes stays one when a byte is stored, and so do its parts and two of them joined. Bytes are the same where their bits are (`bytes-same`).
--- Assumes nothing.
 use Prim.Native.Nat.{ℕ, zero, suc, _+_, _<_}
 use mathlib.Core.Path.{_≡_, refl, sym, ap, _∙_}
 use mathlib.Core.List.{List, [], _∷_, _++_}

@@ -1,6 +1,5 @@
 -- A choice between two values by a truth value, so that definitions read as programs:
 --     if t then a else b      a where t is true, b where it is false
--- Assumes nothing.
 use mathlib.Core.Bool.{Bool, true, false}
 
 infixr 5 if_then_else_

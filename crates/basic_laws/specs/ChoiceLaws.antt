@@ -1,5 +1,4 @@
 -- Laws of truth values: a choice whose test is known, a comparison with a known bit, and the two halves of an AND.
--- Assumes nothing.
 use mathlib.Core.Bool.{Bool, true, false, not, Bool·beq, _&&_, false≢true}
 use mathlib.Core.Path.{_≡_, refl, sym, ap}
 use Rattle.basic_laws.specs.Choice.{if_then_else_}

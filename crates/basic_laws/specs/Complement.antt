@@ -4,7 +4,6 @@
 --     bits16 z        the sixteen bits of z: z from 0 on is itself, z below is z + 2 ^ 16
 --     bits8 z         the eight bits of z: z from 0 on is itself, z below is z + 2 ^ 8
 --     Fits16 z        z is one of the numbers that sixteen bits hold, -32768 to 32767
--- Assumes nothing.
 use Prim.Native.Nat.{ℕ, suc, _-_}
 use lib.Dec.{ltb}
 use lib.IntN.{ℤ, pos, negsuc, _-ℤ_}

@@ -1,7 +1,6 @@
 -- Two's complement there and back, by the sign, and after rounding. The code holds a signed number as its bits, so what it computes is read back from bits at each step: the
 -- laws named `..-code` say that this changes nothing.
 --     read16 n, held16 z      how the code's own numbers of sixteen bits are read and held: law `signed-read` and `bits-held` say that it is as the definitions have it
--- Assumes nothing.
 use Prim.Native.Nat.{ℕ, zero, suc, _-_, _*_, _^_, _<_, _≤_}
 use mathlib.Core.Path.{_≡_, refl, ap, _∙_}
 use mathlib.Core.Bool.{Bool, true, false, false≢true}

@@ -1,6 +1,5 @@
 -- A number with a sign as a difference of two natural numbers, `subℕ a b`, which is a - b: sums, negatives and multiples of differences are differences again, so that an equation between numbers
 -- with a sign is one between natural numbers (`difference-same`). And the order and the size of a sum.
--- Assumes nothing.
 use Prim.Native.Nat.{ℕ, zero, suc, _+_, _-_, _<_, _≤_}
 use mathlib.Core.Path.{_≡_, refl, sym, ap, _∙_}
 use mathlib.Core.Bool.{Bool, true, false, false≢true}

@@ -4,7 +4,6 @@
 --     Distinct l        no two of l are the same
 --     Along R l m       l and m are as long, and R holds of each two at the same place
 --     those p l         those of l that pass the test p, in their order
--- Assumes nothing.
 use mathlib.Core.Logic.{_≢_}
 use mathlib.Core.List.{List, [], _∷_}
 use mathlib.Core.Bool.{Bool}

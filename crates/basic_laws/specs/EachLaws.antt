@@ -1,6 +1,5 @@
 -- What holds of each element of a list: kept by a weaker claim, by a permutation, which also keeps the length, by one more at the end or a list behind it, by a function that keeps it,
 -- and by one element replaced; distinct elements stay so with a new one at the end; two tests that agree pick the same; and those of two lists are those of the one and then of the other.
--- Assumes nothing.
 use mathlib.Core.List.{List, [], _∷_, _++_, map, List·Permᴰ, List·Permᴰ·nil, List·Permᴰ·cons, List·Permᴰ·swap, List·Permᴰ·trans}
 use Rattle.basic_laws.specs.Choice.{if_then_else_}
 use Rattle.basic_laws.specs.Each.{Each, Distinct, those}

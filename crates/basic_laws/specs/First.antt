@@ -1,7 +1,6 @@
 -- The first element of a list that passes a test, as a loop with an early return finds it.
 --     firstWith p f z k l      f of the place of the first that passes, places counted from k; z where none passes
 --     firstAt v l              how many stand before the first that is v; all where none is
--- Assumes nothing.
 use Prim.Native.Nat.{ℕ, suc}
 use mathlib.Core.Bool.{Bool}
 use mathlib.Core.List.{List, [], _∷_}

@@ -1,10 +1,9 @@
 -- The first element that passes a test, and whether all pass, as a loop with an early return finds it: what is left to look at from place i on.
---     onward i n l             what is left to look at from place i, of the first n
+--     onward i n l                                           what is left to look at from place i, of the first n
 --     first-hit, first-miss, first-skip, first-end           one turn of a loop that looks for the first
 --     at-within, at-none, at-there, at-here, at-on, at-end   how many stand before the first that is v, what they are, and one turn of a loop that looks for it
 --     all-onward, all-stopped, all-skip, all-passed          one turn of a loop that returns at the first that fails
 --     first-cases, first-none, first-append, first-mapped    where the first stands, or none; of two lists; of what a function makes of each
--- Assumes nothing.
 use Prim.Native.Nat.{ℕ, suc, _+_, _<_, _≤_}
 use mathlib.Core.Path.{_≡_, refl, sym, ap, subst, _∙_}
 use mathlib.Core.Bool.{Bool, true, false, not}

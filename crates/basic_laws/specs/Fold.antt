@@ -1,7 +1,6 @@
 -- A list worked into a value from the left, as a loop with an accumulator does it.
 --     fold op b l      op (.. (op (op b x₀) x₁) ..) xₙ; b for the empty list
 --     all p l          whether p holds of every element; true for the empty list
--- Assumes nothing.
 use mathlib.Core.Bool.{Bool, true, _&&_}
 use mathlib.Core.List.{List, [], _∷_}
 

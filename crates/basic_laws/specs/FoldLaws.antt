@@ -1,9 +1,8 @@
 -- A fold as a loop with an accumulator makes it, and `all` as a loop that returns at the first element that fails.
---     fold-step             one turn of a loop to the list's own length
---     fold-upto-..          a loop over a whole array that tests `i < n` inside, so that n may be any number
---     all-passes, all-fails, all-end      one turn of a loop that returns early
+--     fold-step                       one turn of a loop to the list's own length
+--     fold-upto-..                    a loop over a whole array that tests `i < n` inside, so that n may be any number
+--     all-passes, all-fails, all-end  one turn of a loop that returns early
 --     all-append, all-take, all-drop, all-at, all-from, all-past      `all` of parts of a list
--- Assumes nothing.
 use Prim.Native.Nat.{ℕ, _+_, _<_, _≤_, min, zero, suc}
 use mathlib.Core.Path.{_≡_, refl, sym, ap, _∙_}
 use mathlib.Core.Bool.{Bool, true, false, _&&_, and-true, and-assoc}

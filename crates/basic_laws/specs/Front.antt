@@ -1,6 +1,5 @@
 -- The front of a list changed element by element, as a loop over the first places of an array leaves it.
 --     mapFront f n l      f of each of the first n elements, the others as they are; n past the end is the whole list
--- Assumes nothing.
 use Prim.Native.Nat.{ℕ, zero, suc}
 use mathlib.Core.List.{List, [], _∷_}
 

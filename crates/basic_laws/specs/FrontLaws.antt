@@ -1,6 +1,5 @@
 -- The changed front of a list, as a loop of stores makes it. The laws named `upto-` serve a loop that runs over the whole array and tests `i < n` inside, so that n may be
 -- any number.
--- Assumes nothing.
 use Prim.Native.Nat.{ℕ, zero, suc, _+_, _<_, _≤_, min}
 use mathlib.Core.Path.{_≡_, refl, sym, ap, _∙_}
 use mathlib.Core.Bool.{Bool, true, false}

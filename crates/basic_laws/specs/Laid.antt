@@ -1,6 +1,5 @@
 -- One list laid over another from a place on: what a writer leaves of a whole slice.
 --     laid d at x      d with the elements from place `at` on replaced by those of x; meant for x that ends within d
--- Assumes nothing.
 use Prim.Native.Nat.{ℕ, _+_}
 use mathlib.Core.List.{List, _++_}
 use lib.ListN.{length, take, drop}

@@ -1,5 +1,4 @@
 -- A list laid over another: nothing laid, one part after another, one element after another, and what is laid read back.
--- Assumes nothing.
 use Prim.Native.Nat.{ℕ, _+_, _<_, _≤_}
 use mathlib.Core.Path.{_≡_, sym, ap, _∙_}
 use mathlib.Core.List.{List, [], _∷_, _++_, append-assoc, append-nil}

@@ -1,6 +1,5 @@
 -- A list in which one element is different from all others.
 --     OneAmong P Q l     P holds of one of l, and Q of each other
--- Assumes nothing.
 use mathlib.Core.List.{List, [], _∷_}
 use mathlib.Core.Logic.{_⊎_}
 use Rattle.basic_laws.specs.Each.{Each}

@@ -1,5 +1,4 @@
 -- One element that is different from all others: kept by weaker claims and by a function on each, and what both claims imply holds of each.
--- Assumes nothing.
 use mathlib.Core.List.{List, [], _∷_, map}
 use mathlib.Core.Logic.{inl, inr}
 use Rattle.basic_laws.specs.Each.{Each}

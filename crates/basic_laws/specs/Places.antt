@@ -1,5 +1,4 @@
 -- Places of a list: what stands at one within it, what stands from one on, a store past the front, and the rest of a list of one value.
--- Assumes nothing.
 use Prim.Native.Nat.{ℕ, zero, suc, _<_, _≤_, _+_, _-_}
 use mathlib.Core.Path.{_≡_, refl}
 use mathlib.Core.List.{List, [], _∷_, _++_}

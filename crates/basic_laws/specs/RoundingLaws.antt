@@ -2,7 +2,6 @@
 -- laws on nested steps (`div-div`, `floor-div`) say that a first rounding loses nothing for a second one by a multiple of its step.
 -- A law goes by the two cases `pos n`, which is n, and `negsuc n`, which is -(n + 1): inside a case all is of natural numbers.
 -- Orders are tests that compute: `leZ a b` is a ≤ b, `ltZ a b` is a < b.
--- Assumes nothing.
 use Prim.Native.Nat.{ℕ, zero, suc, _+_, _-_, _*_, _/_, _<_, _≤_}
 use mathlib.Core.Path.{_≡_, refl, sym, ap, _∙_}
 use mathlib.Core.Bool.{Bool, true, false, false≢true}

@@ -1,14 +1,12 @@
 -- Two lists side by side: whether they are the same, and how far they go alike.
 --     same v w             whether two lists of numbers are the same, element by element
 --     alike p l m          how many elements from the front go alike by the test p, up to the first two that do not, or to the end of either list
--- Assumes nothing.
 use Prim.Native.Nat.{ℕ, suc}
 use mathlib.Core.Bool.{Bool, true, false, _&&_}
 use mathlib.Core.List.{List, [], _∷_}
 use lib.Dec.{eqb}
 use Rattle.basic_laws.specs.Choice.{if_then_else_}
 
--- whether two lists of numbers are the same, element by element
 unfoldable pub same : List ℕ → List ℕ → Bool
 same [] [] = true
 same [] (y ∷ w) = false

@@ -1,7 +1,6 @@
 -- Two lists compared as a loop compares them, and what follows where they are the same or go alike.
---     same-equal, same-itself            the test of sameness is equality
---     alike-within, alike-front, alike-parts     as many as go alike are in both lists, are the same, and the next two are not
--- Assumes nothing.
+--     same-equal, same-itself                 the test of sameness is equality
+--     alike-within, alike-front, alike-parts  as many as go alike are in both lists, are the same, and the next two are not
 use Prim.Native.Nat.{ℕ, suc, _+_, _<_, _≤_}
 use mathlib.Core.Path.{_≡_, refl, sym, ap, _∙_}
 use mathlib.Core.Bool.{Bool, true, false, _&&_, false≢true}

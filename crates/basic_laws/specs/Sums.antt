@@ -2,7 +2,6 @@
 --     plus a b      the sum of two bits: whether they differ
 --     sum a b       the bitwise sum of two strings, place by place; where one is longer, its rest
 --     ones a        how many bits of a string are 1
--- Assumes nothing.
 use Prim.Native.Nat.{ℕ, _+_}
 use mathlib.Core.Bool.{Bool, not, Bool·beq}
 use mathlib.Core.List.{List, [], _∷_}

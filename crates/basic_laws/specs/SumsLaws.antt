@@ -6,7 +6,6 @@
 --     same-if-none                 strings of equal length whose sum has no ones are the same
 --     ones-append, ones-zeros      the ones of two parts together, and of zeros
 --     none-anywhere                a string without a 1 at any place has no ones
--- Assumes nothing.
 use Prim.Native.Nat.{ℕ, zero, suc, _+_, _/_, _%_}
 use mathlib.Core.Path.{_≡_, refl, ap, _∙_}
 use mathlib.Core.Bool.{Bool, true, false}
@@ -20,7 +19,6 @@ use Rattle.basic_laws.specs.XorLaws.{xor-half, odd-xor}
 
 -- ## Sums
 
--- a bit and itself
 pub plus-self : (b : Bool) → plus b b ≡ false
 plus-self true = refl
 plus-self false = refl

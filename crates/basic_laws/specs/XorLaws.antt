@@ -4,7 +4,6 @@
 --     xor-swap               (a xor b) xor c is (a xor c) xor b
 --     xor-assoc              (a xor b) xor c is a xor (b xor c)
 --     xor-none               zero only of a number with itself
--- Assumes nothing.
 use Prim.Native.Nat.{ℕ, zero, suc, _+_, _*_, _/_, _%_, _<_}
 use mathlib.Core.Path.{_≡_, refl, sym, ap, _∙_}
 use mathlib.Core.Bool.{Bool, true, false}

@@ -1,6 +1,5 @@
 -- What no slot, reset, power cycle or finish takes from a device holds of each device of a bench after every call, if it held before: laws `..-each`.
 --     Invariant P      nothing that can happen to a device takes P from it
--- Assumes nothing.
 use Prim.Native.Nat.{ℕ}
 use mathlib.Core.Path.{_≡_}
 use mathlib.Core.Bool.{Bool, true}

@@ -2,11 +2,10 @@
 -- after the others, and a call that names a code changes the device with that code and no other. A refused call changes nothing.
 --     slot-cases, reset-cases, added-cases, conversion-cases, copy-cases, cycle-cases
 --                                  what holds of a refusal and of what else a call does holds of the call
---     Added b new after            the new device stands after the others
+--     Added b new after            the new device stands after the others, which are as they were
 --     OneChanged b code f after    the device with the code, and it alone, has become f of what it was
 --     ..-refused                   a refused call changes nothing
 --     place-found, place-nowhere   the place of a code is where a device has it; nowhere if none has
--- Assumes nothing.
 use Prim.Native.Nat.{ℕ, _+_, _<_}
 use mathlib.Core.Path.{_≡_, refl, ap, _∙_}
 use mathlib.Core.Logic.{_≢_}
@@ -160,7 +159,6 @@ place-nowhere b code =
 
 -- ## Adding
 
--- the new device stands after the others, which are as they were
 pub record Added (b : Bench) (new : Joining) (after : Bench) : Type 0 where
   pub code-sound : sound (new .code) ≡ true
   pub code-new : Each (λ d. d .code ≢ new .code) (live b)
@@ -214,7 +212,6 @@ added-refused b new long = added-cases b new (λ c. c .refusal ≢ accepted → 
 
 -- ## One device
 
--- The device with the code, and it alone, has become f of what it was.
 pub record OneChanged (b : Bench) (code : ℕ) (f : Device → Device) (after : Bench) : Type 0 where
   pub place : ℕ
   pub place-is : placeOf b code ≡ At place

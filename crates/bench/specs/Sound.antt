@@ -2,7 +2,7 @@
 -- every device is that the calls reach: a configuration in its stored form, a reading in range, a flag that is the verdict on the page.
 --     codesOf b          the codes of the devices on the wire, in their order
 --     BenchSound b       the claim
--- Laws: `empty-sound`, and one for each call, refused or not. Assumes nothing.
+-- Laws: `empty-sound`, and one for each call, refused or not.
 use Prim.Native.Nat.{ℕ, _≤_}
 use mathlib.Core.Path.{_≡_}
 use mathlib.Core.Bool.{true}

@@ -1,5 +1,4 @@
 -- The codes after each call, the place of a code, and that every call, refused or not, keeps a bench sound.
--- Assumes nothing.
 use Prim.Native.Nat.{ℕ, zero, suc, _+_, _<_, _≤_}
 use mathlib.Core.Path.{_≡_, refl, ap, _∙_}
 use mathlib.Core.Logic.{_≢_}

@@ -1,5 +1,4 @@
 -- A device in a still stage stays as it is, stage by stage.
--- Assumes nothing.
 use mathlib.Core.Path.{_≡_, refl}
 use mathlib.Core.Bool.{Bool, false, not, true≢false}
 use Rattle.device.specs.Hear.{hearAt, hearOf}

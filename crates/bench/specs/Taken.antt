@@ -1,7 +1,6 @@
 -- A count past the places of a table counts all of them, so that a loop may end at the smaller of the two; and a device that a slot leaves as it is need not be stored.
 --     taken-most, front-most      the front of a table, and the front changed, by either number
 --     front-kept                  a place whose element is as it is to be
--- Assumes nothing.
 use Prim.Native.Nat.{ℕ, zero, suc, _+_, _<_, _≤_, min}
 use mathlib.Core.Path.{_≡_, refl, sym, ap, _∙_}
 use mathlib.Core.Bool.{Bool, true, false}

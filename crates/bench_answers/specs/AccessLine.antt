@@ -4,7 +4,6 @@
 --     over n d               a number with a sign over another
 --     accessFields           the four fields, as they are put
 --     accessLine             the line of an answer
--- Assumes nothing.
 use Prim.Native.Nat.{ℕ}
 use mathlib.Core.List.{List, [], _∷_, _++_}
 use lib.IntN.{ℤ}
@@ -22,7 +21,6 @@ readingDigits r = hexOf (registerOf r .high ∷ registerOf r .low ∷ [])
 abbrev pub over : ℤ → ℕ → List ℕ
 over n d = signedDecimal n ++ (ascii "/" ++ decimal d)
 
--- the four fields
 unfoldable pub accessFields : ℕ → List ℕ → Reading → ℤ → ℕ → List ℕ
 accessFields refusal pad reading n d = line (decimal refusal ∷ hexOf pad ∷ readingDigits reading ∷ over n d ∷ [])
 

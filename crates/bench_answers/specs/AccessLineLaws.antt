@@ -1,5 +1,4 @@
 -- The line is short: a numerator of thirty-two bits takes at most eleven characters.
--- Assumes nothing.
 use Prim.Native.Nat.{ℕ, _<_, _≤_}
 use mathlib.Core.List.{List, [], _∷_, _++_, append-assoc}
 use mathlib.Core.Path.{_≡_}

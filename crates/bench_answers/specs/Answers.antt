@@ -5,7 +5,6 @@
 --     searchLine             REFUSAL CODES PASSES SLOTS BYTES of a search
 --     codeLine, codeLines    a code that a search listed, and all of them
 --     showLine               REFUSAL PAD8 EEPROM FLAG BUSY of a device, and zeros for a code that is not on the bench
--- Assumes nothing.
 use Prim.Native.Nat.{ℕ}
 use mathlib.Core.Bool.{Bool, false}
 use mathlib.Core.List.{List, [], _∷_, _++_}

@@ -1,8 +1,7 @@
 -- The answer to a search: its counts, a line for each code that it listed, and the lines that it recorded.
 --     commandFor alarms      the ROM command of the search
---     countsLine o           the first line
+--     countsLine o           the first line of a search
 --     ofSearch o             the whole answer
--- Assumes nothing.
 use Prim.Native.Nat.{ℕ}
 use mathlib.Core.Bool.{Bool}
 use mathlib.Core.List.{List, _++_}
@@ -17,7 +16,6 @@ use Rattle.bench_answers.specs.Said.{Answered, says}
 abbrev pub commandFor : Bool → ℕ
 commandFor alarms = if alarms then alarmSearch else searchRom
 
--- the first line of a search
 abbrev pub countsLine : Outcome → List ℕ
 countsLine o = let r = answerOf o in searchLine (r .refusal) (r .codes) (r .passes) (r .slots) (r .bytes)
 

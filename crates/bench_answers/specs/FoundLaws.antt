@@ -1,5 +1,4 @@
 -- An answer of a search part by part, and that a search is as good with all that is lent as with just enough.
--- Assumes nothing.
 use Prim.Native.Nat.{ℕ, _+_, _*_, _<_, _≤_, min}
 use mathlib.Core.Path.{_≡_, refl, sym, ap, subst, _∙_}
 use mathlib.Core.Bool.{Bool, true, false}

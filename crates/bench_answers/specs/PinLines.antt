@@ -3,7 +3,6 @@
 --     pinsLine               REFUSAL CODES SHARED, the first line
 --     pinLine, pinLines      CODE PIN of a probe, and of all of them
 --     ofPins o               the whole answer
--- Assumes nothing.
 use Prim.Native.Nat.{ℕ}
 use mathlib.Core.List.{List, [], _∷_, _++_}
 use lib.ListN.{length}

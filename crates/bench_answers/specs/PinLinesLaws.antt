@@ -3,7 +3,6 @@
 --     says-pins                 the counts and the lines behind them are one answer
 --     codes-front, pins-front   the codes and pins found are the front of the list lent and of the pins answered
 --     says-asked                so that what is said of those is said of what the call came to
--- Assumes nothing.
 use Prim.Native.Nat.{ℕ, zero, suc, _+_, _*_, _<_, _≤_}
 use mathlib.Core.Path.{_≡_, sym, ap, subst, _∙_}
 use mathlib.Core.Bool.{Bool, true, false}

@@ -1,5 +1,4 @@
 -- An answer of one line is said as its line is laid, and its text is within a line's room.
--- Assumes nothing.
 use Prim.Native.Nat.{ℕ, _+_, _≤_}
 use mathlib.Core.Path.{_≡_, refl, ap}
 use mathlib.Core.Bool.{Bool, true, false}

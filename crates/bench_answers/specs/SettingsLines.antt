@@ -1,7 +1,6 @@
 -- The lines that answer a read and a change of settings. Settings are two hexadecimal digits each, the version is in plain decimal.
 --     currentLine c             REFUSAL HIGH LOW CONFIGURATION VERSION
 --     changeLine r v            REFUSAL VERSION
--- Assumes nothing.
 use Prim.Native.Nat.{ℕ}
 use mathlib.Core.List.{List, [], _∷_}
 use Rattle.text.specs.Decimal.{decimal}

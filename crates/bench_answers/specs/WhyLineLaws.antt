@@ -1,5 +1,4 @@
 -- The line is short: a number with a sign takes at most eleven characters.
--- Assumes nothing.
 use Prim.Native.Nat.{ℕ, _<_, _≤_}
 use mathlib.Core.Bool.{Bool}
 use native.Mathlib.Omega.{arith}

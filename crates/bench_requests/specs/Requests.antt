@@ -3,7 +3,6 @@
 --     ofBench ws             the calls on the bench
 --     ofMaster ws            the calls of the master
 --     requestOf s            what a line, without its feed, asks for; a line over 80 characters is `Bad`
--- Assumes nothing.
 use Prim.Native.Nat.{ℕ, _-_}
 use mathlib.Core.Bool.{Bool, _&&_}
 use mathlib.Core.List.{List}
@@ -62,7 +61,6 @@ pinnedAsked code power s pins = if pins .valid then addAsked code power s (pins 
 
 -- ## The table
 
--- whether words are this name and n fields
 abbrev pub asks : List ℕ → ℕ → List (List ℕ) → Bool
 asks name n ws = same (wordOf ws 0) name && eqb (length ws - 1) n
 
@@ -99,6 +97,5 @@ ofBench ws =
 abbrev pub longestRequest : ℕ
 longestRequest = 80
 
--- what a line, without its feed, asks for
 unfoldable pub requestOf : List ℕ → Request
 requestOf s = if leb (length s) longestRequest then ofBench (wordsOf s) else Bad

@@ -1,5 +1,4 @@
 -- What a row of the table tells of the words, its name and how many fields; then the table row by row: where a row asks, no other does.
--- Assumes nothing.
 use Prim.Native.Nat.{ℕ, _-_}
 use mathlib.Core.Path.{_≡_}
 use mathlib.Core.Bool.{true, false}

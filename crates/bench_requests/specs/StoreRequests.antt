@@ -3,8 +3,7 @@
 --     alterIn w              what a change makes of one setting: a byte, or a minus to leave it
 --     asksStore name n ws    whether words are `settings`, this name and its fields, n in all
 --     ofStore ws             what the words of a line ask for
---     storeRequestOf s       what a line, without its feed, asks for
--- Assumes nothing.
+--     storeRequestOf s       what a line, without its feed, asks for; one that is over-long asks for nothing that the store knows
 use Prim.Native.Nat.{ℕ}
 use mathlib.Core.Bool.{Bool, true, _&&_}
 use mathlib.Core.List.{List}
@@ -69,6 +68,5 @@ ofStore ws =
     else if asksStore (ascii "write") 3 ws then storeAtCode Write (codeIn (field 2))
     else Other
 
--- what a line, without its feed, asks for; one that is over-long asks for nothing that the store knows
 unfoldable pub storeRequestOf : List ℕ → StoreRequest
 storeRequestOf s = if leb (length s) longestRequest then ofStore (wordsOf s) else Other

@@ -2,8 +2,7 @@
 --     answered b q           the answer to the request q on the bench b
 --     asked l                what a line asks for; one that has no feed asks for nothing that there is
 --     answer b l out         what the call for a line answers: how many bytes of text there are and the bench, or refusal 1 where less than the room is lent
---     benchLeaves b l out         the lent bytes after it: the text from byte 0 on, or as they were
--- Assumes nothing.
+--     benchLeaves b l out    the lent bytes after it: the text from byte 0 on, or as they were
 use Prim.Native.Nat.{ℕ}
 use mathlib.Core.List.{List}
 use Rattle.basic_laws.specs.Choice.{if_then_else_}

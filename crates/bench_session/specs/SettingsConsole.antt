@@ -4,7 +4,6 @@
 --     storeAsked l           what a line asks of the store; one that has no feed asks nothing
 --     told b s l out         what the call for a line answers: how many bytes of text there are, the bench and the store, or refusal 1 where less than the room is lent
 --     leaves b s l out       the lent bytes after it: the text from byte 0 on, or as they were
--- Assumes nothing.
 use Prim.Native.Nat.{ℕ}
 use mathlib.Core.List.{List}
 use lib.Dec.{leb}

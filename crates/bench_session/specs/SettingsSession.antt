@@ -3,7 +3,6 @@
 --     both b s           the two together
 --     benchConsole       to a line it says the text of the answer, and it leads to the bench and the store after it
 --     nothingYet         the empty bench and the empty store, on which a run begins
--- Assumes nothing.
 use Rattle.sessions.specs.Session.{Console}
 use Rattle.bench.specs.Bench.{emptyBench}
 use Rattle.bench.specs.declared.Bench.{Bench}

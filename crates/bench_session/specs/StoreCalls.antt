@@ -4,7 +4,6 @@
 --     byWhose q b w o        by whose request q is: b for the bench's, w of the code for a write to a device, o for one of the store's own
 --     called s q out         what the call answers: how many bytes the line has and the store, or refusal 1 and the store as it was where less than a line's room is lent
 --     Calls d x s d' r       what a part of the call has come to: the line x at the front of what is lent, and the store s
--- Assumes nothing.
 use Prim.Native.Nat.{ℕ, _≤_}
 use mathlib.Core.Path.{_≡_}
 use mathlib.Core.List.{List, []}
@@ -54,7 +53,6 @@ called s q out = record {
   store = if hasRoom out 0 lineRoom then storeLeft s q else s;
 }
 
--- what a part of the call has come to
 pub record Calls (d x : List ℕ) (s : Store) (d' : List ℕ) (r : Called) : Type 0 where
   pub answer : r .written ≡ lineAnswer d 0 x
   pub left : d' ≡ lineLeaves d 0 x

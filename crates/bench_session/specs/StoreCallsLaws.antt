@@ -4,7 +4,6 @@
 --     nothing-calls      nothing to say, and the store as it is
 --     call-refused       without room the store stays
 --     call-made          with room the parts are what the call answers
--- Assumes nothing.
 use Prim.Native.Nat.{ℕ, _+_, _≤_}
 use mathlib.Core.Path.{_≡_, refl, ap, _∙_}
 use mathlib.Core.Bool.{true, false}

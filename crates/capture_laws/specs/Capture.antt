@@ -1,12 +1,11 @@
 -- What becomes of a capture, line by line, with no reader and no buffer: the lines as text cuts them, the edges by the rule over edges.
 --     lineStep w cs          what a line of the characters cs comes to: refusal 2 for another character, then 3 for another length than eight, then the edge
---     EdgeCourse                 the frames that were closed, the refusal or 0, where the line stands, and the characters behind the last feed
+--     EdgeCourse             the frames that were closed, the refusal or 0, where the line stands, and the characters behind the last feed
 --     courseOf w ls          the course of lines from a line w on; it ends at the first refusal
---     courseOnward w s c           the course of a line that comes to the step s, where c is that of the lines behind it
+--     courseOnward w s c     the course of a line that comes to the step s, where c is that of the lines behind it
 --     capture s              the course of a whole capture
---     courseEnded c                the course with its end
---     FrameSound f                a frame that the program can hold and a line can carry
--- Assumes nothing.
+--     courseEnded c          the course with its end
+--     FrameSound f           a frame that the program can hold and a line can carry
 use Prim.Native.Nat.{ℕ}
 use mathlib.Core.Path.{_≡_}
 use mathlib.Core.Bool.{true, not}
@@ -56,12 +55,10 @@ courseOnward w s behind =
     else if s .closes then closing (w .frame) behind
     else behind
 
--- the course of lines
 unfoldable pub courseOf : Wire → List Line → EdgeCourse
 courseOf w [] = courseStopped w accepted []
 courseOf w (l ∷ ls) = if l .fed then courseOnward w (lineStep w (l .chars)) (courseOf (lineStep w (l .chars) .wire) ls) else courseStopped w accepted (l .chars)
 
--- the course of a whole capture
 abbrev pub capture : List ℕ → EdgeCourse
 capture s = courseOf untouched (linesOf s)
 
@@ -88,7 +85,6 @@ courseEnded c =
 
 -- ## Frames
 
--- a frame that the program can hold and a line can carry
 pub record FrameSound (f : Frame) : Type 0 where
   pub held : Held f
   pub carried : lineable f ≡ true

@@ -1,5 +1,4 @@
 -- Some captures and what becomes of them, as one statement: none at all, a reset that nobody answers, one that is answered with a slot of 1 and one of 0 behind it, and a time that comes twice.
--- Assumes nothing.
 use Prim.Native.Nat.{ℕ}
 use mathlib.Core.Path.{_≡_, refl}
 use mathlib.Core.List.{List, [], _∷_, _++_}

@@ -2,7 +2,6 @@
 --     feeds x ss             reader and buffer after pieces fed one after the other
 --     Filled n out c x       reader and buffer hold the course c behind n bytes: its frames are laid there, one line behind the other, and all else of the buffer is as it was
 --     Closed n out c a l     the answer a of an end and the buffer l hold the course c so, and after an accepted end the reader is fresh
--- Assumes nothing.
 use Prim.Native.Nat.{ℕ, _+_}
 use mathlib.Core.Path.{_≡_}
 use mathlib.Core.List.{List, [], _∷_}
@@ -15,12 +14,10 @@ use Rattle.captures.specs.declared.edges.Answer.{Answer}
 use Rattle.captures.specs.Edges.{freshReader, Reading, fedBytes}
 use Rattle.capture_laws.specs.Capture.{EdgeCourse}
 
--- reader and buffer after pieces fed one after the other
 unfoldable pub feeds : Reading → List (List ℕ) → Reading
 feeds x [] = x
 feeds x (s ∷ ss) = feeds (fedBytes (x .reader) (x .out) s) ss
 
--- reader and buffer hold the course c behind n bytes
 pub record Filled (n : ℕ) (out : List ℕ) (c : EdgeCourse) (x : Reading) : Type 0 where
   pub refusal : x .reader .refusal ≡ c .refusal
   pub written : x .reader .written ≡ n + length (writeAll (c .frames))

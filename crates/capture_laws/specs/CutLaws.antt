@@ -2,7 +2,6 @@
 --     course-on              where the first was not refused
 --     course-stop            a refusal in the first ends the course of both
 --     left-plain             no feed stands in the unfinished characters
--- Assumes nothing.
 use Prim.Native.Nat.{ℕ}
 use mathlib.Core.Path.{_≡_, refl, sym, ap, _∙_}
 use mathlib.Core.Bool.{Bool, true, false, not}

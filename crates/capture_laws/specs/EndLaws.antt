@@ -1,7 +1,6 @@
 -- An end makes of reader and buffer what the course with its end says, where there is room for its frames.
 --     end-closed             the theorem
 --     ended-writable         a line can carry each of its frames
--- Assumes nothing.
 use Prim.Native.Nat.{ℕ, _+_, _≤_}
 use mathlib.Core.Path.{_≡_, refl, sym, ap, _∙_}
 use mathlib.Core.Bool.{Bool, true, false, not}

@@ -3,7 +3,6 @@
 --     holding w u n          the reader at a line w, with unfinished characters u and n bytes written
 --     Came n out c x         reader and buffer hold the course c behind n bytes, where there is room; else refusal 1 has come
 --     piece-came             the theorem
--- Assumes nothing.
 use Prim.Native.Nat.{ℕ, _+_, _<_, _≤_}
 use mathlib.Core.Path.{_≡_, refl, sym, ap, _∙_}
 use mathlib.Core.Bool.{Bool, true, false, not}
@@ -41,7 +40,6 @@ use Rattle.capture_laws.specs.StepLaws.{line-fair}
 one-zero : noRoom ≡ accepted → ⊥
 one-zero z = omega arith
 
--- the reader at a line, with unfinished characters and n bytes written
 abbrev pub holding : Wire → List ℕ → ℕ → Reader
 holding w u n = record { refusal = accepted; written = n; line = gatheredTime u; wire = w }
 

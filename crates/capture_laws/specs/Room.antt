@@ -2,17 +2,14 @@
 -- bytes in all; and one for each byte of the piece.
 --     pieceRoom              the bytes that a piece needs besides its own
 --     Ample ps               each piece has so much room
--- Assumes nothing.
 use Prim.Native.Nat.{ℕ, _+_, _≤_}
 use mathlib.Core.List.{List}
 use lib.ListN.{length}
 use Rattle.basic_laws.specs.Each.{Each}
 use Rattle.capture_laws.specs.Taken.{Piece}
 
--- the bytes that a piece needs besides its own
 abbrev pub pieceRoom : ℕ
 pieceRoom = 143
 
--- each piece has so much room
 abbrev pub Ample : List Piece → Type 0
 Ample ps = Each (λ p. pieceRoom + length (p .bytes) ≤ length (p .buffer)) ps

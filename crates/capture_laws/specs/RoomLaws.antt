@@ -3,7 +3,6 @@
 --     course-room            the frames of lines take no more than the line of the open frame and the bytes of the lines
 --     room-enough            so those of a piece behind unfinished characters
 --     ample-roomy            the theorem
--- Assumes nothing.
 use Prim.Native.Nat.{ℕ, _+_, _<_, _≤_}
 use mathlib.Core.Path.{_≡_, refl, ap, _∙_}
 use mathlib.Core.Logic.{_≢_}
@@ -110,7 +109,6 @@ long-none (c ∷ s) u w plain long = by-feed (eqb c lineFeed) refl (long-none s 
         let size = length-append u (c ∷ []) in
         rw (append-assoc u (c ∷ []) s) at (more still (omega arith))
 
--- the frames of a piece behind unfinished characters
 pub room-enough : (w : Wire) → FrameSound (w .frame) → (u s : List ℕ) → all notFeed u ≡ true → length (writeAll (courseOf w (linesOf (u ++ s)) .frames)) ≤ pieceRoom + length s
 unfolding writeAll
 room-enough w sound u s plain = by-length (leb (length u) 8) refl

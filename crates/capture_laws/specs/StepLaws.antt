@@ -3,7 +3,6 @@
 --     Fair w s               all this of what a step s makes of the line w
 --     line-fair              every line makes a fair step
 --     Kept c, course-kept    the frames of a course can be written, and that which is open is sound; its refusal is not 1
--- Assumes nothing.
 use Prim.Native.Nat.{ℕ, _+_, _-_, _<_, _≤_}
 use mathlib.Core.Path.{_≡_, refl}
 use mathlib.Core.Logic.{_≢_}

@@ -9,7 +9,6 @@
 --     taken-whole            bytes taken piece by piece, one after the other, are the text of the frames of the whole capture
 --     taken-ample            it is enough for that that each buffer is 143 bytes longer than its piece
 --     taken-one-feed         so they are those of a single feed
--- Assumes nothing.
 use Prim.Native.Nat.{ℕ, _<_, _≤_}
 use mathlib.Core.Path.{_≡_, refl, sym, ap, _∙_}
 use mathlib.Core.Logic.{_≢_}

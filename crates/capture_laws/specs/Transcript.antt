@@ -4,8 +4,7 @@
 --     enoughRoom             the bytes that a buffer needs besides those of its piece
 --     Lent ps                each piece has a buffer with so much room
 --     Reached r              the reader of a program after some pieces, none of them refused
---     Handed t               bytes that a program may hand to its output
--- Assumes nothing.
+--     Handed t               bytes that a program may hand to its output: what is handed on for the next piece, or for the end
 use Prim.Native.Nat.{ℕ, _+_, _≤_}
 use mathlib.Core.Path.{_≡_}
 use mathlib.Core.Bool.{true}
@@ -53,18 +52,15 @@ printedRun r (p ∷ ps) out =
 abbrev pub enoughRoom : ℕ
 enoughRoom = 172
 
--- each piece has a buffer with so much room
 abbrev pub Lent : List Piece → Type 0
 Lent ps = Each (λ p. enoughRoom + length (p .bytes) ≤ length (p .buffer)) ps
 
 -- ## Call after call
 
--- the reader after some pieces, none of them refused
 pub data Reached : Reader → Type 0 where
   start : Reached freshReader
   more : {r : Reader} → Reached r → (p : Piece) → enoughRoom + length (p .bytes) ≤ length (p .buffer) → ofPiece r p .going ≡ true → Reached (ofPiece r p .reader)
 
--- bytes that a program may hand to its output: what is handed on for the next piece, or for the end
 pub data Handed (t : List ℕ) : Type 0 where
   of-piece : {r : Reader} → Reached r → (p : Piece) → enoughRoom + length (p .bytes) ≤ length (p .buffer)
       → t ≡ handedOn (feedAnswer r (p .buffer) (p .bytes)) (feedLeaves r (p .buffer) (p .bytes)) → Handed t

@@ -2,7 +2,6 @@
 --     handed-text            what an answer hands on: its frames, and the line of its refusal
 --     ended-behind           frames closed before a course are closed before the course with its end
 --     run-transcript         the theorem
--- Assumes nothing.
 use Prim.Native.Nat.{ℕ, _+_, _<_, _≤_}
 use mathlib.Core.Path.{_≡_, refl, sym, ap, _∙_}
 use mathlib.Core.Logic.{_≢_}
@@ -119,7 +118,6 @@ ended-small c small = by-test (eqb (c .refusal) accepted) (eqb (length (c .left)
         (omega arith, small)
     by-test true true true false = (omega arith, small)
 
--- frames closed before a course are closed before the course with its end
 ended-behind : (fs : List Frame) (c : EdgeCourse) → courseEnded (behind fs c) ≡ behind fs (courseEnded c)
 ended-behind fs c = by-test (eqb (c .refusal) accepted) (eqb (length (c .left)) 0) (eqb (endingAt (c .wire .stage) .refusal) accepted) (endingAt (c .wire .stage) .closes)
   where

@@ -1,12 +1,11 @@
 -- How long the lows and highs of a capture last, in microseconds: the table of the request for edges. Both ends of a range belong to it.
---     lastsBetween a b d          whether a time is in the range from a to b
---     isOneSlot d, isZero d      the low of a slot that shows 1, and of one that shows 0
+--     lastsBetween a b d     whether a time is in the range from a to b
+--     isOneSlot d, isZero d  the low of a slot that shows 1, and of one that shows 0
 --     isReset d              the low of a reset
 --     isWait d               the high between a reset and presence
 --     isPresence d           the low of presence
 --     isSilence d            the high after a reset that nobody answers
 --     pulseOf d              what a low is by how long it lasts
--- Assumes nothing.
 use Prim.Native.Nat.{ℕ}
 use mathlib.Core.Bool.{Bool, _&&_}
 use lib.Dec.{leb}
@@ -20,7 +19,6 @@ lastsBetween a b d = leb a d && leb d b
 
 -- ## Lows
 
--- a slot that shows 1
 abbrev pub isOneSlot : ℕ → Bool
 isOneSlot d = lastsBetween 1 15 d
 
@@ -28,11 +26,9 @@ isOneSlot d = lastsBetween 1 15 d
 abbrev pub isZero : ℕ → Bool
 isZero d = lastsBetween 16 120 d
 
--- a reset
 abbrev pub isReset : ℕ → Bool
 isReset d = lastsBetween 480 960 d
 
--- presence
 abbrev pub isPresence : ℕ → Bool
 isPresence d = lastsBetween 60 240 d
 

@@ -1,5 +1,4 @@
 -- A time below, within and above a range, and what a low is from one bound of the table to the next.
--- Assumes nothing.
 use Prim.Native.Nat.{ℕ, _<_, _≤_}
 use mathlib.Core.Path.{_≡_}
 use mathlib.Core.Bool.{true, false, and-false}

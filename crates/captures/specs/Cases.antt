@@ -1,5 +1,4 @@
 -- The bounds of the table on both sides, as one statement.
--- Assumes nothing.
 use mathlib.Core.Path.{_≡_, refl}
 use mathlib.Core.Bool.{true, false}
 use Rattle.captures.specs.declared.pulses.Pulse.the-variants.{One, Zero, Reset, Other}

@@ -4,7 +4,6 @@
 --     behindRefusal out at n     the place behind that line, or the place itself where it has no room
 --     printedFor a out           what is printed for the answer a of a reader
 --     printedLeaves a out        the buffer with it
--- Assumes nothing.
 use Prim.Native.Nat.{ℕ}
 use mathlib.Core.Bool.{true, false}
 use mathlib.Core.List.{List}
@@ -18,20 +17,16 @@ use Rattle.captures.specs.declared.edges.Answer.{Answer}
 use Rattle.captures.specs.Edges.{takenSoFar}
 use Rattle.captures.specs.declared.edge_printing.Printed.{Printed}
 
--- REFUSED, the number and a feed
 abbrev pub refusedLine : ℕ → List ℕ
 refusedLine n = printedName (refusedName n)
 
--- the place behind that line, or the place itself where it has no room
 abbrev pub behindRefusal : List ℕ → ℕ → ℕ → ℕ
 behindRefusal out at n = if eqb (layAnswer out at (refusedLine n) .refusal) accepted then layAnswer out at (refusedLine n) .next else at
 
--- what is printed for an answer
 abbrev pub printedFor : Answer → List ℕ → Printed
 printedFor a out =
     if eqb (a .refusal) accepted then record { reader = takenSoFar (a .reader); written = a .written; going = true }
     else record { reader = takenSoFar (a .reader); written = behindRefusal out (a .written) (a .refusal); going = false }
 
--- the buffer with it
 abbrev pub printedLeaves : Answer → List ℕ → List ℕ
 printedLeaves a out = if eqb (a .refusal) accepted then out else layLeaves out (a .written) (refusedLine (a .refusal))

@@ -1,5 +1,4 @@
 -- One law for each way in which a line of a refusal and an answer can come out.
--- Assumes nothing.
 use Prim.Native.Nat.{ℕ}
 use mathlib.Core.Path.{_≡_}
 use mathlib.Core.Logic.{_≢_}

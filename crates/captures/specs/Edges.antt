@@ -1,20 +1,19 @@
 -- A capture that comes in pieces: each line is eight digits, the time of an edge; each frame that an edge closes is written as a line behind those before it. A line is judged at
 -- its feed: another character than a digit is refused with 2, then another length with 3, then the edge by the rule over edges, then a frame without room with 1. A refusal changes
 -- nothing else and stays.
---     freshReader                      a reader before the first byte
---     refusedWith r n            the reader with a refusal
---     withLine r l               the reader with another unfinished line
---     withWritten r n            the reader with so many bytes in its buffer
---     takenSoFar r               the reader once the bytes in the buffer were taken: it goes on from its front
---     onEdge r s                 what an edge comes to, by its step: the reader after it, and whether the frame that r holds is closed
---     lineEnded r                the same for a line at its feed
+--     freshReader                     a reader before the first byte
+--     refusedWith r n                 the reader with a refusal
+--     withLine r l                    the reader with another unfinished line
+--     withWritten r n                 the reader with so many bytes in its buffer
+--     takenSoFar r                    the reader once the bytes in the buffer were taken: it goes on from its front
+--     onEdge r s                      what an edge comes to, by its step: the reader after it, and whether the frame that r holds is closed
+--     lineEnded r                     the same for a line at its feed
 --     closedReader r q out, closedLeaves r out       the reader and the buffer once the frame that r holds is closed, where q was to come after it
 --     fedLineReader r out, fedLineLeaves r out       the two after a feed
---     Reading, onByte x c        a reader and the buffer that it fills; the two after a byte
---     fedBytes r out s           the two after a piece
---     feedAnswer, feedLeaves r out s     the answer for a piece, and what is left of the buffer
---     endAnswer, endLeaves r out         the same for an end; where it is accepted the reader is fresh
--- Assumes nothing.
+--     Reading, onByte x c             a reader and the buffer that it fills; the two after a byte
+--     fedBytes r out s                the two after a piece
+--     feedAnswer, feedLeaves r out s  the answer for a piece, and what is left of the buffer
+--     endAnswer, endLeaves r out      the same for an end; where it is accepted the reader is fresh
 use Prim.Native.Nat.{ℕ}
 use mathlib.Core.Bool.{Bool, false, not, _&&_}
 use mathlib.Core.List.{List}
@@ -34,23 +33,18 @@ use Rattle.captures.specs.declared.edges.Reader.{Reader}
 use Rattle.captures.specs.declared.edges.Answer.{Answer}
 use Rattle.captures.specs.declared.edges.Turn.{Turn}
 
--- a reader before the first byte
 abbrev pub freshReader : Reader
 freshReader = record { refusal = accepted; written = 0; line = noLine; wire = untouched }
 
--- the reader with a refusal
 abbrev pub refusedWith : Reader → ℕ → Reader
 refusedWith r n = record { refusal = n; written = r .written; line = r .line; wire = r .wire }
 
--- the reader with another unfinished line
 abbrev pub withLine : Reader → Partial → Reader
 withLine r l = record { refusal = r .refusal; written = r .written; line = l; wire = r .wire }
 
--- the reader with so many bytes in its buffer
 abbrev pub withWritten : Reader → ℕ → Reader
 withWritten r n = record { refusal = r .refusal; written = n; line = r .line; wire = r .wire }
 
--- the reader once the bytes in the buffer were taken
 abbrev pub takenSoFar : Reader → Reader
 takenSoFar r = withWritten r 0
 
@@ -62,7 +56,6 @@ onEdge r s =
     if eqb (s .refusal) accepted then record { closes = s .closes; reader = record { refusal = r .refusal; written = r .written; line = noLine; wire = s .wire } }
     else record { closes = false; reader = refusedWith r (s .refusal) }
 
--- a line at its feed
 abbrev pub lineEnded : Reader → Turn
 lineEnded r =
     if not (r .line .spelt) then record { closes = false; reader = refusedWith r notHex }
@@ -85,7 +78,6 @@ closedReader before after out =
 abbrev pub closedLeaves : Reader → List ℕ → List ℕ
 closedLeaves r out = lineWriteLeaves out (r .written) (r .wire .frame)
 
--- the reader after a feed
 abbrev pub fedLineReader : Reader → List ℕ → Reader
 fedLineReader r out = if lineEnded r .closes then closedReader r (lineEnded r .reader) out else lineEnded r .reader
 
@@ -95,7 +87,6 @@ fedLineLeaves r out = if lineEnded r .closes then closedLeaves r out else out
 
 -- ## Bytes
 
--- a reader and the buffer that it fills
 pub record Reading : Type 0 where
   pub reader : Reader
   pub out : List ℕ
@@ -121,7 +112,6 @@ fedBytes r out s = fold onByte record { reader = r; out = out } s
 abbrev pub answersOf : Reader → Answer
 answersOf r = record { refusal = r .refusal; written = r .written; reader = r }
 
--- the answer for a piece
 abbrev pub feedAnswer : Reader → List ℕ → List ℕ → Answer
 feedAnswer r out s = answersOf (fedBytes r out s .reader)
 

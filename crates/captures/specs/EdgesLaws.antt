@@ -1,8 +1,7 @@
 -- One law for each way in which an edge, a line, a closing and an end can come out, and the laws of a piece that is read line by line:
---     refused-stays                  after a refusal no byte changes anything
+--     refused-stays          after a refusal no byte changes anything
 --     fed-characters         characters before a feed only lengthen the line
 --     lengthens, line-fed    so the line that starts at a place is lengthened by its characters, and ended by its feed
--- Assumes nothing.
 use Prim.Native.Nat.{ℕ, suc, _+_, _-_, _<_}
 use mathlib.Core.Path.{_≡_, refl, sym, ap, _∙_}
 use mathlib.Core.Bool.{Bool, true, false, not}
@@ -139,7 +138,6 @@ module _ (r : Reader) (out : List ℕ) where
 
 -- ## A piece, line by line
 
--- after a refusal no byte changes anything
 pub refused-stays : (x : Reading) → (x .reader .refusal ≡ accepted → ⊥) → (s : List ℕ) → fold onByte x s ≡ x
 unfolding fold onByte
 refused-stays x h [] = refl
@@ -154,7 +152,6 @@ module _ (r : Reader) (out : List ℕ) (well : r .refusal ≡ accepted) where
   unfolding onByte
   on-feed = rw (eq-eqb (r .refusal) accepted well) refl
 
--- characters before a feed only lengthen the line
 pub fed-characters : (r : Reader) (out : List ℕ) → r .refusal ≡ accepted → (cs s : List ℕ) → all notFeed cs ≡ true
     → fold onByte record { reader = r; out = out } (cs ++ s) ≡ fold onByte record { reader = withLine r (fold longerPartial (r .line) cs); out = out } s
 unfolding fold all

@@ -2,9 +2,8 @@
 --     timeDigits             the digits of a time
 --     noLine                 a line without a character
 --     counted n              one character more; nine are already too many, and more are not counted
---     longerPartial l c             the line with one character more
---     gatheredTime cs            what is known of a line of the characters cs
--- Assumes nothing.
+--     longerPartial l c      the line with one character more
+--     gatheredTime cs        what is known of a line of the characters cs
 use Prim.Native.Nat.{ℕ, _+_, _%_}
 use mathlib.Core.Bool.{true, _&&_}
 use mathlib.Core.List.{List}
@@ -14,7 +13,6 @@ use Rattle.basic_laws.specs.Fold.{fold}
 use Rattle.text.specs.Digits.{isDigit, thenDigit}
 use Rattle.captures.specs.declared.edge_lines.Partial.{Partial}
 
--- the digits of a time
 abbrev pub timeDigits : ℕ
 timeDigits = 8
 
@@ -22,18 +20,14 @@ timeDigits = 8
 abbrev pub timeBound : ℕ
 timeBound = 0x100000000
 
--- a line without a character
 abbrev pub noLine : Partial
 noLine = record { count = 0; spelt = true; number = 0 }
 
--- one character more; nine are already too many, and more are not counted
 abbrev pub counted : ℕ → ℕ
 counted n = if ltb n 9 then n + 1 else n
 
--- the line with one character more
 abbrev pub longerPartial : Partial → ℕ → Partial
 longerPartial l c = record { count = counted (l .count); spelt = l .spelt && isDigit 16 c; number = thenDigit 16 (l .number) c % timeBound }
 
--- what is known of a line of some characters
 abbrev pub gatheredTime : List ℕ → Partial
 gatheredTime cs = fold longerPartial noLine cs

@@ -1,7 +1,6 @@
 -- What is known of a line is what text says of its characters: how many there are up to nine, whether they are digits, and of eight digits the number.
 --     gathered-time          of eight digits the number is known
 --     gathered-more          one character more
--- Assumes nothing.
 use Prim.Native.Nat.{ℕ, _+_, _*_, _%_, _<_, _≤_, min}
 use mathlib.Core.Path.{_≡_, refl, sym, ap, _∙_}
 use mathlib.Core.Bool.{Bool, true, false, _&&_, and-true, and-assoc}
@@ -72,14 +71,12 @@ number-after l (c ∷ cs) h =
     let again : x % timeBound % timeBound ≡ x % timeBound = omega arith in
     number-after (longerPartial l c) cs few ∙ digits-within cs (x % timeBound) x again
 
--- of eight digits the number is known
 pub gathered-time : (cs : List ℕ) → spells 16 cs ≡ true → length cs ≡ timeDigits → gatheredTime cs .number ≡ numberIn 16 cs
 unfolding numberIn
 gathered-time cs digital size =
     let below : numberIn 16 cs < timeBound = rw size at (number-below 16 cs digital) in
     number-after noLine cs (omega arith) ∙ mod-eq-of-lt below
 
--- one character more
 pub gathered-more : (cs : List ℕ) (c : ℕ) → longerPartial (gatheredTime cs) c ≡ gatheredTime (cs ++ (c ∷ []))
 unfolding fold
 gathered-more cs c = sym (fold-append longerPartial noLine cs (c ∷ []))

@@ -11,7 +11,6 @@
 --     restarts t closes            a reset: a frame without presence is open
 --     takesSlot w t b              one slot more; refusal 3 without presence, and at 512 slots
 --     refuses w n                  a refusal, and the line as it was
--- Assumes nothing.
 use Prim.Native.Nat.{ℕ, _-_}
 use mathlib.Core.Bool.{Bool, true, false, _&&_}
 use lib.Dec.{leb, ltb}
@@ -28,11 +27,9 @@ use Rattle.captures.specs.declared.pulses.Step.{Step}
 use Rattle.captures.specs.declared.pulses.Ending.{Ending}
 use Rattle.captures.specs.Bounds.{isReset, isWait, isSilence, isPresence, pulseOf}
 
--- the line before any edge
 abbrev pub untouched : Wire
 untouched = record { stage = Idle; last = 0; frame = blankFrame false }
 
--- whether there was an edge
 abbrev pub begun : PulseStage → Bool
 begun Idle = false
 begun FirstLow = true
@@ -43,19 +40,15 @@ begun Low = true
 
 -- ## What an edge comes to
 
--- a refusal, and the line as it was
 abbrev pub refuses : Wire → ℕ → Step
 refuses w n = record { refusal = n; closes = false; wire = w }
 
--- the line is at a stage, with a frame open
 abbrev pub goes : PulseStage → ℕ → Frame → Step
 goes s t f = record { refusal = accepted; closes = false; wire = record { stage = s; last = t; frame = f } }
 
--- the same with the frame that was open
 abbrev pub moves : Wire → PulseStage → ℕ → Step
 moves w s t = goes s t (w .frame)
 
--- a reset: a frame without presence is open
 abbrev pub restarts : ℕ → Bool → Step
 restarts t closes = record { refusal = accepted; closes = closes; wire = record { stage = Released; last = t; frame = blankFrame false } }
 

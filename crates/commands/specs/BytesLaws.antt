@@ -1,6 +1,5 @@
 -- What holds of each thing that a bit can make of a byte holds of what it makes: `shifted-cases`. Bits put in one after another make their number: `shifted-on`, and all eight
 -- `eight-in`.
--- Assumes nothing.
 use Prim.Native.Nat.{ℕ, suc, _+_, _*_, _/_, _^_}
 use mathlib.Core.Path.{_≡_, refl, sym, ap, _∙_}
 use mathlib.Core.Bool.{Bool, true, false}

@@ -1,7 +1,6 @@
 -- What is claimed of every two recordings, in words of their lines.
 --     Parted a b n d part    two recordings that share n lines part as d says, and the part is what d's recording has behind those lines
 --     PartClaim              that of every two, of what `compare` and `part` promise
--- Assumes nothing.
 use Prim.Native.Nat.{ℕ, _+_, _<_, _≤_}
 use mathlib.Core.Path.{_≡_}
 use mathlib.Core.List.{List, [], _∷_, _++_}

@@ -1,6 +1,5 @@
 -- Where two recordings part, by the cases of what is left of each behind the lines that they share.
 --     parted                 the claim
--- Assumes nothing.
 use Prim.Native.Nat.{ℕ, _+_, _-_, _<_, _≤_}
 use mathlib.Core.Path.{_≡_, refl, sym, ap, _∙_}
 use mathlib.Core.List.{List, [], _∷_, _++_}

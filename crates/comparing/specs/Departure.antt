@@ -7,7 +7,6 @@
 --     recordingOf side a b   the recording of a side
 --     partOf a b             the part: the lines of that recording behind those that are shared
 --     sideNumber side        the number of a side: 1 for the reference, 2 for the other
--- Assumes nothing.
 use Prim.Native.Nat.{ℕ, _+_}
 use mathlib.Core.List.{List, [], _∷_}
 use lib.ListN.{length, take, drop}
@@ -17,7 +16,6 @@ use Rattle.comparing.specs.declared.Side.{Side}
 use Rattle.comparing.specs.declared.Side.the-variants.{Reference, Other}
 use Rattle.comparing.specs.declared.Departure.{Departure}
 
--- how many lines from the front are the same in both
 abbrev pub sharedLines : List ℕ → List ℕ → ℕ
 sharedLines reference other = alike sameLine (linesOf reference) (linesOf other)
 
@@ -27,22 +25,18 @@ partedAt n at [] [] = record { side = Reference; place = at; line = 0 }
 partedAt n at [] (m ∷ ms) = record { side = Other; place = at; line = n + 1 }
 partedAt n at (l ∷ ls) ms = record { side = Reference; place = at; line = n + 1 }
 
--- which recording the part comes from, where it begins there, and the number of its first line
 unfoldable pub departureOf : List ℕ → List ℕ → Departure
 departureOf reference other =
     let n = sharedLines reference other in
     partedAt n (length (linesBytes (take n (linesOf reference)))) (drop n (linesOf reference)) (drop n (linesOf other))
 
--- the recording of a side
 abbrev pub recordingOf : Side → List ℕ → List ℕ → List ℕ
 recordingOf Reference reference other = reference
 recordingOf Other reference other = other
 
--- the part: the lines of that recording behind those that are shared
 abbrev pub partOf : List ℕ → List ℕ → List ℕ
 partOf reference other = linesBytes (drop (sharedLines reference other) (linesOf (recordingOf (departureOf reference other .side) reference other)))
 
--- the number of a side
 abbrev pub sideNumber : Side → ℕ
 sideNumber Reference = 1
 sideNumber Other = 2

@@ -1,6 +1,5 @@
 -- Two recordings walked line by line, and each way in which the walk can end, as the definition has it; where the part begins.
 --     Walked ..              the walk's invariant
--- Assumes nothing.
 use Prim.Native.Nat.{ℕ, suc, _+_, _-_, _<_, _≤_}
 use mathlib.Core.Path.{_≡_, refl, sym, ap, subst, _∙_}
 use mathlib.Core.Bool.{Bool, true, false, not, Bool·beq, _&&_}

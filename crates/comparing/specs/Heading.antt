@@ -2,7 +2,6 @@
 --     sideWord side n        the word of a side by its number; of equal recordings, whose line is 0, another word
 --     headingOf side n       the line
 --     Showable line part     bytes that a program may hand to its output: the line of two recordings, and then their part
--- Assumes nothing.
 use Prim.Native.Nat.{ℕ}
 use mathlib.Core.Path.{_≡_}
 use mathlib.Core.List.{List, [], _∷_}
@@ -14,7 +13,6 @@ use Rattle.text.specs.Putting.{line}
 use Rattle.comparing.specs.Departure.{departureOf, partOf, sideNumber}
 use Rattle.comparing.specs.declared.Side.the-variants.{Other}
 
--- the word of a side by its number, and that of equal recordings
 abbrev pub sideWord : ℕ → ℕ → List ℕ
 sideWord side n = if eqb n 0 then ascii "equal" else if eqb side (sideNumber Other) then ascii "other" else ascii "reference"
 
@@ -22,7 +20,6 @@ sideWord side n = if eqb n 0 then ascii "equal" else if eqb side (sideNumber Oth
 unfoldable pub headingOf : ℕ → ℕ → List ℕ
 headingOf side n = line (sideWord side n ∷ decimal n ∷ [])
 
--- bytes that a program may hand to its output
 pub data Showable (heading part : List ℕ) : Type 0 where
   of-two : (reference other : List ℕ) → heading ≡ headingOf (sideNumber (departureOf reference other .side)) (departureOf reference other .line)
       → part ≡ partOf reference other → Showable heading part

@@ -1,5 +1,4 @@
 -- The line is short, is the word and then the number, and is what a call leaves at the front of its buffer.
--- Assumes nothing.
 use Prim.Native.Nat.{ℕ, _<_, _≤_}
 use mathlib.Core.Path.{_≡_, ap, _∙_}
 use mathlib.Core.Bool.{Bool, true, false}

@@ -3,7 +3,6 @@
 --     crc-bytes-append, crc-byte-more     the CRC of bytes goes on where it stood
 --     crc-bit-lt, crc-lt, crc-bytes-lt    the register stays a byte
 --     crc-turn, crc-done, crc-byte-turn   the bits of a number, as a loop takes them one by one or by whole bytes
--- Assumes nothing.
 use Prim.Native.Nat.{ℕ, suc, _+_, _*_, _-_, _/_, _%_, _<_, _≤_}
 use mathlib.Core.Path.{_≡_, refl, sym, ap, _∙_}
 use mathlib.Core.Bool.{Bool, true, false, Bool·beq}

@@ -4,7 +4,6 @@
 --     crc-sum, crc-sum-zero       two strings, from any two registers, and from zero
 --     crc-merge                   the bits of a number go in as zeros do, from the register with the number added
 --     crc-own, crc-message        feeding the register its own value brings it to zero: a message followed by its CRC
--- Assumes nothing.
 use Prim.Native.Nat.{ℕ, zero, suc, _/_, _^_, _<_}
 use mathlib.Core.Path.{_≡_, refl, sym, ap, _∙_}
 use mathlib.Core.Bool.{Bool, true, false, Bool·beq}
@@ -91,7 +90,6 @@ xor-step-in : (r x : ℕ) → bitXor (crcBit r (odd x)) (x / 2) ≡ crcBit (bitX
 xor-step-in r x =
     ap (bitXor (crcBit r (odd x))) (sym (halved x)) ∙ sym (crc-bit-sum r x (odd x) (odd x)) ∙ ap (crcBit (bitXor r x)) (plus-self (odd x))
 
--- the bits of a number go in as zeros do, from the register with the number added
 pub crc-merge : (n r x : ℕ) → x < 2 ^ n → crcBits r (bitsOf n x) ≡ crcBits (bitXor r x) (bitsOf n 0)
 unfolding bitsOf
 crc-merge zero r x h = let e : x ≡ 0 = omega arith in rw e (ap (λ (y : ℕ). crcBits y []) (sym (xor-zero-r r)))

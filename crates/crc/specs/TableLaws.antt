@@ -1,7 +1,6 @@
 -- A byte by the table: register and byte count only by their exclusive or, from which eight zero bits follow. So a table needs one entry for each value that the exclusive or can have.
 --     entry-of           each entry of the table
 --     crc-by-table       the register after a byte is one entry
--- Assumes nothing.
 use Prim.Native.Nat.{ℕ, zero, suc, _+_, _<_}
 use mathlib.Core.Path.{_≡_, sym, ap, _∙_}
 use native.Mathlib.Nat.{add-zero, zero-add, add-suc, suc-add, le-of-suc-le-suc, not-suc-le-zero}

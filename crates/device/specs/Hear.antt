@@ -36,7 +36,6 @@ awaitRom = AwaitRom 0 0
 abbrev pub awaitFunction : Stage
 awaitFunction = AwaitFunction 0 0
 
--- after bit i of the code: at the next bit, or after the last one awaiting a function command
 abbrev pub afterBit : (ℕ → Stage) → ℕ → Stage
 afterBit at i = if ltb i 63 then at (i + 1) else if eqb i 63 then awaitFunction else Quiet
 

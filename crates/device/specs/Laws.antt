@@ -5,7 +5,6 @@
 --     quiet-..                  a quiet device stays as it is and leaves the line alone
 --     Fresh code power d        d as power finds it: laws `power-up-fresh` and `joined-fresh`
 --     conversion-.., copy-..    what these keep, and what the attempt to end them comes to
--- Assumes nothing.
 use Prim.Native.Nat.{ℕ}
 use mathlib.Core.Path.{_≡_, refl, sym, _∙_}
 use mathlib.Core.Logic.{_≢_}

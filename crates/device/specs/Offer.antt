@@ -31,7 +31,6 @@ searchSlot code i TakeBit = true
 abbrev pub nineBytes : List ℕ → List ℕ
 nineBytes pad = pad ++ (crcOf pad ∷ [])
 
--- bit j of byte k of the nine; 1 past their end
 unfoldable pub scratchpadSlot : List ℕ → ℕ → ℕ → Bool
 scratchpadSlot pad k j = bytesSlot (nineBytes pad) k j
 

@@ -1,5 +1,4 @@
 -- The nine bytes that a device sends, by their places.
--- Assumes nothing.
 use Prim.Native.Nat.{ℕ, _<_}
 use mathlib.Core.Path.{_≡_, _∙_}
 use native.Mathlib.Omega.{arith}

@@ -2,7 +2,6 @@
 --     Outcomes d P         P holds of each device that d can become in a slot
 --     hear-outcome         then it holds of the device that it does become
 -- A slot moves the stage, and no more; or it ends a function command, which a device that is not busy obeys; or it ends a byte of 4Eh.
--- Assumes nothing.
 use Prim.Native.Nat.{ℕ, _+_, _<_}
 use mathlib.Core.Path.{_≡_, refl}
 use mathlib.Core.Bool.{Bool, true, false}

@@ -1,5 +1,4 @@
 -- 4Eh takes at most three bytes.
--- Assumes nothing.
 use Prim.Native.Nat.{_≤_}
 use native.Mathlib.Omega.{arith}
 use mathlib.Core.Bool.{Bool, true, false}

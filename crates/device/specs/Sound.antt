@@ -3,7 +3,7 @@
 --     verdictOn page          whether a page is not empty and its reading is at or past a limit of the page
 --     PadSound row pad        what holds of a scratchpad
 --     Sound d                 what holds of a device
--- Laws: `joined-sound` for a new device, and one for each thing that can happen to a device. Assumes nothing.
+-- Laws: `joined-sound` for a new device, and one for each thing that can happen to a device.
 use Prim.Native.Nat.{ℕ}
 use mathlib.Core.Path.{_≡_}
 use mathlib.Core.Bool.{Bool, true, _&&_}

@@ -1,5 +1,4 @@
 -- Nothing that can happen to a device takes from it what `Sound` says: joining, power, a reset, a slot, the end of a conversion and of a copy.
--- Assumes nothing.
 use Prim.Native.Nat.{ℕ, _+_, _<_}
 use mathlib.Core.Path.{_≡_, refl, _∙_}
 use mathlib.Core.Bool.{Bool, true, false, _&&_}

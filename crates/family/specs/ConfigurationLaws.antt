@@ -1,5 +1,4 @@
 -- The stored form of B is the general one at 15; what is kept is as it is kept, and in form for a master, for every row and any pins.
--- Assumes nothing.
 use Prim.Native.Nat.{ℕ, _*_, _/_, _%_, _^_}
 use mathlib.Core.Path.{_≡_, refl, sym}
 use mathlib.Core.Bool.{Bool, true, false}

@@ -1,5 +1,4 @@
 -- Two lines of the scope's sample input and lines at the edges, read by the definitions.
--- Assumes nothing.
 use Prim.Native.Nat.{ℕ}
 use mathlib.Core.Path.{_≡_, refl}
 use mathlib.Core.Bool.{true, false}

@@ -3,15 +3,14 @@
 --     blankFrame p           a frame with no slot
 --     slotsOf f              the bits of its slots, in order
 --     slotBit f i            the bit of slot i, false at or past the count
---     bytesFor n             how many bytes n slots take
---     lineable f             whether a line can carry the frame
+--     bytesFor n             how many bytes n slots take, the last of them perhaps in part
+--     lineable f             whether a line can carry the frame: its count is allowed, and no bit is set at or past the count
 --     withBit x i b          a byte with bit i replaced
 --     pushed f b             the frame with one slot more; as it is when it has 512
---     slotsPushed f b        the slots so far and the new one
---     pushedAll f bs         the frame with several slots more
+--     slotsPushed f b        the slots so far and the new one; the slots as they are when there are 512
+--     pushedAll f bs         the frame with several slots more, one after the other
 --     Held f                 the frame is one that the program can hold
 --     Recorded bs f          the frame shows presence and just the slots bs, and a line can carry it
--- Assumes nothing.
 use Prim.Native.Nat.{ℕ, zero, suc, _+_, _/_}
 use mathlib.Core.Path.{_≡_}
 use mathlib.Core.Bool.{Bool, true, false, not, _&&_, _||_}
@@ -32,19 +31,15 @@ mostSlots = 512
 unfoldable pub noBits : List ℕ
 noBits = replicate 64 0
 
--- a frame with no slot
 abbrev pub blankFrame : Bool → Frame
 blankFrame p = record { presence = p; count = 0; bits = noBits }
 
--- the bits of its slots, in order
 abbrev pub slotsOf : Frame → List Bool
 slotsOf f = take (f .count) (bytesBits (f .bits))
 
--- the bit of slot i, false at or past the count
 abbrev pub slotBit : Frame → ℕ → Bool
 slotBit f i = getD (slotsOf f) i false
 
--- how many bytes n slots take, the last of them perhaps in part
 abbrev pub bytesFor : ℕ → ℕ
 bytesFor n = (n + 7) / 8
 
@@ -56,7 +51,6 @@ clearFrom n l = all not (drop n (bytesBits l))
 abbrev pub countAllowed : Bool → ℕ → Bool
 countAllowed p n = leb n mostSlots && (p || eqb n 0)
 
--- whether a line can carry the frame: its count is allowed, and no bit is set at or past the count
 abbrev pub lineable : Frame → Bool
 lineable f = countAllowed (f .presence) (f .count) && clearFrom (f .count) (f .bits)
 
@@ -66,7 +60,6 @@ packed zero bs = []
 packed (suc n) bs = numberOf (take 8 bs) ∷ packed n (drop 8 bs)
 
 -- the frame with one slot more: the bit whose number is the count is the new one, all others are as they were, and the count is one more; the frame
--- as it is when it has 512
 abbrev pub pushed : Frame → Bool → Frame
 pushed f b =
     if ltb (f .count) mostSlots then record {
@@ -75,20 +68,16 @@ pushed f b =
       bits = packed 64 (set (bytesBits (f .bits)) (f .count) b);
     } else f
 
--- the slots so far and the new one; the slots as they are when there are 512
 abbrev pub slotsPushed : Frame → Bool → List Bool
 slotsPushed f b = if ltb (f .count) mostSlots then slotsOf f ++ (b ∷ []) else slotsOf f
 
--- the frame with several slots more, one after the other
 abbrev pub pushedAll : Frame → List Bool → Frame
 pushedAll f bs = fold pushed f bs
 
--- the frame is one that the program can hold: 64 bytes
 pub record Held (f : Frame) : Type 0 where
   pub size : length (f .bits) ≡ 64
   pub bytes : Bytes (f .bits)
 
--- the frame shows presence and just the slots bs, and a line can carry it
 pub record Recorded (bs : List Bool) (f : Frame) : Type 0 where
   pub shown : f .presence ≡ true
   pub slots : slotsOf f ≡ bs
@@ -96,6 +85,5 @@ pub record Recorded (bs : List Bool) (f : Frame) : Type 0 where
   pub carried : lineable f ≡ true
   pub held : Held f
 
--- a byte with bit i replaced
 abbrev pub withBit : ℕ → ℕ → Bool → ℕ
 withBit x i b = numberOf (set (bitsOf 8 x) i b)

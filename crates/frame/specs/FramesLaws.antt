@@ -1,5 +1,4 @@
 -- The slots of a frame by their places, one slot more, bytes laid over a blank frame, and that slots recorded one after the other are the frame's slots.
--- Assumes nothing.
 use Prim.Native.Nat.{ℕ, zero, suc, _+_, _*_, _/_, _%_, _^_, _<_, _≤_, _-_}
 use mathlib.Core.Path.{_≡_, refl, sym, ap, _∙_}
 use mathlib.Core.Bool.{Bool, true, false, not, _&&_, or-true, and-true}

@@ -1,13 +1,12 @@
 -- What one line of a recording says, with the refusals 2 and 3 in the scope's order, and what the reader answers at a place. A line has two digits
 -- presence, four digits count, and the slots' bytes.
---     frameIn cs             the frame that digits spell
+--     frameIn cs             the frame that digits spell, its bytes filled up with zeros
 --     wellFormed cs          whether they have the form of a frame's line
 --     LineContent            what a line says: a frame, or the number with which it is refused
 --     readLine l             what a line says
 --     Found, foundAt s at    what stands at a place of a recording: a line and the place of the next, or nothing more
---     lineAnswerOf x             the fields of the reader's answer, case by case
+--     lineAnswerOf x         the fields of the reader's answer, case by case
 --     lineReadAt s at        the reader's answer at a place
--- Assumes nothing.
 use Prim.Native.Nat.{ℕ, _+_, _*_}
 use mathlib.Core.Bool.{Bool, true, false, _&&_}
 use mathlib.Core.List.{List, [], _∷_}
@@ -34,7 +33,6 @@ presenceIn cs = numberIn 16 (take 2 cs)
 abbrev pub slotCountIn : List ℕ → ℕ
 slotCountIn cs = numberIn 16 (take 4 (drop 2 cs))
 
--- the frame that digits spell, its bytes filled up with zeros
 abbrev pub frameIn : List ℕ → Frame
 frameIn cs = record { presence = eqb (presenceIn cs) 1; count = slotCountIn cs; bits = laid noBits 0 (bytesOf (drop 6 cs)) }
 
@@ -42,7 +40,6 @@ frameIn cs = record { presence = eqb (presenceIn cs) 1; count = slotCountIn cs; 
 abbrev pub wellFormed : List ℕ → Bool
 wellFormed cs = leb (presenceIn cs) 1 && eqb (length cs) (6 + 2 * bytesFor (slotCountIn cs)) && lineable (frameIn cs)
 
--- what a line says: a frame, or the number with which it is refused
 pub data LineContent : Type 0 where
   carries : Frame → LineContent
   noFrame : ℕ → LineContent
@@ -60,7 +57,6 @@ readLine l =
 
 -- ## The reader's answer
 
--- what stands at a place: a line, with the place of the next, or nothing more
 pub data Found : Type 0 where
   found : LineContent → ℕ → Found
   done : ℕ → Found
@@ -80,7 +76,6 @@ firstFound at (l ∷ ls) = found (readLine l) (at + width l)
 abbrev pub foundAt : List ℕ → ℕ → Found
 foundAt s at = firstFound at (linesOf (drop at s))
 
--- the reader's answer at a place
 abbrev pub lineReadAt : List ℕ → ℕ → LineRead
 lineReadAt s at = lineAnswerOf (foundAt s at)
 

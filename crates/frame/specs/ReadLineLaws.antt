@@ -1,5 +1,4 @@
 -- Each way in which a line is refused, as the reader meets it, and what an accepted line tells.
--- Assumes nothing.
 use Prim.Native.Nat.{ℕ, _+_, _*_, _<_, _≤_}
 use mathlib.Core.Path.{_≡_, refl, _∙_}
 use mathlib.Core.Bool.{Bool, true, false, _&&_, _||_, and-false}

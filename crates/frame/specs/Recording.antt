@@ -5,7 +5,6 @@
 --     writeCalls s at fs     the slice after writing frames one after the other, each at the place that the call before it answered
 --     readCalls n s at       the answers of reads, each at the next place of the one before, until done; n at most
 --     shownFrom at fs        the answers that show frames, line after line from a place on, and then done
--- Assumes nothing.
 use Prim.Native.Nat.{ℕ, zero, suc, _+_}
 use mathlib.Core.Path.{_≡_}
 use mathlib.Core.Bool.{true}
@@ -19,33 +18,27 @@ use Rattle.frame.specs.Frames.{lineable, Held}
 use Rattle.frame.specs.ReadLine.{LineContent, carries, readLine, found, done, lineAnswerOf, lineReadAt}
 use Rattle.frame.specs.Writing.{fedLine, lineWriteAnswer, lineWriteLeaves}
 
--- what each line says, in order
 abbrev pub readAll : List ℕ → List LineContent
 readAll s = map readLine (linesOf s)
 
--- the lines of frames, one after the other, each with its feed
 unfoldable pub writeAll : List Frame → List ℕ
 writeAll [] = []
 writeAll (f ∷ fs) = fedLine f ++ writeAll fs
 
--- each of the frames is one that the program can hold and a line can carry
 pub data Writable : List Frame → Type 0 where
   none : Writable []
   one : {f : Frame} {fs : List Frame} → Held f → lineable f ≡ true → Writable fs → Writable (f ∷ fs)
 
 -- ## Call after call
 
--- the slice after writing frames one after the other, each at the place that the call before it answered
 unfoldable pub writeCalls : List ℕ → ℕ → List Frame → List ℕ
 writeCalls s at [] = s
 writeCalls s at (f ∷ fs) = writeCalls (lineWriteLeaves s at f) (lineWriteAnswer s at f .next) fs
 
--- the answers of reads, each at the next place of the one before, until done; n at most
 unfoldable pub readCalls : ℕ → List ℕ → ℕ → List LineRead
 readCalls zero s at = []
 readCalls (suc n) s at = lineReadAt s at ∷ (if lineReadAt s at .done then [] else readCalls n s (lineReadAt s at .next))
 
--- the answers that show frames, line after line from a place on, and then done
 unfoldable pub shownFrom : ℕ → List Frame → List LineRead
 shownFrom at [] = lineAnswerOf (done at) ∷ []
 shownFrom at (f ∷ fs) = lineAnswerOf (found (carries f) (at + length (fedLine f))) ∷ shownFrom (at + length (fedLine f)) fs

@@ -1,10 +1,9 @@
 -- The two round trips of a whole recording: written, then read; and read, then written. The same of calls that write and read it line by line.
---     read-back              frames written one after another are read back as the same frames
+--     read-back              frames written one after another are read back as the same frames, and then there is nothing more
 --     write-append           the recording of frames and of more frames
 --     write-back             a recording of which every line is accepted, written back, is the same bytes
 --     write-calls            lines written by successive calls are the recording of those frames, and nothing else of the slice changes
 --     read-calls             successive reads of such a recording give those frames and then done
--- Assumes nothing.
 use Prim.Native.Nat.{ℕ, zero, suc, _+_, _-_, _<_, _≤_}
 use mathlib.Core.Path.{_≡_, refl, sym, ap, _∙_}
 use mathlib.Core.Bool.{Bool, true, false}
@@ -27,7 +26,6 @@ use Rattle.frame.specs.Writing.{charactersOf, fedLine}
 use Rattle.frame.specs.WritingLaws.{line-digits, read-written, written-read}
 use Rattle.frame.specs.Recording.{readAll, writeAll, Writable, none, one, writeCalls, readCalls, shownFrom}
 
--- the lines of frames and of more frames
 pub write-append : (fs gs : List Frame) → writeAll (fs ++ gs) ≡ writeAll fs ++ writeAll gs
 unfolding writeAll
 write-append [] gs = refl
@@ -35,7 +33,6 @@ write-append (f ∷ fs) gs = ap (λ (t : List ℕ). fedLine f ++ t) (write-appen
 
 -- ## Written, then read
 
--- frames written one after another are read back as the same frames, and then there is nothing more
 pub read-back : {fs : List Frame} → Writable fs → readAll (writeAll fs) ≡ map carries fs
 unfolding writeAll linesOf
 read-back none = refl
@@ -55,7 +52,6 @@ lines-back (l ∷ ls) (f ∷ fs) h =
     let c = written-read l f a in
     rw (c .ended, c .same, lines-back ls fs b)
 
--- a recording of which every line is accepted, written back frame by frame, is the same bytes
 pub write-back : (s : List ℕ) (fs : List Frame) → readAll s ≡ map carries fs → writeAll fs ≡ s
 write-back s fs h = lines-back (linesOf s) fs h ∙ lines-bytes s
 
@@ -93,7 +89,6 @@ module _ (s : List ℕ) (at : ℕ) where
 
 -- ## Call after call
 
--- lines written by successive calls into a slice with room are the recording of those frames, and nothing else of the slice changes
 pub write-calls : {fs : List Frame} → Writable fs → (s : List ℕ) (at : ℕ) → at + length (writeAll fs) ≤ length s → writeCalls s at fs ≡ laid s at (writeAll fs)
 unfolding writeCalls writeAll
 write-calls none s at h = laid-none s at
@@ -130,7 +125,6 @@ reads-from (one {f} {fs} held sound rest) (suc n) s at few within here =
     let next : drop (at + length x) s ≡ writeAll fs = sym (drop-drop (length x) at s) ∙ ap (drop (length x)) here ∙ drop-at x (writeAll fs) (length x) refl in
     rw (line-found f s (writeAll fs) at (read-written f held sound) here, reads-from rest n s (at + length x) (omega arith) (omega arith) next)
 
--- successive reads of the recording of frames give those frames and then done
 pub read-calls : {fs : List Frame} → Writable fs → readCalls (suc (length fs)) (writeAll fs) 0 ≡ shownFrom 0 fs
 read-calls {fs} w = reads-from w (suc (length fs)) (writeAll fs) 0 (omega arith) (omega arith) refl
 

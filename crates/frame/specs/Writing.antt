@@ -3,7 +3,6 @@
 --     fedLine f              the line with its feed
 --     lineWriteAnswer s at f a refusal, or the place behind the line
 --     lineWriteLeaves s at f what is left of the slice: the line laid at the place, or all as it was on a refusal
--- Assumes nothing.
 use Prim.Native.Nat.{ℕ}
 use mathlib.Core.Bool.{Bool}
 use mathlib.Core.List.{List, [], _∷_, _++_}
@@ -26,11 +25,9 @@ headOf p n = hexDigits 2 (bitNumber p) ++ hexDigits 4 n
 abbrev pub slotBytes : Frame → List ℕ
 slotBytes f = take (bytesFor (f .count)) (f .bits)
 
--- the characters of a frame's line
 unfoldable pub charactersOf : Frame → List ℕ
 charactersOf f = headOf (f .presence) (f .count) ++ hexOf (slotBytes f)
 
--- the line with its feed
 abbrev pub fedLine : Frame → List ℕ
 fedLine f = charactersOf f ++ (lineFeed ∷ [])
 

@@ -1,5 +1,4 @@
 -- The shape of a frame's line, and the two round trips of one line: a written line is read as its frame, and an accepted line is written as it was.
--- Assumes nothing.
 use Prim.Native.Nat.{ℕ, _+_, _*_, _^_, _<_, _≤_}
 use mathlib.Core.Path.{_≡_, refl, sym, ap, _∙_}
 use mathlib.Core.Bool.{Bool, true, false, _&&_, _||_}

@@ -3,7 +3,6 @@
 --     bench-is-sound     at most 32 devices, codes sound and different, configurations in stored form, readings in range
 --     flags-are          a device's flag is set exactly where its page in the book has the verdict
 --     search-again       a search right after a search lists the same codes, and an alarm search right after an alarm search
--- Assumes nothing.
 use Prim.Native.Nat.{ℕ, _<_, _≤_}
 use mathlib.Core.Bool.{true}
 use mathlib.Core.List.{List, [], _∷_, map}

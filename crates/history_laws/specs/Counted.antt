@@ -1,6 +1,5 @@
 -- The numbers of a search by its frames: each pass is one frame with presence, with as many slots as the line showed bits, and a line of known length.
 --     frames-counted      passes, slots and bytes of frames that all have n slots
--- Assumes nothing.
 use Prim.Native.Nat.{ℕ, _+_, _*_, _≤_}
 use mathlib.Core.Bool.{Bool, true}
 use mathlib.Core.List.{List, [], _∷_, map}

@@ -2,7 +2,6 @@
 -- makes is refused, for no slot of a search makes a device busy.
 --     issued-passes      the frames and the bench of the passes of some codes
 --     granted-passes, granted-unheard, granted-reset      none of them is refused
--- Assumes nothing.
 use Prim.Native.Nat.{ℕ}
 use mathlib.Core.Bool.{true}
 use mathlib.Core.List.{List, [], _∷_, map}

@@ -1,7 +1,6 @@
 -- What every slot and every reset keeps, the master's calls keep: they make resets and slots, and nothing else, whether they are refused or not.
 --     read-keeps, write-keeps, outcome-keeps, pins-keep
 --     written-keeps      and so does the sending of settings
--- Assumes nothing.
 use Prim.Native.Nat.{ℕ}
 use mathlib.Core.Bool.{Bool, true, false, not, _&&_, _||_}
 use lib.Dec.{eqb, ltb}

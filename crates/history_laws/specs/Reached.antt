@@ -2,7 +2,6 @@
 -- every call that only makes resets and slots does; each other call does to codes and pages what its entry says.
 --     Reached l         the invariant of a ledger
 --     reached-after     it holds after every history
--- Assumes nothing.
 use Prim.Native.Nat.{ℕ, zero, suc, _^_, _<_}
 use mathlib.Core.Bool.{Bool}
 use mathlib.Core.List.{List, [], _∷_, _++_, map}

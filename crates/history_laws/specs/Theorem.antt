@@ -1,7 +1,6 @@
 -- Demand 3 holds: `demand-3`. After every history the codes on the bench are those added, and the flags are the verdicts of the book's pages (`reached-after`);
 -- on a bench where nobody holds the wire the search by calls is the search on a wire, which lists everybody who takes part; and by what was issued its frames
 -- and its bench are those of the passes of the listed codes.
--- Assumes nothing.
 use Prim.Native.Nat.{ℕ, suc, _*_, _<_, _≤_}
 use mathlib.Core.Bool.{Bool, true, false, true≢false, false≢true}
 use mathlib.Core.List.{List, [], _∷_, map}

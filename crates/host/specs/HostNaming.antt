@@ -6,7 +6,6 @@
 --     lineTold l ended next         what the line comes to
 --     nextAnswer, nextLeaves        what a call answers, and the buffer of the unfinished line after it
 --     lentAnswer, lentLeaves        the same for a buffer of any length: refusal 1 where it is too short
--- Assumes nothing.
 use Prim.Native.Nat.{ℕ, _+_, min}
 use mathlib.Core.Bool.{Bool, false, not, _&&_}
 use mathlib.Core.List.{List, _++_}

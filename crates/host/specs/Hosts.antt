@@ -3,7 +3,6 @@
 --     lineNumbers l                      what is told of a line, as three numbers: its kind, its code and its raw reading
 --     hears n line held bytes at cs      what the host hears in so many calls, name after name: `bytes` is the piece in hand and cs are those to come
 --     HostClaim                          whatever the pieces, it hears what is told of the lines of the whole recording
--- Assumes nothing.
 use Prim.Native.Nat.{ℕ, zero, suc, _+_, _<_, _≤_}
 use mathlib.Core.Path.{_≡_}
 use mathlib.Core.Bool.{true, false}

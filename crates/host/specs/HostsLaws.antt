@@ -1,6 +1,5 @@
 -- What a host hears of a recording that it hands over in pieces: one call after another, by what is left of the recording.
 --     hears-whole            the theorem, of `HostClaim`
--- Assumes nothing.
 use Prim.Native.Nat.{ℕ, zero, suc, _+_, _<_, _≤_}
 use mathlib.Core.Path.{_≡_, refl, sym, ap, _∙_}
 use mathlib.Core.Bool.{Bool, true, false, _&&_}

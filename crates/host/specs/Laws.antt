@@ -1,6 +1,5 @@
 -- Laws that the proofs of the calls rest on: what is held of a line tells what the line comes to; where characters are laid behind those that are held;
 -- and each way in which a call can end, as its definition has it.
--- Assumes nothing.
 use Prim.Native.Nat.{ℕ, _+_, _-_, _<_, _≤_, min}
 use mathlib.Core.Path.{_≡_, refl, sym, ap, _∙_}
 use mathlib.Core.Bool.{Bool, true, false, _&&_}

@@ -9,7 +9,6 @@
 --     threeBytesIn h l c     three bytes: high limit, low limit, configuration
 --     powerIn w              line or external
 -- Decimal numbers have one to five digits; zeros in front are taken.
--- Assumes nothing.
 use Prim.Native.Nat.{ℕ}
 use mathlib.Core.Bool.{_&&_, _||_}
 use mathlib.Core.List.{List}

@@ -1,5 +1,4 @@
 -- The bound of the numbers that a field of two digits holds.
--- Assumes nothing.
 use Prim.Native.Nat.{ℕ, _<_}
 use mathlib.Core.List.{List}
 use lib.Dec.{lit<}

@@ -45,7 +45,6 @@ refusedAt n b = record {
   bench = b;
 }
 
--- 55h, the code, and the function command
 unfoldable pub addressed : ℕ → ℕ → Bench → Bench
 addressed code command b = sent 8 command (sent 64 code (sent 8 matchRom b))
 
@@ -80,7 +79,6 @@ onPresence r go = if r .presence then go (r .bench) else refusedAt noPresence (r
 unfoldable pub readBack : ℕ → Bench → Access
 readBack code b = onPresence (resetDone b) (fetched code)
 
--- the tests before anything is sent
 unfoldable pub admission : Bench → ℕ → ℕ
 admission b code =
     if not (eqb (codeRefusal code) accepted) then codeRefusal code

@@ -1,5 +1,4 @@
 -- The tests before a read or a write sends anything, in their order: the given code first, whatever the wire does, then the wire. What they refuse sends nothing.
--- Assumes nothing.
 use Prim.Native.Nat.{ℕ}
 use mathlib.Core.Bool.{false}
 use mathlib.Core.Logic.{_≢_}

@@ -1,10 +1,9 @@
 -- The course of a search: what holds of every device at every slot of it, and what follows for a bus that may refuse. Where a bus does in each slot of
 -- a search what another does, the two make the same search, `search-same`: so calls that refuse while the wire is held make the search of a wire that
 -- is never held, if nothing in the course of a search holds it.
---     AtEach M P bs d     P holds of d, which offers 1, at each of the bits bs that it hears
---     Course Z P          P holds of every device at every slot of a search
---     Throughout B Q offers ds     Q holds of the bus at every slot of a run; `pass-runs` and `unheard-runs` say it of the runs that a search makes
--- Assumes nothing.
+--     AtEach M P bs d           P holds of d, which offers 1, at each of the bits bs that it hears
+--     Course Z P                P holds of every device at every slot of a search
+--     Throughout B Q offers ds  Q holds of the bus at every slot of a run; `pass-runs` and `unheard-runs` say it of the runs that a search makes
 use mathlib.Core.Path.{_≡_, refl, _∙_}
 use mathlib.Core.Bool.{Bool, true, false, _&&_, cond, and-true}
 use mathlib.Core.Option.{Option, none, some}

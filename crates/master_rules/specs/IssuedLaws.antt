@@ -1,5 +1,4 @@
 -- Presence stays as it is, and what is not refused: a run of slots throughout which nobody holds the wire.
--- Assumes nothing.
 use mathlib.Core.Bool.{Bool}
 use mathlib.Core.List.{List, [], _∷_}
 use mathlib.Core.Path.{_≡_, ap, _∙_}

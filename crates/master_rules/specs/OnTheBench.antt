@@ -1,20 +1,19 @@
 -- A search on the bench (the scope, "The master" and demand 3), by F0h for all devices and by ECh for those whose flag is set. Its slots and resets
 -- are the bench's calls, which are refused while a line-powered device is busy; on a bench where none is, none of them is refused in the whole
 -- search, `search-calls`, so that the laws of a wire that is never held apply.
---     slotRule             the bench as a bus: each slot and reset as it goes where it is not refused
---     calls            the same by the calls themselves, which may refuse
---     searchOn fuel b, alarmSearchOn fuel b     the two searches
---     flaggedCodes b     the codes of the devices whose flag is set, in the order of the devices
+--     slotRule                               the bench as a bus: each slot and reset as it goes where it is not refused
+--     calls                                  the same by the calls themselves, which may refuse
+--     searchOn fuel b, alarmSearchOn fuel b  the two searches
+--     flaggedCodes b                         the codes of the devices whose flag is set, in the order of the devices
 -- Laws `search-..` are of F0h, laws `alarm-..` of ECh:
---     ..-calls       on a bench that is free the calls make the search of the wire
---     ..-listed      each code is listed once, in order
---     ..-complete    as many passes as codes, each of 200 slots, and what each shows
---     ..-passes      the search is the passes of these codes, slot by slot
+--     ..-calls                               on a bench that is free the calls make the search of the wire
+--     ..-listed                              each code is listed once, in order
+--     ..-complete                            as many passes as codes, each of 200 slots, and what each shows
+--     ..-passes                              the search is the passes of these codes, slot by slot
 --     same-but-stage, same-free, restarted-keeps    what goes by the devices without their stages, which a reset keeps
---     alarm-none     where no flag is set: one pass, of the command and two reads
---     ..-keeps       no device changes but for its stage
---     ..-free, ..-codes, ..-sound     whether the wire is free, who takes part and what holds of every bench: as before
--- Assumes nothing.
+--     alarm-none                             where no flag is set: one pass, of the command and two reads
+--     ..-keeps                               no device changes but for its stage
+--     ..-free, ..-codes, ..-sound            whether the wire is free, who takes part and what holds of every bench: as before
 use Prim.Native.Nat.{ℕ, suc, _^_, _<_, _≤_}
 use mathlib.Core.Path.{_≡_, refl, sym, ap, _∙_}
 use mathlib.Core.Logic.{_≢_}

@@ -1,14 +1,14 @@
 -- The address pins of the probes that have them (document 02, E5): a search, then a read at each code whose family has pins, in the order of the search. A pin number is what the wire gave.
---     isPinned code          whether the code's family has address pins
---     pinsShown pad          the pins in a scratchpad: the low four bits of its configuration
---     PinsFound              the codes that were read, their pins, and the bench
---     pinsStep f code        a code of the search: a read where its family has pins; a reply that is refused adds nothing
---     havePin pins p         how many have a pin number
---     sharedPin pins         the lowest pin number that two have, or none
---     PinsOutcome            what the call comes to
---     pinsOutcome b places   the call on bench b with a list of so many places: 1 for fewer than 32, then 10
---     pinnedOf, pinsListAfter      what the caller gets: the numbers, and the list
--- No reset follows the last read, nor the search where no such probe is there. Assumes nothing.
+--     isPinned code            whether the code's family has address pins
+--     pinsShown pad            the pins in a scratchpad: the low four bits of its configuration
+--     PinsFound                the codes that were read, their pins, and the bench
+--     pinsStep f code          a code of the search: a read where its family has pins; a reply that is refused adds nothing
+--     havePin pins p           how many have a pin number
+--     sharedPin pins           the lowest pin number that two have, or none
+--     PinsOutcome              what the call comes to
+--     pinsOutcome b places     the call on bench b with a list of so many places: 1 for fewer than 32, then 10
+--     pinnedOf, pinsListAfter  what the caller gets: the numbers, and the list
+-- No reset follows the last read, nor the search where no such probe is there.
 use Prim.Native.Nat.{ℕ, zero, suc, _+_, _%_}
 use mathlib.Core.Bool.{Bool}
 use mathlib.Core.List.{List, [], _∷_, _++_}

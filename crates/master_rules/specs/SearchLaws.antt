@@ -1,6 +1,5 @@
 -- The ways a search can end, in the order of their tests: a list or a recording that is too short is refused whatever the wire does, a held wire is refused whoever
 -- is on the bench, and with nobody there is no pass.
--- Assumes nothing.
 use Prim.Native.Nat.{ℕ, _<_, _≤_}
 use mathlib.Core.Bool.{Bool, true, false, or-true}
 use mathlib.Core.List.{List}

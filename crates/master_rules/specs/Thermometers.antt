@@ -1,10 +1,9 @@
 -- The thermometers as a search sees them (the scope, "One slot", F0h and ECh): one by one they meet the laws that a search asks of a device, for F0h
 -- all of them, for ECh those whose flag is set; and in the course of a search nothing of a device changes but its stage.
---     thermometers     what a device offers, what it becomes in a slot and at a reset
---     searchBits, alarmBits     the command as the line shows it
---     everybody, flagged        the laws for either command
---     unstaged d       the device without its stage: code, power, activity, stored bytes, flag and page
--- Assumes nothing.
+--     thermometers           what a device offers, what it becomes in a slot and at a reset
+--     searchBits, alarmBits  the command as the line shows it
+--     everybody, flagged     the laws for either command
+--     unstaged d             the device without its stage: code, power, activity, stored bytes, flag and page
 use Prim.Native.Nat.{ℕ, suc, _<_}
 use mathlib.Core.Path.{_≡_, refl, ap, _∙_}
 use mathlib.Core.Bool.{Bool, true, false, not, cond, Bool·beq}

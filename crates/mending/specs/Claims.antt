@@ -2,9 +2,8 @@
 --     leftOf ls              the lines that are written for lines, in order
 --     MendedSound s          the claim of one text
 --     MendingClaim           that of every text
---     mostHeldOfMending            as many characters of an unfinished line as tell that it is over-long
+--     mostHeldOfMending      as many characters of an unfinished line as tell that it is over-long
 --     CutsClaim              that of every text cut anywhere
--- Assumes nothing.
 use Prim.Native.Nat.{ℕ, _≤_}
 use mathlib.Core.Path.{_≡_}
 use mathlib.Core.List.{List, [], _∷_, _++_}
@@ -15,7 +14,6 @@ use Rattle.text.specs.Lines.{Line, linesOf}
 use Rattle.pieces.specs.Pieces.{pieces, together}
 use Rattle.mending.specs.Mending.{lineRefusal, reportByte, linesLeft, mendedBytes, mendedText, reports}
 
--- the lines that are written for lines, in order
 unfoldable pub leftOf : List Line → List Line
 leftOf [] = []
 leftOf (l ∷ ls) = linesLeft l ++ leftOf ls
@@ -34,7 +32,6 @@ pub record MendedSound (s : List ℕ) : Type 0 where
 abbrev pub MendingClaim : Type 0
 MendingClaim = (s : List ℕ) → MendedSound s
 
--- as many characters of an unfinished line as tell that it is over-long
 abbrev pub mostHeldOfMending : ℕ
 mostHeldOfMending = 257
 

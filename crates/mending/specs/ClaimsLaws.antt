@@ -1,7 +1,6 @@
 -- Every line that is written reads, so that mending it again keeps it; and 257 characters tell what becomes of a line.
 --     mending-sound          the claim of every text
 --     mending-cuts           the claim of every text cut anywhere
--- Assumes nothing.
 use Prim.Native.Nat.{ℕ, _+_, _<_, _≤_}
 use mathlib.Core.Path.{_≡_, refl, sym, ap, _∙_}
 use mathlib.Core.Bool.{Bool, true, false, not}

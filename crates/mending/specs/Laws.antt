@@ -1,6 +1,5 @@
 -- The walk over the lines that have their feed is two walks of `pieces`, one of the text and one of the report.
---     Through s p            how far those lines go
--- Assumes nothing.
+--     Through s p            how far the lines that have their feed go
 use Prim.Native.Nat.{ℕ, _+_, _-_, _<_, _≤_}
 use mathlib.Core.Path.{_≡_, refl, sym, ap, _∙_}
 use mathlib.Core.Bool.{Bool, true, false, and-false}
@@ -30,7 +29,6 @@ use Rattle.mending.specs.declared.texts.PieceMended.{PieceMended}
 use Rattle.mending.specs.declared.texts.TextMended.{TextMended}
 use Rattle.mending.specs.MendingText.{textRoom, textAnswer, textWritten, textReported, TextWithin, pieceAnswer, pieceKept, pieceWritten, pieceReported, PieceWithin}
 
--- how far the lines that have their feed go
 pub record Through (s : List ℕ) (p : LinesMended) : Type 0 where
   pub text : Told mendedBytes 1 s record { written = p .written; next = p .next }
   pub noted : Told reportSaid 1 s record { written = p .lines; next = p .next }

@@ -1,5 +1,4 @@
 -- What becomes of a line, by its length, its feed, and how it reads once mended: a line that reads is not altered, so that it is enough to read it mended.
--- Assumes nothing.
 use Prim.Native.Nat.{ℕ, _+_, _<_, _≤_}
 use mathlib.Core.Path.{_≡_, refl, sym, ap, _∙_}
 use mathlib.Core.Bool.{Bool, true, false}

@@ -1,18 +1,17 @@
 -- Mending of a recording that went through an editor (document 02, E8): three things, in this order. A line that reads as it stands is kept, one that reads
 -- once mended is written so, any other is dropped. Reading gives only the refusals 2 and 3.
---     raised c               a to f raised to A to F; any other character as it is
---     unreturned cs          without one carriage return at the end
---     unspaced cs            without the spaces at the end
---     mendedChars cs         the three, one after the other
---     alteredBy cs           the sum of 1, 2 and 4 for those of the three that altered the line
---     lineRefusal l          the number with which a line is refused; 0 for one that reads
---     Fate, fateOf l   what becomes of a line
---     reportByte l           the report on a line: 0 kept, 16 and more mended, 32 and more dropped
---     linesLeft l            the line that is written: one or none
---     mendedBytes l          its bytes
---     lineMended l out at    what a call on a line answers
---     mendedText s, reports s        what is written for a whole text, and the report of each of its lines
--- Assumes nothing.
+--     raised c                 a to f raised to A to F; any other character as it is
+--     unreturned cs            without one carriage return at the end
+--     unspaced cs              without the spaces at the end
+--     mendedChars cs           the three, one after the other
+--     alteredBy cs             the sum of 1, 2 and 4 for those of the three that altered the line
+--     lineRefusal l            the number with which a line is refused; 0 for one that reads
+--     Fate, fateOf l           what becomes of a line
+--     reportByte l             the report on a line: 0 kept, 16 and more mended, 32 and more dropped
+--     linesLeft l              the line that is written: one or none
+--     mendedBytes l            its bytes
+--     lineMended l out at      what a call on a line answers
+--     mendedText s, reports s  what is written for a whole text, and the report of each of its lines
 use Prim.Native.Nat.{ℕ, _+_, _-_}
 use mathlib.Core.Bool.{Bool, not, _&&_}
 use mathlib.Core.List.{List, [], _∷_, map}
@@ -30,23 +29,19 @@ use Rattle.mending.specs.declared.LineMended.{LineMended}
 
 -- ## The three things
 
--- a to f raised to A to F
 abbrev pub raised : ℕ → ℕ
 raised c = if leb 0x61 c && leb c 0x66 then c - 0x20 else c
 
--- without one carriage return at the end
 abbrev pub unreturned : List ℕ → List ℕ
 unreturned cs = if eqb (getD cs (length cs - 1) 0) carriageReturn then take (length cs - 1) cs else cs
 
 abbrev pub isSpace : ℕ → Bool
 isSpace c = eqb c space
 
--- without the spaces at the end
 unfoldable pub unspaced : List ℕ → List ℕ
 unspaced [] = []
 unspaced (c ∷ cs) = if all isSpace (c ∷ cs) then [] else c ∷ unspaced cs
 
--- the three, one after the other
 abbrev pub mendedChars : List ℕ → List ℕ
 mendedChars cs = unspaced (unreturned (map raised cs))
 
@@ -54,7 +49,6 @@ mendedChars cs = unspaced (unreturned (map raised cs))
 abbrev pub stepMark : ℕ → List ℕ → List ℕ → ℕ
 stepMark step before after = if same before after then 0 else step
 
--- the sum of the numbers of those that altered the line
 abbrev pub alteredBy : List ℕ → ℕ
 alteredBy cs =
     stepMark 1 cs (map raised cs) + stepMark 2 (map raised cs) (unreturned (map raised cs)) + stepMark 4 (unreturned (map raised cs)) (mendedChars cs)
@@ -65,7 +59,6 @@ abbrev pub contentRefusal : LineContent → ℕ
 contentRefusal (carries f) = accepted
 contentRefusal (noFrame n) = n
 
--- the number with which a line is refused; 0 for one that reads
 abbrev pub lineRefusal : Line → ℕ
 lineRefusal l = contentRefusal (readLine l)
 
@@ -98,7 +91,6 @@ fateByte kept = 0
 fateByte (mended by) = 16 + by
 fateByte (dropped n) = 32 + n
 
--- the report on a line
 abbrev pub reportByte : Line → ℕ
 reportByte l = fateByte (fateOf l)
 
@@ -108,11 +100,9 @@ left l kept = l ∷ []
 left l (mended by) = mendedLine l ∷ []
 left l (dropped n) = []
 
--- the line that is written: one or none
 abbrev pub linesLeft : Line → List Line
 linesLeft l = left l (fateOf l)
 
--- its bytes
 abbrev pub mendedBytes : Line → List ℕ
 mendedBytes l = linesBytes (linesLeft l)
 

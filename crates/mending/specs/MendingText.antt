@@ -4,7 +4,6 @@
 --     textAnswer, textWritten, textReported              of a whole text: the answer, the output, the report
 --     pieceAnswer, pieceKept, pieceWritten, pieceReported        of a piece: the answer, its own buffer, the output, the report
 --     TextWithin, PieceWithin                            that what is answered is within the buffers
--- Assumes nothing.
 use Prim.Native.Nat.{ℕ, _≤_}
 use mathlib.Core.Bool.{Bool, _&&_}
 use mathlib.Core.List.{List}

@@ -1,10 +1,9 @@
 -- The line `N BYTE` that tells what became of a line that was not kept: its number, and the byte of its report, both in plain decimal.
---     noticeLine n b         the two fields
---     noticeOf n b           the line; nothing for a line that was kept, whose byte is 0
---     noticesOf n bs         what is told of lines by their bytes, one after the other, behind n lines before them
---     noticesAnswer, noticesLeaves       what a call on a report answers and leaves; refused with 1 unless the buffer has 25 bytes for each line
---     Tellable n bs t        bytes that a program may hand out for them
--- Assumes nothing.
+--     noticeLine n b                the two fields
+--     noticeOf n b                  the line; nothing for a line that was kept, whose byte is 0
+--     noticesOf n bs                what is told of lines by their bytes, one after the other, behind n lines before them
+--     noticesAnswer, noticesLeaves  what a call on a report answers and leaves; refused with 1 unless the buffer has 25 bytes for each line
+--     Tellable n bs t               bytes that a program may hand out for them
 use Prim.Native.Nat.{ℕ, _+_, _/_, _%_, _^_}
 use mathlib.Core.Path.{_≡_}
 use mathlib.Core.Bool.{Bool}
@@ -18,11 +17,9 @@ use Rattle.text.specs.Decimal.{decimal}
 use Rattle.text.specs.Putting.{line}
 use Rattle.mending.specs.declared.answers.Noticed.{Noticed}
 
--- the two fields
 unfoldable pub noticeLine : ℕ → ℕ → List ℕ
 noticeLine n b = line (decimal n ∷ decimal b ∷ [])
 
--- the line; nothing for a line that was kept
 abbrev pub noticeOf : ℕ → ℕ → List ℕ
 noticeOf n b = if eqb b 0 then [] else noticeLine n b
 
@@ -32,7 +29,6 @@ noticeOf n b = if eqb b 0 then [] else noticeLine n b
 abbrev pub lineNumber : ℕ → ℕ
 lineNumber n = (n + 1) % 2 ^ 64
 
--- what is told of lines by their bytes, behind n lines before them
 unfoldable pub noticesOf : ℕ → List ℕ → List ℕ
 noticesOf n [] = []
 noticesOf n (b ∷ bs) = noticeOf (lineNumber n) b ++ noticesOf (n + 1) bs

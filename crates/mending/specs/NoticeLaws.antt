@@ -1,5 +1,4 @@
 -- The line is short, and is the two fields; nothing is laid for a line that was kept.
--- Assumes nothing.
 use Prim.Native.Nat.{ℕ, _^_, _<_, _≤_}
 use mathlib.Core.Path.{_≡_, refl, ap, _∙_}
 use mathlib.Core.Bool.{Bool, true, false}

@@ -1,7 +1,6 @@
 -- What is told of the lines of a report, line by line as a loop lays it, and of a report in two parts.
 --     notices-append         what is told of two parts of a report, one after the other, is what is told of the whole
 --     notices-wrap           the lines before may be counted in 64 bits
--- Assumes nothing.
 use Prim.Native.Nat.{ℕ, suc, _+_, _*_, _/_, _%_, _^_, _<_, _≤_}
 use mathlib.Core.Path.{_≡_, refl, sym, ap, _∙_}
 use mathlib.Core.Bool.{Bool, true, false}

@@ -1,6 +1,5 @@
 -- A line under repair: its characters stand at the front of an array, taken from its end by the last two steps.
 --     Repaired cs r          r holds the characters cs, mended, and which steps altered them
--- Assumes nothing.
 use Prim.Native.Nat.{ℕ, _+_, _<_, _≤_}
 use mathlib.Core.Path.{_≡_, sym, ap, _∙_}
 use mathlib.Core.Bool.{Bool, true, false}

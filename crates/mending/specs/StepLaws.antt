@@ -2,7 +2,6 @@
 --     unspaced-take, unreturned-take         the last two steps take characters from the end alone
 --     digits-unaltered                       a line of hexadecimal digits is as it was
 --     unaltered-same                         a line that none of the three altered is as it was
--- Assumes nothing.
 use Prim.Native.Nat.{ℕ, suc, _+_, _-_, _<_, _≤_}
 use mathlib.Core.Path.{_≡_, refl, sym, ap, _∙_}
 use mathlib.Core.Bool.{Bool, true, false, _&&_, and-false}

@@ -1,6 +1,5 @@
 -- Laws that the proofs of naming rest on: triples along a loop from the last to the first, and the number of bytes along such a loop; and that a
 -- refusal is a small number; and that the name of what a reader answers is that of the line.
--- Assumes nothing.
 use Prim.Native.Nat.{ℕ, zero, suc, _+_, _-_, _*_, _/_, _^_, _<_, _≤_}
 use mathlib.Core.Path.{_≡_, refl, ap, _∙_}
 use mathlib.Core.Bool.{Bool, true, false, not, _&&_, and-false}

@@ -2,9 +2,8 @@
 -- refusal 14, 5, 6, 7, 11 or 20, the first of these that anything in the frame gives. EMPTY, NOBODY and OTHER give no refusal.
 --     nameNumber n           the number of a name, 1 to 6 in the scope's order
 --     named f                what a frame is named
---     frameNumber f          the number of a frame's name
+--     frameNumber f          the number of a frame's name; that of OTHER on a refusal
 --     lineNamed l            what a line is named: the refusal with which it is read, or the name of its frame
--- Assumes nothing.
 use Prim.Native.Nat.{ℕ, _+_, _*_}
 use mathlib.Core.Bool.{Bool, true, false, not, _&&_, _||_}
 use mathlib.Core.List.{List, [], _∷_}
@@ -28,7 +27,6 @@ use Rattle.naming.specs.declared.Name.the-variants.{Empty, Search, Alarm
 use Rattle.naming.specs.declared.Named.{Named}
 use Rattle.naming.specs.declared.PassRead.{PassRead}
 
--- the number of a name, in the scope's order
 abbrev pub nameNumber : Name → ℕ
 nameNumber Empty = 1
 nameNumber Search = 2
@@ -140,7 +138,6 @@ named f =
     else if isPad f then namedPad (codeMatched (f .bits)) (padIn (f .bits))
     else plain Other
 
--- the number of a frame's name; that of OTHER on a refusal
 abbrev pub frameNumber : Frame → ℕ
 frameNumber f = nameNumber (named f .name)
 

@@ -1,7 +1,6 @@
 -- What a pass of a search shows, by its slots, when it lists a code.
 --     listsCode n c              a name with a code and no reading
 --     PassListing code ss        the slots behind the command list the code
--- Assumes nothing.
 use Prim.Native.Nat.{ℕ, _^_, _<_}
 use mathlib.Core.Path.{_≡_}
 use mathlib.Core.Bool.{Bool, true}
@@ -13,7 +12,6 @@ use Rattle.naming.specs.declared.Name.{Name}
 use Rattle.naming.specs.declared.Named.{Named}
 use Rattle.naming.specs.Naming.{triplesAllowed, thirds}
 
--- a name with a code and no reading
 abbrev pub listsCode : Name → ℕ → Named
 listsCode n c = record { refusal = accepted; name = n; code = c; raw = 0 }
 

@@ -1,6 +1,5 @@
 -- How the frames of a search are named: a pass that lists a sound code is SEARCH or ALARM with that code, a search that nobody answers is NOBODY, and a
 -- reset without presence is EMPTY. A frame is taken by its slots, as the master records them.
--- Assumes nothing.
 use Prim.Native.Nat.{ℕ, _<_, _≤_}
 use mathlib.Core.Path.{_≡_, refl, sym, ap, _∙_}
 use mathlib.Core.Bool.{Bool, true, false}

@@ -7,7 +7,6 @@
 --     described n            the text of a name or a refusal
 --     printedName n          the same as a line
 --     printedLine l          what is printed for a line
--- Assumes nothing.
 use Prim.Native.Nat.{ℕ}
 use mathlib.Core.List.{List, [], _∷_, _++_}
 use lib.Dec.{eqb}
@@ -24,7 +23,6 @@ use Rattle.naming.specs.declared.Name.the-variants.{Empty, Search, Alarm
 use Rattle.naming.specs.declared.Named.{Named}
 use Rattle.naming.specs.declared.printing.Text.{Text}
 
--- the scope's word for each name
 abbrev pub word : Name → List ℕ
 word Empty = 0x45 ∷ 0x4D ∷ 0x50 ∷ 0x54 ∷ 0x59 ∷ []  -- EMPTY
 word Search = 0x53 ∷ 0x45 ∷ 0x41 ∷ 0x52 ∷ 0x43 ∷ 0x48 ∷ []  -- SEARCH
@@ -50,15 +48,12 @@ detail Other code raw = []
 abbrev pub refusedText : ℕ → List ℕ
 refusedText n = refusedWord ++ decimal n
 
--- the text of a name or a refusal
 abbrev pub described : Named → List ℕ
 described n = if eqb (n .refusal) accepted then word (n .name) ++ detail (n .name) (n .code) (n .raw) else refusedText (n .refusal)
 
--- the same as a line
 unfoldable pub printedName : Named → List ℕ
 printedName n = described n ++ (lineFeed ∷ [])
 
--- what is printed for a line
 abbrev pub printedLine : Line → List ℕ
 printedLine l = printedName (lineNamed l)
 

@@ -1,5 +1,4 @@
 -- Laws that the proofs of printing rest on: how long the parts are, and that they are laid one behind the other.
--- Assumes nothing.
 use Prim.Native.Nat.{ℕ, suc, _+_, _-_, _<_, _≤_}
 use mathlib.Core.Path.{_≡_, refl, sym, ap, _∙_}
 use mathlib.Core.Bool.{Bool, true, false}

@@ -2,13 +2,11 @@
 -- (`Pieces`), with the printed text of a line, of which ten bytes are the most for each byte of a line. At most 135 characters of an unfinished line
 -- are carried: so many tell that the line is over-long, and all over-long lines print the same.
 --     printed s              what is printed for a whole recording
--- Assumes nothing.
 use Prim.Native.Nat.{ℕ}
 use mathlib.Core.List.{List}
 use Rattle.pieces.specs.Pieces.{said}
 use Rattle.naming.specs.Printing.{printedLine}
 
--- what is printed for a whole recording
 abbrev pub printed : List ℕ → List ℕ
 printed s = said printedLine s
 

@@ -1,7 +1,6 @@
 -- What printing adds to a text in pieces: a line's text takes at most ten bytes for each byte of the line, and 135 characters of a line tell what is
 -- printed for it. So a recording in pieces prints what it prints as a whole.
 --     recording-cuts         the theorem
--- Assumes nothing.
 use Prim.Native.Nat.{ℕ, _+_, _*_, _<_, _≤_}
 use mathlib.Core.Path.{_≡_, refl, sym, ap, _∙_}
 use mathlib.Core.Bool.{Bool, true, false, _&&_}

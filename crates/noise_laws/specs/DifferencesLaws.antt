@@ -4,7 +4,6 @@
 --     sum-differs            a string and its sum with noise differ in as many places as the noise has ones
 --     ones-within            all ones of the sum are where two strings differ
 --     sum-within             a string and its sum with noise differ only where the noise has ones
--- Assumes nothing.
 use Prim.Native.Nat.{ℕ, _+_, _<_, _≤_}
 use mathlib.Core.Path.{_≡_, refl, sym, ap, _∙_}
 use mathlib.Core.Bool.{Bool, true, false, not, Bool·beq, false≢true}

@@ -3,7 +3,6 @@
 --     four-ones       up to 127 bits it has four ones at least: an even number (`even-ones`), and not two, for a first 1 makes the register the taps, a second must find it at 1, and none of the
 --                     126 registers from the taps on is 1, which is the one computed test
 --     neighbours      at any length they are not within eight neighbours: eight bits are a number below 256, which goes in as zeros do from that number, and only 0 comes to zero
--- Assumes nothing.
 use Prim.Native.Nat.{ℕ, zero, suc, _+_, _<_, _≤_}
 use mathlib.Core.Path.{_≡_, refl, sym, ap, _∙_}
 use mathlib.Core.Bool.{Bool, true, false, not, _&&_, false≢true}

@@ -1,6 +1,5 @@
 -- What hides, so that no promise can be larger: noise that leaves the register at zero by itself is added to a string without moving its register (`hides`), and such are the polynomial anywhere
 -- (`polynomial-hides`) and two bits with 126 between them: `tight`.
--- Assumes nothing.
 use Prim.Native.Nat.{ℕ, zero, suc, _+_, _-_, _<_, _≤_}
 use mathlib.Core.Path.{_≡_, refl, sym, ap, _∙_}
 use mathlib.Core.Bool.{Bool, true, false, false≢true}

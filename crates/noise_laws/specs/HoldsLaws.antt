@@ -3,7 +3,6 @@
 --     from-zero, from-one           the one register that a bit 0, or a bit 1, brings to zero
 --     quiet                         bits that are all 0 bring no register but 0 to zero
 --     holds-bits, holds-bytes       bits, or bytes, followed by a byte
--- Assumes nothing.
 use Prim.Native.Nat.{ℕ, _/_, _%_, _<_}
 use mathlib.Core.Path.{_≡_, sym, ap, _∙_, refl}
 use mathlib.Core.Bool.{Bool, true, false, Bool·beq}

@@ -1,6 +1,5 @@
 -- Noise on what is sent as bits and refused with 5 where its CRC does not hold. First for anything whose test is "the register over all its bits ends at zero" (`notices`), then that the tests of a
 -- scratchpad and of a code are that (`pad-held`, `code-held`): the byte tested is the last, and no other refusal of `judged` or `codeRefusal` is 5.
--- Assumes nothing.
 use Prim.Native.Nat.{ℕ, _+_, _*_, _/_, _%_, _^_, _<_, _≤_}
 use mathlib.Core.Path.{_≡_, refl, sym, ap, _∙_}
 use mathlib.Core.Bool.{Bool, true, false, not}

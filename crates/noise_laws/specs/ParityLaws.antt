@@ -3,7 +3,6 @@
 --     weight r                      the ones of a register
 --     step-parity, crc-parity       one bit fed, any bits fed
 --     even-ones                     bits that bring the register from zero to zero
--- Assumes nothing.
 use Prim.Native.Nat.{ℕ, zero, suc, _+_, _/_, _%_, _^_, _<_}
 use mathlib.Core.Path.{_≡_, refl, sym, ap, _∙_}
 use mathlib.Core.Bool.{Bool, true, false, Bool·beq}

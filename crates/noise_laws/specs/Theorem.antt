@@ -1,5 +1,4 @@
 -- How much noise a CRC can let pass: `noise-noticed`. Each part is proved where its idea is told.
--- Assumes nothing.
 use Rattle.crc.specs.SumLaws.{crc-sum-zero}
 use Rattle.noise_laws.specs.Claims.{NoiseClaim}
 use Rattle.noise_laws.specs.DistanceLaws.{distance}

@@ -1,7 +1,6 @@
 -- What the calls on lent bytes answer: what those on the records do, without the bench, which stays in the bytes.
 --     noReset n, resetSeen r     of a reset: its refusal and whether presence was shown
 --     noSlot n, slotSeen r       of a slot: its refusal and the line's bit
--- Assumes nothing.
 use Prim.Native.Nat.{ℕ}
 use mathlib.Core.Bool.{false}
 use Rattle.bench.specs.declared.ResetDone.{ResetDone}

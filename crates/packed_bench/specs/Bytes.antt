@@ -1,8 +1,8 @@
 -- Bytes of a list and of a number.
 --     eightAt l i       the eight numbers of l from place i on, 0 past its end
 --     codeBytes x       the eight lowest bytes of x, lowest first
---     codeFromBytes l          the number that has the bytes of l, lowest first
--- Laws in BytesLaws. Assumes nothing.
+--     codeFromBytes l   the number that has the bytes of l, lowest first
+-- Laws in BytesLaws.
 use Prim.Native.Nat.{ℕ, zero, suc, _+_, _*_, _/_, _%_}
 use mathlib.Core.List.{List, [], _∷_}
 use lib.ListN.{getD}

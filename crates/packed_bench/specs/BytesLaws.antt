@@ -1,7 +1,6 @@
 -- A number comes back from its bytes, and eight bytes are a list of eight.
 --     code-back, eight-whole
 --     code-below        eight bytes make a number of 64 bits
--- Assumes nothing.
 use Prim.Native.Nat.{ℕ, zero, suc, _/_, _^_, _<_}
 use mathlib.Core.Path.{_≡_, refl}
 use mathlib.Core.List.{List, [], _∷_}

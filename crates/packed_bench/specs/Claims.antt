@@ -1,6 +1,5 @@
 -- What holds of a bench in a table (request E12), as claims; `ClaimsLaws` proves them.
 --     TableClaim     a bench packed unpacks to itself; accepted bytes pack back to themselves, and are those of records; 22 is for bytes that no records pack to
--- Assumes nothing.
 use Prim.Native.Nat.{ℕ, _<_, _≤_}
 use mathlib.Core.List.{List}
 use mathlib.Core.Path.{_≡_}

@@ -1,4 +1,4 @@
--- The claims of a bench in a table. Assumes nothing.
+-- The claims of a bench in a table.
 use native.Mathlib.Omega.{arith}
 use Rattle.bench.specs.Bench.{live}
 use Rattle.packed_bench.specs.TableLaws.{live-length, tabled-fits, unpack-pack, pack-unpack, unpacked-tabled, unpacked-typed, refused-none}

@@ -3,7 +3,6 @@
 --     fields-back        a record of the types is read from the bytes that it packs to
 --     packed-one         no two records have the same bytes
 --     fields-in-types    what is read from bytes is a record of the types
--- Assumes nothing.
 use Prim.Native.Nat.{ℕ, _<_}
 use mathlib.Core.Path.{_≡_, refl, sym, ap, _∙_}
 use mathlib.Core.List.{List, [], _∷_, _++_}

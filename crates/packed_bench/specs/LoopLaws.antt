@@ -5,7 +5,6 @@
 --     table-turn, table-end          writing, entry by entry
 --     read-turn, read-stop, read-end, vacant-turn, bench-read      reading, entry by entry
 --     codes-unsound, codes-twice, codes-onward, codes-end          the codes, device by device
--- Assumes nothing.
 use Prim.Native.Nat.{ℕ, zero, suc, _+_, _*_, _-_, _<_, _≤_}
 use mathlib.Core.Path.{_≡_, refl, sym, ap, _∙_}
 use mathlib.Core.Bool.{true, false}

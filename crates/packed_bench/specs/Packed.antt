@@ -1,8 +1,8 @@
 -- One device as 48 bytes, the layout of docs/TABLE.md.
 --     packedDevice d         the bytes of d: each field its own, then zeros
---     fieldsOf t       the record that is read from bytes, whatever they are
+--     fieldsOf t             the record that is read from bytes, whatever they are
 -- The places: 0 the code, 8 the scratchpad, 16 the stage, 20 the activity, 24 the settings in EEPROM, 27 the power, 28 the alarm
--- flag, 29 the page (taken, unit, register, high, low), 35 the pins, 36 to 47 zeros. Assumes nothing.
+-- flag, 29 the page (taken, unit, register, high, low), 35 the pins, 36 to 47 zeros.
 use Prim.Native.Nat.{ℕ, _+_}
 use mathlib.Core.Bool.{Bool}
 use mathlib.Core.List.{List, [], _∷_, _++_}

@@ -4,7 +4,7 @@
 --     powerOf, phaseOf, unitAt, stageOf, activityOf          back: a number past the last case is taken as the last one, and what a case
 --                                                            does not hold is not looked at
 --     readingFrom u low high                                 the reading of a unit's number and the two bytes of a register, all sixteen bits of them
--- Laws `..-back` in PartsLaws: each part comes back from its bytes. Assumes nothing.
+-- Laws `..-back` in PartsLaws: each part comes back from its bytes.
 use Prim.Native.Nat.{ℕ}
 use mathlib.Core.Bool.{Bool, true, false}
 use mathlib.Core.List.{List, [], _∷_}

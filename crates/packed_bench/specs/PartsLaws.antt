@@ -2,7 +2,6 @@
 --     reading-in             two bytes make a reading of sixteen bits
 --     reading-cleared        at twelve bits nothing of a reading is cleared
 --     nonzero, past          a number past the last case but one
--- Assumes nothing.
 use Prim.Native.Nat.{ℕ, _+_, _<_, _≤_, _*_}
 use mathlib.Core.Path.{_≡_, refl}
 use mathlib.Core.Bool.{Bool, true, false}

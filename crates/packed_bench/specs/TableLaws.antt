@@ -3,7 +3,6 @@
 --     pack-unpack        accepted bytes pack back to themselves
 --     unpacked-tabled    what is accepted is a bench that a table can hold, with numbers of their types
 --     refused-none       22 is given only where no records, at most 32 with different sound codes, pack to the bytes
--- Assumes nothing.
 use Prim.Native.Nat.{ℕ, zero, suc, _+_, _*_, _-_, _<_, _≤_}
 use mathlib.Core.Path.{_≡_, refl, sym, ap, _∙_}
 use mathlib.Core.Logic.{_≢_}

@@ -3,7 +3,6 @@
 --     leftBy f t                 the lent bytes after it: those of the bench that f leaves, and all behind the table as it was; as they were where they hold no bench
 --     After f t t'               the claim of the bytes t' that it leaves of t: they hold f of the bench that t held
 --     unseen n                   the answer to looking at a device where bytes hold no bench: the refusal n and a vacant place
--- Assumes nothing.
 use Prim.Native.Nat.{ℕ}
 use mathlib.Core.List.{List}
 use mathlib.Core.Path.{_≡_}

@@ -1,11 +1,10 @@
 -- One law for every call on lent bytes: they then hold the bench that the call on the records leaves.
---     through            `After` holds of each f that leaves a bench that a table can hold
---     refused-done, accepted-done        the two ways of a call that unpacks, calls and packs
---     stays              a call that leaves the bench leaves the bytes, so that a refused one does
---     behind-stays       the bytes behind the table stay, whatever the call
+--     through                      `After` holds of each f that leaves a bench that a table can hold
+--     refused-done, accepted-done  the two ways of a call that unpacks, calls and packs
+--     stays                        a call that leaves the bench leaves the bytes, so that a refused one does
+--     behind-stays                 the bytes behind the table stay, whatever the call
 --     slot-keeps, reset-keeps, added-keeps, conversion-keeps, copy-keeps, cycle-keeps
 --                        each call leaves a bench that a table can hold, refused or not
--- Assumes nothing.
 use Prim.Native.Nat.{ℕ, _+_, _-_, _≤_}
 use mathlib.Core.Bool.{Bool, true, false}
 use mathlib.Core.List.{List}

@@ -1,7 +1,6 @@
 -- Every bench that calls have made is one that a table can hold, and the table of the empty bench is zeros.
 --     after-tabled       after every history, refused calls included
 --     zeros-empty        1,536 zeros hold the empty bench
--- Assumes nothing.
 use mathlib.Core.List.{List, [], _∷_}
 use mathlib.Core.Path.{_≡_, refl}
 use lib.Dec.{lit≤}

@@ -1,6 +1,5 @@
 -- Every line of the bench's console leaves a bench that a table can hold.
 --     answered-keeps     after each request, refused or not
--- Assumes nothing.
 use Rattle.commands.specs.Commands.{searchRom, alarmSearch}
 use Rattle.bench.specs.declared.Bench.{Bench}
 use Rattle.history_laws.specs.Kept.{read-keeps, write-keeps, outcome-keeps, pins-keep}

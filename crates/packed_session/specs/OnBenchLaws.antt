@@ -1,7 +1,6 @@
 -- An answer on the bench that bytes hold, on plain values: what its parts came to is what is promised of it. u is what unpacking the bytes t answered, f what is answered on a bench.
 --     refused-told       the bytes hold no bench: the refusal is told, and they stay
 --     answered-told      they hold one: what was answered on it is said, and the bench that this left is packed
--- Assumes nothing.
 use Prim.Native.Nat.{ℕ, _≤_}
 use mathlib.Core.List.{List}
 use mathlib.Core.Path.{_≡_, refl, sym, ap, _∙_, subst}

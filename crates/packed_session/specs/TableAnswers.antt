@@ -1,11 +1,10 @@
 -- What the packed console says that the bench's console does not.
---     refusedOnTable n q        the answer to the request q of the bench, in its own form, where the bytes hold no bench: the refusal n and zeros
---     entryLine e            an entry of the table, two hexadecimal digits a byte
---     tableText n t          n entries of t, a line for each
---     dumpText t             the 32 entries of a table, whatever its bytes; refusal 1 where there are fewer
---     dumpAnswer t out, dumpLeaves t out      what saying it comes to: how many bytes of text there are, at the front of what is lent; refusal 1 without its room
---     pokeRefusal t place    1 for a place behind what is lent
--- Assumes nothing.
+--     refusedOnTable n q                  the answer to the request q of the bench, in its own form, where the bytes hold no bench: the refusal n and zeros
+--     entryLine e                         an entry of the table, two hexadecimal digits a byte
+--     tableText n t                       n entries of t, a line for each
+--     dumpText t                          the 32 entries of a table, whatever its bytes; refusal 1 where there are fewer
+--     dumpAnswer t out, dumpLeaves t out  what saying it comes to: how many bytes of text there are, at the front of what is lent; refusal 1 without its room
+--     pokeRefusal t place                 1 for a place behind what is lent
 use Prim.Native.Nat.{ℕ, zero, suc}
 use mathlib.Core.Bool.{false}
 use mathlib.Core.List.{List, [], _∷_, _++_}

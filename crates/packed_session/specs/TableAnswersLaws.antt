@@ -2,7 +2,6 @@
 --     line-length, text-length       97 bytes an entry
 --     text-turn, text-end            the text put line by line: what stands there with the rest laid behind it is the whole
 --     line-told, line-laid           a line at the front of what is lent, where there is room
--- Assumes nothing.
 use Prim.Native.Nat.{ℕ, zero, suc, _+_, _*_, _-_, _<_, _≤_}
 use mathlib.Core.Path.{_≡_, refl, sym, _∙_}
 use mathlib.Core.Bool.{true}

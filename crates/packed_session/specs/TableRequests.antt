@@ -2,7 +2,6 @@
 --     placeIn w              a place of the table, 0 to 1535 in one to four digits
 --     ofTable ws             POKE PLACE BYTE; TABLE alone
 --     tableRequestOf s       what a line, without its feed, asks for; a line over 80 characters is `Other`
--- Assumes nothing.
 use Prim.Native.Nat.{ℕ}
 use mathlib.Core.Bool.{_&&_}
 use mathlib.Core.List.{List}

@@ -3,7 +3,6 @@
 --     tableState t s     the two together
 --     tableConsole       to a line it says the text of the answer, and it leads to the bytes and the store after it
 --     firstState         the table of the empty bench, which is zeros, and the empty store, on which a run begins
--- Assumes nothing.
 use Prim.Native.Nat.{ℕ}
 use mathlib.Core.List.{List}
 use lib.ListN.{replicate}

@@ -2,7 +2,6 @@
 --     writtenOn t s code     settings written to the device on the table: `onTable` of the write, with the refusal of the bytes in the form of a write, before all others
 --     spokenOf t s l q       the answer to the line l that asks the request q of the store s
 --     toldOf t s l out       what the call for a line answers, and the store after it
--- Assumes nothing.
 use Prim.Native.Nat.{ℕ}
 use mathlib.Core.List.{List}
 use lib.Dec.{leb}

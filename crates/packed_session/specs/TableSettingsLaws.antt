@@ -1,7 +1,6 @@
 -- Settings written to a device on a table, and an answer by its parts.
 --     settings-keep      such a write leaves a bench that a table can hold
 --     told-parts         an answer is what its two parts are
--- Assumes nothing.
 use Prim.Native.Nat.{ℕ}
 use mathlib.Core.Bool.{Bool, true, false, not}
 use mathlib.Core.Path.{_≡_, ap, _∙_}

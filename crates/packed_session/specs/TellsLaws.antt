@@ -1,5 +1,4 @@
 -- What a part of the call has said, with room for it: one line, or the bytes of the table.
--- Assumes nothing.
 use Prim.Native.Nat.{ℕ, _≤_}
 use mathlib.Core.List.{List}
 use mathlib.Core.Path.{_≡_, refl, _∙_}

@@ -2,7 +2,6 @@
 -- whole, where what is carried of an unfinished line tells what the line says.
 --     any-cuts               the theorem
 --     parts                  what is said for a text: that of its whole lines, and that of the rest
--- Assumes nothing.
 use Prim.Native.Nat.{ℕ, _<_, _≤_}
 use mathlib.Core.Path.{_≡_, refl, sym, ap, _∙_}
 use mathlib.Core.Bool.{Bool, true, false}
@@ -72,7 +71,6 @@ rest-plain (c ∷ s) = by-test (eqb c lineFeed) refl (rest-plain s)
     by-test true e i = i
     by-test false e i = rest-longer c (linesOf s) e i
 
--- so what is said for a text is that of its whole lines, and that of the rest
 pub parts : (say : Line → List ℕ) (s : List ℕ) → said say s ≡ saidWhole say s ++ said say (rest (linesOf s))
 parts say s =
     ap (said say) (sym (append-nil s)) ∙ ap (sayAll say) (lines-split s []) ∙ say-append say (whole (linesOf s)) (linesOf (rest (linesOf s) ++ []))

@@ -1,5 +1,4 @@
 -- Bytes moved to the front of the buffer that they stand in.
--- Assumes nothing.
 use Prim.Native.Nat.{ℕ, _+_, _-_, _<_, min}
 use mathlib.Core.Path.{_≡_, sym, ap, _∙_}
 use mathlib.Core.List.{List}

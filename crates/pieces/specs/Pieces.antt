@@ -1,19 +1,18 @@
 -- A text of any length, read in pieces cut anywhere, whatever is said for a line. What is carried from one piece to the next is the line that has no
 -- feed yet, at most so many characters of it: so many must tell what the whole line says.
---     sayAll say ls            what is said for lines, one after the other
---     said say s               what is said for a whole text
---     whole ls                 the lines that have their feed
---     rest ls                  the characters of the line that has none; nothing where every line has its feed
---     carried most s           what is carried over from a piece
---     together cs              the pieces put together
---     pieces say most u cs     what is said for the pieces cs, where u was carried over from those before; at the end u itself is finished
---     Enough say most          that the first characters, as many as are carried, tell what a line says
---     feedAnswer, feedKept, feedWritten          what a call on one piece answers and leaves
---     finishAnswer, finishWritten                what the call at the end of the text answers and leaves
---     FeedWithin s out f       that what a call answers is within its buffers
---     Stepped, Ran             what a program carries after one read, and after all so far
---     Sayable say t            bytes that a program may hand to its output
--- Assumes nothing.
+--     sayAll say ls                      what is said for lines, one after the other
+--     said say s                         what is said for a whole text
+--     whole ls                           the lines that have their feed
+--     rest ls                            the characters of the line that has none; nothing where every line has its feed
+--     carried most s                     what is carried over from a piece
+--     together cs                        the pieces put together
+--     pieces say most u cs               what is said for the pieces cs, where u was carried over from those before; at the end u itself is finished
+--     Enough say most                    that the first characters, as many as are carried, tell what a line says
+--     feedAnswer, feedKept, feedWritten  what a call on one piece answers and leaves
+--     finishAnswer, finishWritten        what the call at the end of the text answers and leaves
+--     FeedWithin s out f                 that what a call answers is within its buffers
+--     Stepped, Ran                       what a program carries after one read, and after all so far
+--     Sayable say t                      bytes that a program may hand to its output: what is said for the whole lines of a piece, or for all that was left at the end
 use Prim.Native.Nat.{ℕ, _/_, _<_, _≤_}
 use mathlib.Core.Path.{_≡_}
 use mathlib.Core.Bool.{Bool}
@@ -27,21 +26,17 @@ use Rattle.text.specs.Lines.{Line, linesOf}
 use Rattle.text.specs.declared.laying.Written.{Written}
 use Rattle.pieces.specs.declared.Fed.{Fed}
 
--- what is said for lines, one after the other
 unfoldable pub sayAll : (Line → List ℕ) → List Line → List ℕ
 sayAll say [] = []
 sayAll say (l ∷ ls) = say l ++ sayAll say ls
 
--- what is said for a whole text
 abbrev pub said : (Line → List ℕ) → List ℕ → List ℕ
 said say s = sayAll say (linesOf s)
 
--- the lines that have their feed
 unfoldable pub whole : List Line → List Line
 whole [] = []
 whole (l ∷ ls) = if l .fed then l ∷ whole ls else []
 
--- the characters of the line that has none; nothing where every line has its feed
 unfoldable pub rest : List Line → List ℕ
 rest [] = []
 rest (l ∷ ls) = if l .fed then rest ls else l .chars
@@ -50,18 +45,15 @@ rest (l ∷ ls) = if l .fed then rest ls else l .chars
 abbrev pub saidWhole : (Line → List ℕ) → List ℕ → List ℕ
 saidWhole say s = sayAll say (whole (linesOf s))
 
--- what is carried over from a piece
 abbrev pub carried : ℕ → List ℕ → List ℕ
 carried most s = take most (rest (linesOf s))
 
 -- ## Pieces one after the other
 
--- the pieces put together
 unfoldable pub together : List (List ℕ) → List ℕ
 together [] = []
 together (c ∷ cs) = c ++ together cs
 
--- what is said for pieces, where u was carried over from those before
 unfoldable pub pieces : (Line → List ℕ) → ℕ → List ℕ → List (List ℕ) → List ℕ
 pieces say most u [] = said say u
 pieces say most u (c ∷ cs) = saidWhole say (u ++ c) ++ pieces say most (carried most (u ++ c)) cs
@@ -117,7 +109,6 @@ pub data Ran (most : ℕ) : List ℕ → Type 0 where
   start : Ran most []
   more : {u v : List ℕ} → Ran most u → Stepped most u v → Ran most v
 
--- bytes that a program may hand to its output: what is said for the whole lines of a piece, or for all that was left at the end
 pub data Sayable (say : Line → List ℕ) (t : List ℕ) : Type 0 where
   of-lines : (s : List ℕ) → t ≡ saidWhole say s → Sayable say t
   of-all : (s : List ℕ) → t ≡ said say s → Sayable say t

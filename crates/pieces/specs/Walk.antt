@@ -3,7 +3,6 @@
 -- at the end of the text, can end, as its definition has it.
 --     Told s p               how far the whole lines go, as a call learns it
 --     Running ..             the walk's invariant
--- Assumes nothing.
 use Prim.Native.Nat.{ℕ, _+_, _-_, _*_, _/_, _<_, _≤_}
 use mathlib.Core.Path.{_≡_, refl, sym, ap, _∙_}
 use mathlib.Core.Bool.{Bool, true, false}

@@ -4,7 +4,6 @@
 --     refused-is, done-is                          the call by what the search came to
 --     read-few                                     no more codes are read than were listed
 --     holds-answer                                 the answer of a reading is that of what it holds
--- Assumes nothing.
 use Prim.Native.Nat.{ℕ, _+_, _<_, _≤_}
 use mathlib.Core.Bool.{Bool, true, false}
 use mathlib.Core.List.{List, [], _∷_, _++_}

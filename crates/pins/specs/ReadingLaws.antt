@@ -1,5 +1,4 @@
 -- A reading holds what was found, turn by turn: nothing at first; a code without pins changes nothing; a reply that is refused moves the bench alone; one that is accepted adds a code and its pins.
--- Assumes nothing.
 use Prim.Native.Nat.{ℕ, suc, _+_, _-_, _<_, _≤_}
 use mathlib.Core.Bool.{Bool, true, false}
 use mathlib.Core.List.{List, [], _∷_, _++_}

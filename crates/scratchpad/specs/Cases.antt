@@ -7,7 +7,6 @@
 --     right c                                whether a case is as the definitions have it; the flag is the verdict that a device keeps
 --     cases                                  the twelve
 --     clearedCases                           bits that a resolution leaves undefined, at both ends of the range
--- Assumes nothing.
 use Prim.Native.Nat.{ℕ, _/_, _%_}
 use mathlib.Core.Path.{_≡_, refl}
 use mathlib.Core.Bool.{Bool, true, false, Bool·beq, _&&_}
@@ -50,7 +49,6 @@ sameReading (InHalves a) (InHalves b) = leZ (a .0) (b .0) && leZ (b .0) (a .0)
 sameReading (InSixteenths a) (InHalves b) = false
 sameReading (InHalves a) (InSixteenths b) = false
 
--- whether a case is as the definitions have it
 abbrev pub right : Case → Bool
 right (crc bytes is byte) = eqb (crcOf bytes) byte
 right (family f register bits at c reads t) = sameReading (caseReading f bits c) t

@@ -5,7 +5,6 @@
 --     fraction whole remaining perDegree          whole degrees, less a quarter, plus (perDegree - remaining) / perDegree, as a whole number over 4 perDegree, not reduced
 --     noFine                                      zero over zero, where there is no fine reading
 --     fineOf reading remaining perDegree          of half degrees that fraction of their whole degrees, where the counts are right; else none
--- Assumes nothing.
 use Prim.Native.Nat.{ℕ, _-_, _*_}
 use mathlib.Core.Bool.{Bool, true, _&&_}
 use lib.Dec.{leb, ltb}

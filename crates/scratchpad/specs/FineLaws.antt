@@ -1,6 +1,5 @@
 -- Of what a conversion left, the fine reading is the count again, for every count (`fine-back`); byte 6 is then 1 to 16 (`remaining-bounds`), so that the counts are right (`counts-left`).
 -- The idea: with w = s + 4 and r what w is over 16 t, byte 6 is 16 - r (`remaining-over`). What is over is told by the two signs of w.
--- Assumes nothing.
 use Prim.Native.Nat.{ℕ, suc, _+_, _-_, _*_, _/_, _%_, _<_, _≤_}
 use mathlib.Core.Path.{_≡_, sym, ap, _∙_}
 use mathlib.Core.Bool.{true}

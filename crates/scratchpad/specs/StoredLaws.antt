@@ -1,6 +1,5 @@
 -- What the end of a conversion stores is in range and is read back; bytes 2 to 5 stay, the limits and the configuration among them; of a family with count bytes these can be believed, and the fine
 -- reading is the count. A byte stored past the reading leaves the raw reading, and where that is in range, so is the reading at any configuration.
--- Assumes nothing.
 use Prim.Native.Nat.{ℕ, _<_, _≤_}
 use mathlib.Core.Path.{_≡_, refl, ap, _∙_}
 use mathlib.Core.Bool.{Bool, true, false}

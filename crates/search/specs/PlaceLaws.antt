@@ -1,6 +1,5 @@
 -- On a free wire, where every device is quiet or at the first slot of place j, the three slots of the place show what the codes say and leave each device settled: `placed-at-once`.
 -- Device by device a quiet one stays as it is, and a searching one sends its bit, its complement, and takes the bit; the rest carries that over the devices of the bench.
--- Assumes nothing.
 use Prim.Native.Nat.{ℕ, zero, suc, _<_}
 use mathlib.Core.Logic.{_⊎_, inl, inr, ⊎-elim}
 use mathlib.Core.Path.{_≡_, refl, sym, ap, _∙_}

@@ -1,10 +1,10 @@
 -- Where the devices of a bench stand in a search, and what the three slots of a place make of each.
---     quietAt s            whether a device in stage s is quiet
---     startsAt j s         whether its next slot is the first of place j, a place of a code
---     fits j d             it is either, and does not hold the wire
---     oneAt j d, zeroAt j d      what it lets the line show in the first and in the second slot
---     settledOf j x d      the device after the three, the last of which showed x
---     surveyedWith j s d   the survey s with d looked at too
+--     quietAt s              whether a device in stage s is quiet
+--     startsAt j s           whether its next slot is the first of place j, a place of a code
+--     fits j d               it is either, and does not hold the wire
+--     oneAt j d, zeroAt j d  what it lets the line show in the first and in the second slot
+--     settledOf j x d        the device after the three, the last of which showed x
+--     surveyedWith j s d     the survey s with d looked at too
 use Prim.Native.Nat.{ℕ}
 use mathlib.Core.Bool.{Bool, true, false, not, _&&_, _||_}
 use lib.Dec.{eqb, ltb}

@@ -1,13 +1,12 @@
 -- Codes as a search sees them (the scope, "One slot", F0h): the bits in the order in which they are sent, what those who take part put on
 -- the line together, and who goes on after the master's bit.
 --     first c, rest c      the first bit of c, 0 where there is none; the bits after it
---     lineOfCodes S               the first read slot: the AND of the first bits of S, 1 for nobody
+--     lineOfCodes S        the first read slot: the AND of the first bits of S, 1 for nobody
 --     coLine S             the second read slot: the AND of their complements, 1 for nobody
 --     follow d S           those of S whose first bit is d, each without that bit; the others have gone quiet
 --     nobody S             whether S is empty
 --     Sized n S            each code of S has n bits
 --     Before c d           at the first bit in which they differ c has 0 and d has 1
--- Assumes nothing.
 use mathlib.Core.Path.{_≡_}
 use mathlib.Core.Bool.{Bool, true, false, not, Bool·beq}
 use mathlib.Core.List.{List, [], _∷_, _++_}

@@ -1,11 +1,10 @@
 -- The search finds everybody (the scope, "The master" and demand 3): on a bus of devices that meet the laws it lists each code of those that take
 -- part once, in order, one in each pass; what it showed and left are the slots of those passes; each pass shows the command and then allowed
 -- triples with the bits of its code. Where nobody takes part it makes one pass, of the command and two reads.
---     sweptPasses B command cs ds      what a search gives that lists cs: these codes, and what their passes show and leave
---     allowed t                  whether a triple is 0, 0 and either bit, or 0, 1, 0, or 1, 0, 1
---     PassShown command c l      l is the command and then allowed triples, with the bits of c as the bits sent
---     Complete ..                all that is claimed of a search
--- Assumes nothing.
+--     sweptPasses B command cs ds  what a search gives that lists cs: these codes, and what their passes show and leave
+--     allowed t                    whether a triple is 0, 0 and either bit, or 0, 1, 0, or 1, 0, 1
+--     PassShown command c l        l is the command and then allowed triples, with the bits of c as the bits sent
+--     Complete ..                  all that is claimed of a search
 use mathlib.Core.Path.{_≡_}
 use mathlib.Core.Bool.{Bool, true}
 use mathlib.Core.List.{List, _++_, List·Permᴰ}

@@ -1,5 +1,4 @@
 -- The search finds everybody: on a bus of devices that meet the laws it is `Complete`; where nobody takes part it makes one pass, of the command and two reads.
--- Assumes nothing.
 use mathlib.Core.Path.{_≡_, refl, sym, ap, _∙_}
 use mathlib.Core.Bool.{Bool, true, false}
 use mathlib.Core.Option.{Option, none, some, Option·map}

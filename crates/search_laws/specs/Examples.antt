@@ -1,5 +1,4 @@
 -- Searches run by computation, on wires of the smallest devices: codes of three bits, whatever the devices were doing before, and codes of 64.
--- Assumes nothing.
 use mathlib.Core.Path.{_≡_, refl}
 use mathlib.Core.Bool.{Bool, true, false}
 use mathlib.Core.List.{List, [], _∷_, map}

@@ -1,5 +1,4 @@
 -- What every slot and every reset keeps is kept by a pass and by a search, on any bus: `pass-holds`, `search-holds`.
--- Assumes nothing.
 use mathlib.Core.Bool.{Bool, true}
 use mathlib.Core.Option.{Option, none, some}
 use mathlib.Core.List.{List, [], _∷_}

@@ -1,6 +1,5 @@
 -- What a master's pass shows and leaves is what the slots give that it has issued, on any bus at all: a pass that has found a code is a run of
 -- that code's slots, `pass-issued`; and the run of two runs is one after the other, `slots-append`.
--- Assumes nothing.
 use mathlib.Core.Path.{_≡_, refl, ap, _∙_}
 use mathlib.Core.Bool.{Bool, true}
 use mathlib.Core.Option.{Option, none, some, Option·map}

@@ -1,8 +1,7 @@
 -- What a search leaves alone in each device: whatever a device keeps at a reset with the command and while it searches or is quiet, it has after a
 -- whole search as before it, `search-keeps`. So the stored bytes and the activity, of which only the stage of the protocol changes in a search.
 --     heard-keeps M bs d      d after it has heard the bits bs
---     Keeps Z f         a device keeps f in the course of a search
--- Assumes nothing.
+--     Keeps Z f               a device keeps f in the course of a search
 use mathlib.Core.Path.{_≡_, refl, sym, _∙_}
 use mathlib.Core.Bool.{Bool, true, false, _&&_, cond, and-true}
 use mathlib.Core.Option.{Option, none, some}

@@ -1,5 +1,4 @@
 -- The listing is in order, and for codes of n bits, no two the same, it is a permutation of them, so that it is as long.
--- Assumes nothing.
 use mathlib.Core.Path.{_≡_, refl, ap}
 use mathlib.Core.Logic.{_≢_}
 use mathlib.Core.Bool.{Bool, true, false}

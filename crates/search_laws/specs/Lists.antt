@@ -1,7 +1,6 @@
 -- The passes of a search, each with the plan that the one before it leaves, go through the listing and end with it: `lists`.
 --     Lists n S plan cs      the passes over S from a plan on find cs, one code each, and the last leaves no plan
 -- By induction on the codes' length: the passes over those that send 0 first, then the departure at this bit, then those that send 1.
--- Assumes nothing.
 use mathlib.Core.Path.{_≡_, refl, _∙_}
 use mathlib.Core.Bool.{Bool, true, false, _&&_, and-false, true≢false}
 use mathlib.Core.Option.{Option, none, some}

@@ -1,5 +1,4 @@
 -- A listing of the codes' bits is a listing of the numbers: different numbers have different bits, and the order by bits is the order of the numbers' lowest differing bit.
--- Assumes nothing.
 use mathlib.Core.Path.{_≡_, refl, sym, ap, _∙_}
 use mathlib.Core.Logic.{_≢_}
 use mathlib.Core.Bool.{Bool, true, false}

@@ -1,8 +1,7 @@
 -- A pass on a bus of devices that meet the laws is the pass over the codes of those that take part, and the line shows the command's own bits
 -- and then the triples: `pass-on-wire`. Who takes part stays the same.
 --     triplesShown ts          the line's bits of some triples
---     Walks o r         the slots of the bits in r had the triples o, and the line showed just these
--- Assumes nothing.
+--     Walks o r                the slots of the bits in r had the triples o, and the line showed just these
 use mathlib.Core.Path.{_≡_, refl, ap, _∙_}
 use mathlib.Core.Bool.{Bool, true, cond, and-true}
 use mathlib.Core.Option.{Option, none, some, Option·map}

@@ -7,7 +7,6 @@
 --     pass n plan S       the n triples of a pass over S; none where nobody has answered
 --     found ts            the code of a pass: the bits sent
 --     next ts             the plan of the next pass: the bits sent before the last conflict taken at 0, then 1; none without such a conflict
--- Assumes nothing.
 use mathlib.Core.Bool.{Bool, true, false, not, Bool·beq}
 use mathlib.Core.Option.{Option, none, some, Option·map}
 use mathlib.Core.List.{List, [], _∷_}

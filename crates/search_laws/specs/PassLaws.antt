@@ -1,5 +1,4 @@
 -- A choice that may be none, by its two cases; and a pass that nobody answers.
--- Assumes nothing.
 use mathlib.Core.Path.{_≡_}
 use mathlib.Core.Option.{Option, none, some}
 use Prim.Native.Nat.{ℕ}

@@ -1,11 +1,10 @@
 -- A pass as a loop over the places makes it: at each place two reads and the bit, with the code so far as a number and the last place at which 0
 -- was taken at a conflict. It is the pass by a plan: `loop-pass`.
---     Walk                            what the loop carries
---     bitStep B prev D j w            one turn, at place j: nothing more once nobody has answered
---     steps B prev D m j w            m turns from place j on
---     startedPass B command n prev D ds    a pass after its reset: the command, and a turn at each of n places
---     loopPass B command n prev D ds       a pass: a reset, and the pass after it
--- Assumes nothing.
+--     Walk                               what the loop carries
+--     bitStep B prev D j w               one turn, at place j: nothing more once nobody has answered
+--     steps B prev D m j w               m turns from place j on
+--     startedPass B command n prev D ds  a pass after its reset: the command, and a turn at each of n places
+--     loopPass B command n prev D ds     a pass: a reset, and the pass after it
 use mathlib.Core.Path.{_≡_, refl, sym, ap, _∙_}
 use mathlib.Core.Bool.{Bool, true, false, true≢false, false≢true}
 use mathlib.Core.Option.{Option, none, some, Option·map}

@@ -2,7 +2,6 @@
 -- has left the path offers 1.
 --     agrees p c       whether the code c begins with the path p
 --     onPath p S       those of S that agree with p, each by the bits after it
--- Assumes nothing.
 use mathlib.Core.Path.{_≡_, refl}
 use mathlib.Core.Bool.{Bool, true, false, not, _&&_, Bool·beq, and-true, and-assoc}
 use mathlib.Core.List.{List, [], _∷_, _++_}

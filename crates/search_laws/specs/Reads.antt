@@ -2,7 +2,6 @@
 --     readSlots n            n slots in which the master offers 1
 --     afterBits B n x ds     the devices after the n lowest bits of the number x, one slot each, first bit lowest
 --     bitsShown B n ds       the line's bits in n read slots; afterReads B n ds, the devices after them
--- Assumes nothing.
 use Prim.Native.Nat.{ℕ}
 use mathlib.Core.Bool.{Bool, true}
 use mathlib.Core.List.{List}

@@ -1,5 +1,4 @@
 -- The slots of a number and of a number that is read, one slot more at a time, as the loops of a master make them, on any bus.
--- Assumes nothing.
 use Prim.Native.Nat.{ℕ, suc, _+_, _-_, _/_, _<_, _≤_, _*_, _^_}
 use mathlib.Core.Path.{_≡_, ap, _∙_, sym}
 use mathlib.Core.Bool.{true}

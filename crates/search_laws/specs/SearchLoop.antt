@@ -4,7 +4,6 @@
 --     turn B command n s                 one turn, a pass; nothing more once no pass is to be made
 --     turns B command n k s              k turns
 --     loopSearch B command fuel n ds     the search: at most `fuel` turns from the code 0 and no place
--- Assumes nothing.
 use mathlib.Core.Path.{_≡_, refl, sym, ap, _∙_}
 use mathlib.Core.Bool.{Bool, true, false, _&&_}
 use mathlib.Core.Option.{Option, none, some}

@@ -1,12 +1,11 @@
 -- What a device has to do for a search to find it (the scope, "One slot", F0h and ECh), as laws about one device. A search by F0h or by ECh is
 -- one with another command and another answer to who takes part.
---     Model               devices one by one: what each offers in a slot, and what it becomes when the line shows a bit and at a reset
---     Carries B M         a bus on which the line is the AND of the master's bit and all offers, and every device hears the line's bit
---     wire M              the bus that is nothing but a list of devices
---     Takes M P bs d      d offers 1 at each of the bits bs that it hears, and then P holds of it
---     Searchers M command n    the laws, for codes of n bits
---     participants Z ds   the codes of those devices that take part
--- Assumes nothing.
+--     Model                  devices one by one: what each offers in a slot, and what it becomes when the line shows a bit and at a reset
+--     Carries B M            a bus on which the line is the AND of the master's bit and all offers, and every device hears the line's bit
+--     wire M                 the bus that is nothing but a list of devices
+--     Takes M P bs d         d offers 1 at each of the bits bs that it hears, and then P holds of it
+--     Searchers M command n  the laws, for codes of n bits
+--     participants Z ds      the codes of those devices that take part
 use mathlib.Core.Path.{_≡_, refl}
 use mathlib.Core.Bool.{Bool, true, false, not, _&&_, cond, Bool·beq}
 use mathlib.Core.List.{List, [], _∷_, map}

@@ -2,8 +2,7 @@
 -- bit after p, and every other is quiet. The three slots of a bit show the line, its complement and the master's bit, and take that from p to
 -- p with this bit.
 --     Sits Z p P d      P holds of d where it takes part and its code begins with p; else d is quiet
---     onBus C Z ds     the codes of those on the bus that take part
--- Assumes nothing.
+--     onBus C Z ds      the codes of those on the bus that take part
 use mathlib.Core.Path.{_≡_, refl, sym, _∙_}
 use mathlib.Core.Bool.{Bool, true, false, not, _&&_, cond, Bool·beq, and-true}
 use mathlib.Core.List.{List, [], _∷_, _++_, map}
@@ -87,7 +86,6 @@ module _ {M : Model} {command : List Bool} {n : ℕ} (Z : Searchers M command n)
 -- ## A bus of these devices
 
 module _ {B : Bus} {M : Model} (C : Carries B M) {command : List Bool} {n : ℕ} (Z : Searchers M command n) where
-  -- The codes of those on the bus that take part.
   abbrev pub onBus : B .Devices → List Code
   onBus ds = participants Z (C .live ds)
 

@@ -3,7 +3,6 @@
 --     Small            a device
 --     offers, hears    what it puts on the line, and its next stage when the line has shown a bit
 --     model n          these devices, for codes of n bits
--- Assumes nothing.
 use mathlib.Core.Path.{_≡_, refl}
 use mathlib.Core.Bool.{Bool, true, false, not, cond, Bool·beq}
 use mathlib.Core.List.{List, [], _∷_, _++_}

@@ -2,7 +2,6 @@
 -- of its first pass is the slots of the command and those reads.
 --     search-issued      as many codes as passes
 --     search-unheard     no code, and one pass of the command and two slots
--- Assumes nothing.
 use mathlib.Core.Path.{_≡_, refl, sym, ap}
 use mathlib.Core.Bool.{Bool, true}
 use mathlib.Core.Option.{Option, none, some}

@@ -5,7 +5,6 @@
 --     passes B command cs ds             for each code of cs a reset and the slots of its pass, in order
 --     wirePass B command n plan ds       one pass by a plan: a reset, the command, n triples, fewer where nobody answers
 --     wireSearch B command fuel n ds     passes from the empty plan on, up to the pass that leaves no plan or nobody answers, at most `fuel`
--- Assumes nothing.
 use mathlib.Core.Bool.{Bool, true}
 use mathlib.Core.Option.{Option, none, some, Option·map}
 use mathlib.Core.List.{List, [], _∷_, _++_}

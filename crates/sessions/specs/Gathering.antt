@@ -4,7 +4,6 @@
 --     partAt piece at                 the line that goes on at a place of a piece; past the end one without characters and without a feed
 --     taken line held piece at        what that part of a line comes to: how many characters are held then, whether the feed has come, and the place behind
 --     takenLeaves line held piece at  the buffer after it
--- Assumes nothing.
 use Prim.Native.Nat.{ℕ, _+_, _-_}
 use mathlib.Core.List.{List}
 use lib.ListN.{length, take, drop}
@@ -15,15 +14,12 @@ use Rattle.sessions.specs.declared.gathering.Gathered.{Gathered}
 abbrev pub mostHeld : ℕ
 mostHeld = 81
 
--- as many of some characters as there is room for behind those that are held
 abbrev pub fitting : List ℕ → ℕ → List ℕ → List ℕ
 fitting line held cs = take (length line - held) cs
 
--- the line that goes on at a place of a piece
 abbrev pub partAt : List ℕ → ℕ → Line
 partAt piece at = firstLine (drop at piece)
 
--- what that part of a line comes to
 abbrev pub taken : List ℕ → ℕ → List ℕ → ℕ → Gathered
 taken line held piece at = record {
   held = held + length (fitting line held (partAt piece at .chars));
@@ -31,6 +27,5 @@ taken line held piece at = record {
   next = at + width (partAt piece at);
 }
 
--- the buffer after it
 abbrev pub takenLeaves : List ℕ → ℕ → List ℕ → ℕ → List ℕ
 takenLeaves line held piece at = laid line held (fitting line held (partAt piece at .chars))

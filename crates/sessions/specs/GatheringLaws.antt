@@ -1,5 +1,4 @@
 -- What is held of a line tells what the whole line asks for, however long it is; and the buffer holds just that.
--- Assumes nothing.
 use Prim.Native.Nat.{ℕ, _+_, _-_, _<_, _≤_}
 use mathlib.Core.Path.{_≡_, refl, sym, ap, _∙_}
 use mathlib.Core.Bool.{Bool, true, false}

@@ -2,7 +2,6 @@
 -- led to; and a piece as a program walks it, line by line.
 -- A piece is walked byte by byte: a byte that is no feed makes the held line longer by one, and a feed ends it. What is held are the first 81 characters of the line
 -- that the bytes since the last feed make, and by the premise those say what the line says. C is the console, s a state, u the line since the last feed.
--- Assumes nothing.
 use Prim.Native.Nat.{ℕ, zero, suc, _+_, _<_, _≤_}
 use mathlib.Core.Path.{_≡_, refl, sym, ap, _∙_}
 use mathlib.Core.Bool.{Bool, true, false, not}

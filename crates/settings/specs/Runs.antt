@@ -1,7 +1,7 @@
 -- Every run of calls on a store, by any callers in any order, refused calls included, and an account of each code that is made of the accepted ones alone (document 02, E6).
 --     StoreCall             one call, with its arguments
 --     book h                the store after the calls h from the empty one, the codes that were first added, in order, and the account of each code
---     afterCalls h               that store
+--     afterCalls h          that store
 --     settled a             the first settings of an account under its changes, in turn
 --     shownOf code a        what a read of the code shows, by its account
 --     InTurn n changes      the changes named n, n + 1 and so on

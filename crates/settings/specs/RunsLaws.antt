@@ -1,7 +1,6 @@
 -- The runs of calls on a store. The invariant: each code that was ever added has one entry, and the entry is what its account comes to; a code that has none has no account. A call about one code
 -- replaces its entry or puts one behind the others, and leaves the places and entries of all other codes.
 --     runs-right, same-version, nothing-undone      the claims
--- Assumes nothing.
 use Prim.Native.Nat.{ℕ, _+_, _<_, _≤_}
 use mathlib.Core.Bool.{Bool, true, false, not, _&&_}
 use mathlib.Core.List.{List, [], _∷_, _++_, map, append-nil, append-assoc}

@@ -1,10 +1,10 @@
 -- A store of settings (document 02, E6): up to 32 codes, in the order in which they were first added, each with its settings and their version.
---     liveEntries s              the entries of the codes that were ever added
+--     liveEntries s       the entries of the codes that were ever added
 --     emptyStore          where every run of calls starts
 --     keptAt s code       where the code is kept, there or removed
 --     entryAt s i         the entry at a place
 --     withEntry s i e     the store with another entry at a place
---     withNewEntry s e         the store with an entry behind the others
+--     withNewEntry s e    the store with an entry behind the others
 use Prim.Native.Nat.{ℕ, _+_}
 use mathlib.Core.Bool.{false}
 use mathlib.Core.List.{List}

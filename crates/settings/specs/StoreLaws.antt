@@ -4,7 +4,6 @@
 --     same-places                  an entry replaced by one of the same code
 --     new-place                    an entry behind the others
 --     located-cases, added-cases, removed-cases, changed-cases   what holds of a refusal and of what else a call does holds of the call
--- Assumes nothing.
 use Prim.Native.Nat.{ℕ, _+_, _<_}
 use mathlib.Core.Bool.{Bool, true, false, not}
 use mathlib.Core.List.{[], _∷_, _++_, map}

@@ -3,7 +3,6 @@
 --     limitByteOf w               the byte of a limit, where w is a signed byte; otherwise refusal 11, with a zero byte
 --     alarmsAt t high low         whether t is at or past a limit, equality included; low above high is allowed
 --     verdict reading high low    whether a reading is at or past a limit, the two limits given as their bytes
--- Assumes nothing.
 use Prim.Native.Nat.{ℕ}
 use mathlib.Core.Bool.{Bool, _||_}
 use lib.Signed.{leZ}

@@ -1,5 +1,4 @@
 -- Single-precision degrees are exact at every count of sixteen bits, so at every count from -880 to 2,000.
--- Assumes nothing.
 use Prim.Native.Nat.{ℕ, suc, _*_, _^_, _<_}
 use mathlib.Core.Path.{_≡_, refl, sym, ap, _∙_}
 use mathlib.Core.Bool.{Bool, true, false}

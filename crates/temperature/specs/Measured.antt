@@ -4,7 +4,7 @@
 --     roundedOf count configuration           the count rounded down to a multiple of that step
 --     nearestHalves count                     the nearest half degree, the upper one where two are as near
 --     measuredOf unit count configuration     the stored reading: rounded sixteenths, or the nearest half degree
--- The laws cite one law of rounding down, which holds for any step. Assumes nothing.
+-- The laws cite one law of rounding down, which holds for any step.
 use Prim.Native.Nat.{ℕ}
 use lib.Dec.{eqb}
 use lib.IntN.{pos, _+ℤ_}

@@ -1,6 +1,5 @@
 -- What a conversion stores is rounded down to the step of its configuration (by the law of rounding, at any step) or the nearest half degree, stays in range, and is read back. Sixteenths keep the whole
 -- degree of the count; of half degrees it is that of four sixteenths more.
--- Assumes nothing.
 use Prim.Native.Nat.{ℕ, suc, _*_, _/_, _<_, _≤_}
 use mathlib.Core.Path.{_≡_, refl, sym, ap, _∙_}
 use mathlib.Core.Bool.{Bool, true, false}

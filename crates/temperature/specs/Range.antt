@@ -3,7 +3,7 @@
 --     inRange r            whether r is from -55 to +125 degrees: -110 to 250 half degrees, or -880 to 2000 sixteenths
 --     wholeInRange w       whether w is from -55 to +125 whole degrees
 --     isLimit w            whether w is a signed byte, -128 to 127, as every limit is
--- `leZ a b` is the test a ≤ b. Assumes nothing.
+-- `leZ a b` is the test a ≤ b.
 use mathlib.Core.Bool.{Bool, _&&_}
 use lib.IntN.{ℤ, pos, negℤ}
 use lib.Signed.{leZ}

@@ -1,5 +1,4 @@
 -- A range by its two ends; that rounding down keeps a range whose low end is a multiple of the step; and that a range moves with its ends.
--- Assumes nothing.
 use Prim.Native.Nat.{ℕ, _<_, _≤_}
 use mathlib.Core.Path.{_≡_}
 use mathlib.Core.Bool.{true}

@@ -7,7 +7,6 @@
 --     clearedOf r configuration  a reading without the bits that its configuration leaves undefined: sixteenths are rounded down to the step, half degrees stay
 --     readingOf unit low high configuration
 --                                the reading that two bytes hold: the raw one, cleared
--- Assumes nothing.
 use Prim.Native.Nat.{ℕ, _+_, _*_, _/_, _%_}
 use lib.IntN.{ℤ}
 use Rattle.family.specs.declared.Unit.{Unit}

@@ -1,5 +1,4 @@
 -- A reading is settled by its unit and count; a reading goes to its two bytes and back, and two bytes to their raw reading and back: `reading-register` and `register-reading`.
--- Assumes nothing.
 use Prim.Native.Nat.{ℕ, _+_, _*_, _/_, _%_, _<_}
 use mathlib.Core.Path.{_≡_, refl}
 use native.Mathlib.Omega.{arith}

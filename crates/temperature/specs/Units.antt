@@ -9,7 +9,6 @@
 --     toSixteenths h       eightfold h, where h is in range; otherwise refusal 11, with zero sixteenths
 --     wholeToSixteenths w  sixteenfold w, where w is in range; otherwise refusal 11, with zero sixteenths
 --     wholeOf r            the whole degree at or below a reading: -1 for half a degree below zero
--- Assumes nothing.
 use Prim.Native.Nat.{ℕ}
 use mathlib.Core.Bool.{Bool}
 use lib.IntN.{pos, _+ℤ_, _*ℤ_}

@@ -1,5 +1,4 @@
 -- Both coarser units round down: at most the count, and less than one of the unit below it; and nothing is lost from half degrees or whole degrees to sixteenths.
--- Assumes nothing.
 use mathlib.Core.Path.{_≡_, refl, ap}
 use mathlib.Core.Bool.{true}
 use native.Mathlib.Omega.{arith}

@@ -1,12 +1,10 @@
 -- Words as they are written, by the bytes that they stand for.
 --     ascii "reset"          the characters of a word, each by its number
--- Assumes nothing.
 use Prim.Native.Nat.{ℕ}
 use Prim.Native.Char.{code}
 use Prim.Native.String.{String, [], _∷_}
 use mathlib.Core.List.{List, [] as none, _∷_ as _then_}
 
--- the characters of a word, each by its number
 abbrev pub ascii : String → List ℕ
 ascii [] = none
 ascii (c ∷ s) = code c then ascii s

@@ -3,8 +3,7 @@
 --     signedDecimal z        a number with a sign: how far it is from zero, with a minus in front where it is negative
 --     isNegative cs          whether some characters start with a minus
 --     decimalIn cs           the number that decimal digits stand for
---     plainDecimal cs        whether some characters are a number in plain decimal
--- Assumes nothing.
+--     plainDecimal cs        whether some characters are a number in plain decimal: digits, the first of several no zero
 use Prim.Native.Nat.{ℕ, zero, suc, _/_}
 use mathlib.Core.Bool.{Bool, not, _&&_, _||_}
 use mathlib.Core.List.{List, _++_}
@@ -25,22 +24,17 @@ lengthWithin (suc n) x = if ltb x 10 then 1 else suc (lengthWithin n (x / 10))
 abbrev pub decimalLength : ℕ → ℕ
 decimalLength x = lengthWithin x x
 
--- the number in plain decimal
 unfoldable pub decimal : ℕ → List ℕ
 decimal x = digits 10 (decimalLength x) x
 
--- a number with a sign: a minus in front where it is negative
 unfoldable pub signedDecimal : ℤ → List ℕ
 signedDecimal z = if ltZ z (pos 0) then ascii "-" ++ decimal (natAbs z) else decimal (natAbs z)
 
--- whether some characters start with a minus
 abbrev pub isNegative : List ℕ → Bool
 isNegative cs = eqb (getD cs 0 0) 0x2D
 
--- the number that decimal digits stand for
 abbrev pub decimalIn : List ℕ → ℕ
 decimalIn cs = numberIn 10 cs
 
--- whether some characters are a number in plain decimal: digits, the first of several no zero
 abbrev pub plainDecimal : List ℕ → Bool
 plainDecimal cs = leb 1 (length cs) && spells 10 cs && (eqb (length cs) 1 || not (eqb (getD cs 0 0) 0x30))

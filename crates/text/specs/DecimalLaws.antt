@@ -2,7 +2,6 @@
 --     decimal-read           the number of the digits of a number
 --     decimal-written        plain decimal read and written again is the same
 --     decimal-plain          a number in plain decimal is one
--- Assumes nothing.
 use Prim.Native.Nat.{ℕ, zero, suc, _+_, _-_, _/_, _^_, _<_, _≤_}
 use mathlib.Core.Path.{_≡_, refl, sym, ap, _∙_}
 use mathlib.Core.Bool.{Bool, true, false, not, _&&_, _||_, false≢true}
@@ -152,7 +151,6 @@ first-counts c (d ∷ cs) e h =
     let all-digits = rw z at (fold-least (d ∷ cs) (thenDigit 10 0 c) 0 one) in
     within-least (decimalIn (c ∷ d ∷ cs)) (decimalIn (c ∷ d ∷ cs)) (length (d ∷ cs)) (omega arith) all-digits
 
--- plain decimal read and written again is the same
 pub decimal-written : (cs : List ℕ) → plainDecimal cs ≡ true → decimal (decimalIn cs) ≡ cs
 unfolding decimal
 decimal-written [] h = absurd (false≢true h)

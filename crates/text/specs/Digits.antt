@@ -10,7 +10,6 @@
 --     codeDigits x           the sixteen digits of a 64-bit code
 --     hexOf bs               the two hexadecimal digits of each byte, in turn
 --     bytesOf cs             the bytes that pairs of digits stand for; a last digit without a partner is passed over
--- Assumes nothing.
 use Prim.Native.Nat.{ℕ, zero, suc, _+_, _-_, _*_, _/_, _%_}
 use mathlib.Core.Bool.{Bool, _&&_}
 use mathlib.Core.List.{List, [], _∷_, _++_}
@@ -18,15 +17,12 @@ use lib.Dec.{ltb, leb}
 use Rattle.basic_laws.specs.Choice.{if_then_else_}
 use Rattle.basic_laws.specs.Fold.{fold, all}
 
--- the character of a value below 16
 abbrev pub digitOf : ℕ → ℕ
 digitOf v = if ltb v 10 then 0x30 + v else 0x37 + v
 
--- the value of a character, 16 for one that is no digit
 abbrev pub valueOf : ℕ → ℕ
 valueOf c = if leb 0x30 c && leb c 0x39 then c - 0x30 else if leb 0x41 c && leb c 0x46 then c - 0x37 else 16
 
--- whether a character is a digit below a base
 abbrev pub isDigit : ℕ → ℕ → Bool
 isDigit base c = ltb (valueOf c) base
 
@@ -34,7 +30,6 @@ isDigit base c = ltb (valueOf c) base
 abbrev pub spells : ℕ → List ℕ → Bool
 spells base cs = all (isDigit base) cs
 
--- the n lowest digits of x
 unfoldable pub digits : ℕ → ℕ → ℕ → List ℕ
 digits base zero x = []
 digits base (suc n) x = digits base n (x / base) ++ (digitOf (x % base) ∷ [])
@@ -43,24 +38,19 @@ digits base (suc n) x = digits base n (x / base) ++ (digitOf (x % base) ∷ [])
 abbrev pub thenDigit : ℕ → ℕ → ℕ → ℕ
 thenDigit base x c = base * x + valueOf c
 
--- the number that digits stand for; 0 for none
 unfoldable pub numberIn : ℕ → List ℕ → ℕ
 numberIn base cs = fold (thenDigit base) 0 cs
 
--- the n lowest hexadecimal digits of x
 abbrev pub hexDigits : ℕ → ℕ → List ℕ
 hexDigits n x = digits 16 n x
 
--- the sixteen digits of a 64-bit code
 abbrev pub codeDigits : ℕ → List ℕ
 codeDigits x = hexDigits 16 x
 
--- the two digits of each byte, in turn
 unfoldable pub hexOf : List ℕ → List ℕ
 hexOf [] = []
 hexOf (b ∷ bs) = hexDigits 2 b ++ hexOf bs
 
--- the bytes that pairs of digits stand for; a last digit without a partner is passed over
 unfoldable pub bytesOf : List ℕ → List ℕ
 bytesOf [] = []
 bytesOf (h ∷ []) = []

@@ -2,7 +2,6 @@
 -- a loop reads or lays them.
 --     number-digits, digits-number      the two round trips of a number
 --     bytes-hex, hex-bytes              the two round trips of bytes
--- Assumes nothing.
 use Prim.Native.Nat.{ℕ, zero, suc, _+_, _-_, _*_, _/_, _%_, _^_, _<_, _≤_}
 use mathlib.Core.Path.{_≡_, refl, sym, ap, _∙_}
 use mathlib.Core.Bool.{Bool, true, false, _&&_, false≢true}
@@ -123,7 +122,6 @@ module _ (base : ℕ) (some : 0 < base) (few : base ≤ 16) where
   digits-are (suc n) x =
       rw (all-append (isDigit base) (digits base n (x / base)) (digitOf (x % base) ∷ []), digits-are n (x / base), digit-is x)
 
-  -- the number of the digits of a number
   pub number-digits : (n x : ℕ) → x < base ^ n → numberIn base (digits base n x) ≡ x
   unfolding digits numberIn fold
   number-digits zero x h = let z = pow-zero base in omega arith

@@ -1,9 +1,8 @@
 -- Text laid into a buffer at a place, where there is room for it: all of it, or nothing and refusal 1.
---     hasRoom out at n           whether n characters from a place on end within the buffer
---     layAnswer out at text      the place behind the text, or the refusal
---     layLeaves out at text      the buffer with the text, or as it was
---     decodeAnswer, decodeLeaves out cs      the same for the bytes that digits stand for, laid at the front; any other character is refused with 2
--- Assumes nothing.
+--     hasRoom out at n                   whether n characters from a place on end within the buffer
+--     layAnswer out at text              the place behind the text, or the refusal
+--     layLeaves out at text              the buffer with the text, or as it was
+--     decodeAnswer, decodeLeaves out cs  the same for the bytes that digits stand for, laid at the front; any other character is refused with 2
 use Prim.Native.Nat.{ℕ, _+_}
 use mathlib.Core.Bool.{Bool}
 use mathlib.Core.List.{List}
@@ -15,16 +14,13 @@ use Rattle.refusals.specs.Refusals.{accepted, noRoom, notHex}
 use Rattle.text.specs.declared.laying.Written.{Written}
 use Rattle.text.specs.Digits.{spells, bytesOf}
 
--- whether n characters from a place on end within the buffer
 abbrev pub hasRoom : List ℕ → ℕ → ℕ → Bool
 hasRoom out at n = leb (at + n) (length out)
 
--- the place behind the text, or refusal 1
 abbrev pub layAnswer : List ℕ → ℕ → List ℕ → Written
 layAnswer out at text =
     if hasRoom out at (length text) then record { refusal = accepted; next = at + length text } else record { refusal = noRoom; next = 0 }
 
--- the buffer with the text, or as it was
 abbrev pub layLeaves : List ℕ → ℕ → List ℕ → List ℕ
 layLeaves out at text = if hasRoom out at (length text) then laid out at text else out
 

@@ -1,5 +1,4 @@
 -- The two ways in which laying a text can end; text laid character by character from its front or from its back; bytes laid over bytes.
--- Assumes nothing.
 use Prim.Native.Nat.{ℕ, suc, _+_, _-_, _*_, _/_, _%_, _<_, _≤_}
 use mathlib.Core.Path.{_≡_, refl, sym, ap, _∙_}
 use mathlib.Core.Bool.{Bool, true, false}

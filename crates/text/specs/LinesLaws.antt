@@ -1,16 +1,15 @@
 -- How the lines of some bytes are cut: where the first feed stands, as a loop finds it; the first line and the others; one line after the other, by
 -- places; and that the lines put back are the bytes.
---     lines-bytes            the lines of some bytes put back are the bytes
---     lines-cut              a line with its feed in front of some bytes is cut off as it was
---     plain-lines            a line without a feed is all of its text
+--     lines-bytes                            the lines of some bytes put back are the bytes
+--     lines-cut                              a line with its feed in front of some bytes is cut off as it was
+--     plain-lines                            a line without a feed is all of its text
 --     lines-next, lines-done the lines from a place on, and that there are none past the end
---     lines-fed, lines-open  the same by where the first line ends
---     same-line-equal, same-line-itself          the test whether two lines are the same is equality
---     line-by-end, behind-fed, behind-open       the line that starts at a place, and the place behind it, by where it ends
---     lines-behind, bytes-parted                 the lines behind the first n, put back: their lines, and the bytes in front of them
---     lines-from, lines-place, lines-within      where they begin
---     digits-no-feed         none of some digits is a feed
--- Assumes nothing.
+--     lines-fed, lines-open                  the same by where the first line ends
+--     same-line-equal, same-line-itself      the test whether two lines are the same is equality
+--     line-by-end, behind-fed, behind-open   the line that starts at a place, and the place behind it, by where it ends
+--     lines-behind, bytes-parted             the lines behind the first n, put back: their lines, and the bytes in front of them
+--     lines-from, lines-place, lines-within  where they begin
+--     digits-no-feed                         none of some digits is a feed
 use Prim.Native.Nat.{ℕ, zero, suc, _+_, _-_, _<_, _≤_}
 use mathlib.Core.Path.{_≡_, refl, sym, ap, _∙_}
 use mathlib.Core.Bool.{Bool, true, false, not, Bool·beq, _&&_, false≢true}
@@ -82,7 +81,6 @@ unfolding linesOf all
 lines-cut [] s h = refl
 lines-cut (c ∷ cs) s h = let e = not-true (eqb c lineFeed) (and-left (notFeed c) (all notFeed cs) h) in rw (e, lines-cut cs s (and-right (notFeed c) (all notFeed cs) h))
 
--- a line without a feed is all of its text
 pub plain-lines : (c : ℕ) (u : List ℕ) → all notFeed (c ∷ u) ≡ true → linesOf (c ∷ u) ≡ record { chars = c ∷ u; fed = false } ∷ []
 unfolding linesOf all
 plain-lines c [] h = rw (not-true (eqb c lineFeed) (and-left (notFeed c) true h)) refl
@@ -197,7 +195,6 @@ line-ends s at h =
     let most = w .1 in
     (omega arith, omega arith)
 
--- the line that starts at a place, by where it ends
 pub line-by-end : (s : List ℕ) (at e : ℕ) → at ≤ length s → e ≡ at + feedAt (drop at s)
     → (e ≤ length s) × (firstLine (drop at s) ≡ record { chars = take (e - at) (drop at s); fed = ltb e (length s) })
 line-by-end s at e h ends =
@@ -310,7 +307,6 @@ digit-no-feed base c small h = by-test (eqb c lineFeed) refl
         absurd (omega arith)
     by-test false e = refl
 
--- none of some digits is a feed
 pub digits-no-feed : (base : ℕ) (cs : List ℕ) → base ≤ 16 → spells base cs ≡ true → all notFeed cs ≡ true
 unfolding all
 digits-no-feed base [] small h = refl

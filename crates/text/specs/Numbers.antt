@@ -3,7 +3,6 @@
 --     fixedRead base n cs            just n digits below a base, of a number below 2 ^ 64
 --     decimalRead most bound cs      one to `most` decimal digits of a number up to a bound; zeros in front are taken
 --     plainRead bound cs             a number in plain decimal of any size, or the bound where it is greater
--- Assumes nothing.
 use Prim.Native.Nat.{ℕ, min}
 use mathlib.Core.Bool.{true, false, _&&_}
 use mathlib.Core.List.{List}
@@ -18,7 +17,6 @@ use Rattle.text.specs.Digits.{spells, numberIn}
 abbrev pub noNumber : NumberRead
 noNumber = record { valid = false; number = 0 }
 
--- the answer for digits below a base that stand for a number up to a bound
 abbrev pub numberRead : ℕ → ℕ → List ℕ → NumberRead
 numberRead base bound cs =
     if spells base cs && leb (numberIn base cs) bound then record { valid = true; number = numberIn base cs } else noNumber
@@ -35,6 +33,5 @@ fixedRead base n cs = if eqb (length cs) n then numberRead base greatest cs else
 abbrev pub decimalRead : ℕ → ℕ → List ℕ → NumberRead
 decimalRead most bound cs = if leb 1 (length cs) && leb (length cs) most then numberRead 10 bound cs else noNumber
 
--- the answer for a number in plain decimal, or for the bound where it is greater
 abbrev pub plainRead : ℕ → List ℕ → NumberRead
 plainRead bound cs = if plainDecimal cs then record { valid = true; number = min (decimalIn cs) bound } else noNumber

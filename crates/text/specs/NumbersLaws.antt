@@ -1,6 +1,5 @@
 -- A number along a loop that reads one digit a turn and stops at a character that is no digit or past a bound, and what a reader answers where the
 -- digits are known.
--- Assumes nothing.
 use Prim.Native.Nat.{ℕ, _+_, _-_, _*_, _/_, _^_, _<_, _≤_}
 use mathlib.Core.Path.{_≡_, refl, sym, ap, _∙_}
 use mathlib.Core.Bool.{Bool, true, false, not, _&&_, _||_, and-false, false≢true}

@@ -1,5 +1,4 @@
 -- Part behind part: where the whole fits, what two parts put is what they are together.
--- Assumes nothing.
 use Prim.Native.Nat.{ℕ, _+_, _-_, _≤_}
 use mathlib.Core.Path.{_≡_, refl, sym, ap, _∙_}
 use mathlib.Core.Bool.{true, false}

@@ -1,12 +1,12 @@
 -- The two calls by which a host changes the mode, the polarity or one-shot of a DS1821: a read of the status, and a write of the byte read with those bits changed and a
 -- 1 for both flags. Each is a reset and, where the probe shows presence, a command and a byte. In thermostat mode it shows none, and both get 4 (house).
 --     alone                 the wire with this probe alone on it
---     byteSent x p              the probe after the eight bits of the byte x
---     byteShownBy p             the byte that the line shows in eight read slots, first bit lowest; afterReading p, the probe after them
+--     byteSent x p          the probe after the eight bits of the byte x
+--     byteShownBy p         the byte that the line shows in eight read slots, first bit lowest; afterReading p, the probe after them
 --     statusRead p          the first call
 --     changedStatus s a     the byte of the second call, from bit 0: one-shot, polarity and mode as asked, 1 and 1 for the flags, and the upper three bits of the byte s
 --                           that was read; changedBits, these bits
---     statusChanged p s a         the second call
+--     statusChanged p s a   the second call
 use Prim.Native.Nat.{ℕ}
 use mathlib.Core.Bool.{Bool, true}
 use mathlib.Core.List.{List, [], _∷_}

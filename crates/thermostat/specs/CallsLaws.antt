@@ -1,7 +1,6 @@
 -- The two calls where no conversion finishes meanwhile. Each is the run of its events (`read-events`, `change-events`); a read shows the status as it stands
 -- (`status-read`), a change stores the byte that it makes of it (`status-changed`) and leaves both flags as they are (`flags-left`); in thermostat mode both are
 -- refused with 4 and nothing changes (`read-unheard`, `change-unheard`).
--- Assumes nothing.
 use Prim.Native.Nat.{ℕ}
 use mathlib.Core.Bool.{Bool, true, false, not, _&&_, and-true}
 use mathlib.Core.List.{List, [], _∷_, _++_}

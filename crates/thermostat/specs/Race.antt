@@ -1,9 +1,9 @@
 -- The race for the status register: conversions that finish while the two calls go on. The calls are taken apart into their resets and slots, and the sensor's finishes may
 -- fall before, between and after these in any number. A finish between two bits of the status tears the byte: the host reads bits that never stood together.
 --     Event               a reset or a slot of the master's, or a finish of the sensor's
---     afterEvents es p          the probe after the events, in order; a finish that is refused changes nothing
---     linesShown es p        what the line shows in the slots among them, in order
---     mastersOwn es         the master's events alone
+--     afterEvents es p    the probe after the events, in order; a finish that is refused changes nothing
+--     linesShown es p     what the line shows in the slots among them, in order
+--     mastersOwn es       the master's events alone
 --     readEvents          the first call: a reset, ACh and eight read slots; writeEvents b, the second: a reset, 0Ch and the byte b
 --     statusSeen es p     the byte that the host makes of the last eight of the first call's sixteen slots
 --     setIn es p          the flags that finishes set in the course of the events

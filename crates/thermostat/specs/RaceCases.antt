@@ -3,7 +3,6 @@
 --     torn            the first call, with a finish at 5 degrees between the two flags' bits
 -- The host reads 50h, the high flag alone, which stood at no moment: `torn-status`. The two calls keep both flags all the same, `both-kept`; a host that writes the byte as
 -- it read it, with the mode changed, clears the low flag that it has not seen: `low-flag-lost`.
--- Assumes nothing.
 use mathlib.Core.Bool.{true, false}
 use mathlib.Core.List.{List, [], _∷_, _++_}
 use mathlib.Core.Path.{_≡_, refl}

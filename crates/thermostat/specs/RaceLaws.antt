@@ -4,7 +4,6 @@
 --     still k s              a probe outside thermostat mode that keeps k, at stage s, and has measured nothing
 --     spares s m             whether a slot at stage s in which the line shows m leaves the flags alone
 --     sparing es k s         whether all slots among the events do, from k and s on; keptAfter es k s, what is kept after them
--- Assumes nothing.
 use Prim.Native.Nat.{ℕ, _<_}
 use mathlib.Core.Bool.{Bool, true, false, not, _&&_, and-true, or-false, or-assoc}
 use mathlib.Core.List.{List, [], _∷_, _++_}

@@ -1,5 +1,5 @@
 -- The record of a DS1821 with one part replaced, all else as it was.
---     probeWithStage p s          where it stands in the protocol
+--     probeWithStage p s     where it stands in the protocol
 --     withConverting p c     whether a conversion runs
 --     withHigh p b           the high limit, as a signed byte; withLow p b, the low one
 use Prim.Native.Nat.{ℕ}

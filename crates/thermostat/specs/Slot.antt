@@ -1,10 +1,10 @@
 -- The reset and the slot of a DS1821. In thermostat mode it neither hears the wire nor answers; else it takes a command right after a reset, and then takes or sends
 -- one byte, lowest bit first, as every 1-Wire device does (`shifted`, `byteSlot`), and is quiet.
---     probeRegister p r        what is sent of a register: the byte as it stands
---     probeOffer p             what the probe puts on the line in the next slot: 1 unless it sends a 0
+--     probeRegister p r          what is sent of a register: the byte as it stands
+--     probeOffer p               what the probe puts on the line in the next slot: 1 unless it sends a 0
 --     probeLineShown p m         what the line shows where the master offers m: the AND of both
---     runsAfter c running   whether a conversion runs after command c; stageAfter c, where it leads; commandDone p c, the probe after it, converting or not
---     stored p w b          the probe after the host wrote the byte b
+--     runsAfter c running        whether a conversion runs after command c; stageAfter c, where it leads; commandDone p c, the probe after it, converting or not
+--     stored p w b               the probe after the host wrote the byte b
 --     probeHeard p l             the probe after a slot in which the line showed l
 --     probeSlotted p m           one slot in which the master offers m; resetDone p, a reset, with presence outside thermostat mode. Neither is ever refused
 use Prim.Native.Nat.{ℕ, _+_}

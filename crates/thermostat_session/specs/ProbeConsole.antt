@@ -1,10 +1,9 @@
 -- The answer to each request on each DS1821: what is replied, and the probe after it.
---     probeResponded p q            the answer to the request q on the probe p, from the definitions of the calls
+--     probeResponded p q       the answer to the request q on the probe p, from the definitions of the calls
 --     probeAsked l             what a line asks for; one that has no feed asks for nothing that there is
 --     probeSaid p l out        what the call for a line answers: how many bytes of text there are and the probe, or refusal 1 and the probe as it was where less than a
 --                              line's room is lent
 --     probeLeaves p l out      the lent bytes after it: the text from byte 0 on, or as they were
--- Assumes nothing.
 use Prim.Native.Nat.{ℕ}
 use mathlib.Core.List.{List}
 use lib.Dec.{leb}

@@ -1,5 +1,4 @@
 -- What is said of a line, by whether there is room for it; and what is held of a line tells what the whole line asks for, however long it is.
--- Assumes nothing.
 use Prim.Native.Nat.{ℕ, _+_, _<_, _≤_}
 use mathlib.Core.Path.{_≡_, refl, ap, _∙_}
 use mathlib.Core.List.{List}

@@ -3,7 +3,6 @@
 --     statusLine r s        REFUSAL STATUS
 --     probeLine p           TEMPERATURE HIGH LOW STATUS OUTPUT CONVERTING THERMOSTAT of a probe as it stands
 --     replyLine a           the line of a reply: ? to what is no request, REFUSAL, 0 and a bit, or one of those above
--- Assumes nothing.
 use Prim.Native.Nat.{ℕ}
 use mathlib.Core.Bool.{Bool}
 use mathlib.Core.List.{List, [], _∷_}

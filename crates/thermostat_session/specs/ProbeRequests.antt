@@ -1,10 +1,9 @@
 -- What a line asks of a DS1821: the table of its console, by name, number of fields and request. Whatever matches no row, or has a field that is none, is `Bad`.
---     degreesAsked w            whole degrees, written as a count of sixteenths is: -32768 to 32767 in one to five digits, with a minus in front where negative
+--     degreesAsked w         whole degrees, written as a count of sixteenths is: -32768 to 32767 in one to five digits, with a minus in front where negative
 --     limitIn w              a limit: degrees from -128 to 127, as the signed byte that the probe keeps
 --     askedIn m p o          three bits: mode, polarity, one-shot
 --     ofProbe ws             the calls on the probe, by the words of a line
 --     probeRequestOf s       what a line, without its feed, asks for; a line over 80 characters is `Bad`
--- Assumes nothing.
 use Prim.Native.Nat.{ℕ}
 use mathlib.Core.Bool.{Bool, _&&_}
 use mathlib.Core.List.{List}
@@ -90,6 +89,5 @@ ofProbe ws =
     else if asks (ascii "show") 0 ws then Show
     else Bad
 
--- what a line, without its feed, asks for
 unfoldable pub probeRequestOf : List ℕ → ProbeRequest
 probeRequestOf s = if leb (length s) longestRequest then ofProbe (wordsOf s) else Bad

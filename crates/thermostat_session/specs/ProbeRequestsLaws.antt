@@ -1,5 +1,4 @@
 -- The table row by row: where a row asks, no other does.
--- Assumes nothing.
 use Prim.Native.Nat.{ℕ}
 use mathlib.Core.Path.{_≡_}
 use mathlib.Core.Bool.{true, false}

@@ -1,7 +1,6 @@
 -- The thermostat console as a console whose state is the probe.
 --     probeConsole       to a line it says the text of the reply, and it leads to the probe after it
 --     firstProbe         the probe of `start 0 0 0 0 0`, on which a run begins
--- Assumes nothing.
 use mathlib.Core.Bool.{false}
 use Rattle.sessions.specs.Session.{Console}
 use Rattle.thermostat.specs.Power.{probePoweredUp}

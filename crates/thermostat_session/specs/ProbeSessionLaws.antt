@@ -1,6 +1,5 @@
 -- 81 characters of a line tell what the thermostat console says to it, so that what it says does not depend on where its input is cut; and what a call has said stands
 -- at the front of its buffer.
--- Assumes nothing.
 use Prim.Native.Nat.{ℕ, _≤_}
 use mathlib.Core.Path.{_≡_, ap}
 use mathlib.Core.List.{List}

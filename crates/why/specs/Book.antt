@@ -6,7 +6,6 @@
 --     ByTheBook                after every history the answer for every code is that of the book
 --     ListedByReason h         an alarm search after the history lists the added codes whose reason is high, low or both, and no other code has one of these
 --     WhyPromise b code r      the first as what a call promises: of every history that leads to the bench given
--- Assumes nothing.
 use Prim.Native.Nat.{ℕ, _≤_}
 use mathlib.Core.Bool.{Bool, true, false, _||_}
 use mathlib.Core.List.{List, [], _∷_, List·Permᴰ}

@@ -1,6 +1,5 @@
 -- Both claims hold: `by-the-book` and `listed-by-reason`. The invariant of the histories gives each device's page from the book and the codes on the bench from
 -- the addings, so that the device with a code is found exactly where the code was added. A page's reason is high, low or both exactly where the page has the verdict.
--- Assumes nothing.
 use Prim.Native.Nat.{ℕ, zero, suc, _<_}
 use mathlib.Core.Bool.{Bool, true, false, _||_}
 use mathlib.Core.List.{List, [], _∷_, map, List·Permᴰ, List·Permᴰ·nil}

@@ -9,7 +9,6 @@
 --     toldBy p pad           what a page says, with the scratchpad as it stands today
 --     whyAt b place          the same for the device at a place, or that there is none
 --     whyOf b code           the answer for a code: 5, then 7, for a code that is not sound; else by the device with that code, or that there is none
--- Assumes nothing.
 use Prim.Native.Nat.{ℕ}
 use mathlib.Core.Bool.{Bool, true, false, not, _&&_}
 use mathlib.Core.List.{List}
@@ -74,7 +73,6 @@ silent refusal reason = record {
   differs = false;
 }
 
--- whether a limit of today, in scratchpad bytes 2 and 3, is another than the page's
 abbrev pub limitsDiffer : Page → List ℕ → Bool
 limitsDiffer p pad = not (eqb (getD pad highLimitPlace 0) (p .high) && eqb (getD pad lowLimitPlace 0) (p .low))
 

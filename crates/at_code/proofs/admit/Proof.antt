@@ -1,4 +1,4 @@
--- The code is tested first, then the wire. Assumes nothing.
+-- The code is tested first, then the wire.
 use Rattle.master_rules.specs.Access.{admission}
 use borrow.Author.Tests.{eq-eqb, ne-eqb}
 use borrow.Author.Needs.{needs}

@@ -1,4 +1,4 @@
--- The limits one after the other, then the configuration by its family's own comparison. Assumes nothing.
+-- The limits one after the other, then the configuration by its family's own comparison.
 use Rattle.master_rules.specs.Access.{asAsked}
 use borrow.Author.Tests.{eq-eqb, ne-eqb}
 use borrow.Author.Needs.{needs}

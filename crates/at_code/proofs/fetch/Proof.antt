@@ -1,4 +1,4 @@
--- The reply is judged, and the two outcomes are the two cases of the definition. Assumes nothing.
+-- The reply is judged, and the two outcomes are the two cases of the definition.
 use borrow.Author.Tests.{eq-eqb, ne-eqb}
 use borrow.Author.Needs.{needs}
 use Rattle.at_code.specs.Laws.{fetched-by}

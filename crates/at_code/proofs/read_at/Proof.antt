@@ -1,4 +1,4 @@
--- Refused by `admit`, or read. Assumes nothing.
+-- Refused by `admit`, or read.
 use Rattle.master_rules.specs.Access.{readAt}
 use borrow.Author.Tests.{eq-eqb, ne-eqb}
 use borrow.Author.Needs.{needs}

@@ -1,4 +1,4 @@
--- By presence: the nine bytes fetched, or 4. Assumes nothing.
+-- By presence: the nine bytes fetched, or 4.
 use Rattle.master_rules.specs.Access.{readBack}
 use borrow.Author.Needs.{needs}
 use Rattle.at_code.proofs.read_back.Statement.{statement}

@@ -1,4 +1,4 @@
--- The loop's invariant: i bytes of eight slots have been read, and stand in the first i places. Assumes nothing.
+-- The loop's invariant: i bytes of eight slots have been read, and stand in the first i places.
 use Prim.Native.Nat.{ℕ, _≤_, _<_, _-_, _*_}
 use mathlib.Core.Path.{_≡_, refl}
 use native.Mathlib.Omega.{arith}

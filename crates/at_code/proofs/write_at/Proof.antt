@@ -1,4 +1,4 @@
--- Refused by `admit`; otherwise by presence: written and compared, or 4. Assumes nothing.
+-- Refused by `admit`; otherwise by presence: written and compared, or 4.
 use Rattle.master_rules.specs.Access.{writeAt}
 use borrow.Author.Tests.{eq-eqb, ne-eqb}
 use borrow.Author.Needs.{needs}

@@ -1,4 +1,4 @@
--- The tests come in the order of the refusals: the code itself, a device that has it, and the room. Assumes nothing.
+-- The tests come in the order of the refusals: the code itself, a device that has it, and the room.
 use Rattle.bench.specs.Calls.{addedTo}
 use borrow.Author.Tests.{eq-eqb, ne-eqb}
 use borrow.Author.Needs.{needs}

@@ -1,4 +1,4 @@
--- The place is within the table, so that what a place past its end would hold does not count. Assumes nothing.
+-- The place is within the table, so that what a place past its end would hold does not count.
 use Prim.Native.Nat.{_<_}
 use mathlib.Core.Path.{_≡_}
 use native.Mathlib.Omega.{arith}

@@ -1,4 +1,4 @@
--- The code is there, and its device ends its copy or is refused; or the code is refused. `known` is the place that was found, which lies within the table. Assumes nothing.
+-- The code is there, and its device ends its copy or is refused; or the code is refused. `known` is the place that was found, which lies within the table.
 use mathlib.Core.Path.{_≡_, sym, _∙_}
 use lib.ListN.{length, length-map}
 use Rattle.bench.specs.BenchLaws.{place-within}

@@ -1,4 +1,4 @@
--- The call's answer, of the devices that are there. Assumes nothing.
+-- The call's answer, of the devices that are there.
 use borrow.Author.Needs.{needs}
 use Rattle.bench.specs.Bench.{free}
 use Rattle.bench.proofs.is_free.Statement.{statement}

@@ -1,4 +1,4 @@
--- By what the line shows so far. Assumes nothing.
+-- By what the line shows so far.
 use borrow.Author.Needs.{needs}
 use Rattle.bench.proofs.line_with.Statement.{statement}
 use Rattle.bench.proofs.line_with.Tie as tie

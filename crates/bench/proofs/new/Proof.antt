@@ -1,4 +1,4 @@
--- The repeat of 32 is the definition's. Assumes nothing.
+-- The repeat of 32 is the definition's.
 use borrow.Author.Needs.{needs}
 use Rattle.bench.proofs.new.Statement.{statement}
 use Rattle.bench.proofs.new.Tie as tie

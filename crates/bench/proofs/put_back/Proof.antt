@@ -1,4 +1,4 @@
--- The attempt was accepted, and the device goes to its place; or it was refused, and nothing changes. Assumes nothing.
+-- The attempt was accepted, and the device goes to its place; or it was refused, and nothing changes.
 use borrow.Author.Tests.{eq-eqb, ne-eqb}
 use borrow.Author.Needs.{needs}
 use Rattle.bench.proofs.put_back.Statement.{statement}

@@ -1,4 +1,4 @@
--- Without a place left, with pins that cannot be, and with neither. Assumes nothing.
+-- Without a place left, with pins that cannot be, and with neither.
 use borrow.Author.Tests.{le-ltb, lt-ltb}
 use borrow.Author.Needs.{needs}
 use Rattle.bench.proofs.put_last.Statement.{statement}

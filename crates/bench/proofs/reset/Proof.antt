@@ -1,4 +1,4 @@
--- On a free wire and on one that is held. Assumes nothing.
+-- On a free wire and on one that is held.
 use Rattle.bench.specs.Slot.{restarted, resetDone}
 use borrow.Author.Needs.{needs}
 use Rattle.bench.proofs.reset.Statement.{statement}

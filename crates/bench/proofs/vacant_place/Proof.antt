@@ -1,4 +1,4 @@
--- The record is the definition's. Assumes nothing.
+-- The record is the definition's.
 use Rattle.bench.specs.Bench.{vacant}
 use borrow.Author.Needs.{needs}
 use Rattle.bench.proofs.vacant_place.Statement.{statement}

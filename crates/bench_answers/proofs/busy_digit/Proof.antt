@@ -1,4 +1,4 @@
--- Activity by activity. Assumes nothing.
+-- Activity by activity.
 use borrow.Author.Needs.{needs}
 use Rattle.bench_answers.proofs.busy_digit.Statement.{statement}
 use Rattle.bench_answers.proofs.busy_digit.Tie as tie

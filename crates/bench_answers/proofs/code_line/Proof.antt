@@ -1,4 +1,4 @@
--- Refused without room; a line that is short enough is laid. Assumes nothing.
+-- Refused without room; a line that is short enough is laid.
 use denote.Ref.{now}
 use mathlib.Core.Path.{sym, _∙_}
 use borrow.Author.Tests.{not-true, not-false}

@@ -1,4 +1,4 @@
--- What is laid all or nothing is put where it fits. Assumes nothing.
+-- What is laid all or nothing is put where it fits.
 use denote.Ref.{now}
 use Rattle.bench_answers.specs.Answers.{badLine}
 use Rattle.text.specs.PuttingLaws.{puts-laid}

@@ -1,4 +1,4 @@
--- Field after field. Assumes nothing.
+-- Field after field.
 use Rattle.text.specs.Decimal.{decimal}
 use Rattle.bench_answers.specs.Answers.{bitLine}
 use Rattle.text.specs.PuttingLaws.{puts-field, field-puts}

@@ -1,4 +1,4 @@
--- Field after field. Assumes nothing.
+-- Field after field.
 use Rattle.text.specs.Decimal.{decimal}
 use Rattle.text.specs.Digits.{hexOf}
 use Rattle.bench_answers.specs.Answers.{busyDigit, settingsDigits, recordLine}

@@ -1,4 +1,4 @@
--- Refused without room; a line that is short enough is laid. Assumes nothing.
+-- Refused without room; a line that is short enough is laid.
 use denote.Ref.{now}
 use lib.ListN.{length}
 use mathlib.Core.Path.{_≡_, sym, _∙_}

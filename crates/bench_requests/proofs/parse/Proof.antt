@@ -1,4 +1,4 @@
--- By the definition's own tests. Assumes nothing.
+-- By the definition's own tests.
 use borrow.Author.Tests.{lt-leb, le-leb}
 use Rattle.bench_requests.specs.Requests.{requestOf}
 use borrow.Author.Needs.{needs}

@@ -1,4 +1,4 @@
--- The loop passes each byte once. Assumes nothing.
+-- The loop passes each byte once.
 use Prim.Native.Nat.{_≤_, _-_}
 use borrow.Author.Needs.{needs}
 use Rattle.check_noise.proofs.say_bytes.Statement.{statement}

@@ -1,4 +1,4 @@
--- The loop passes each count once. Assumes nothing.
+-- The loop passes each count once.
 use Prim.Native.Nat.{_≤_, _-_}
 use borrow.Author.Needs.{needs}
 use Rattle.check_tables.proofs.main.Statement.{statement}

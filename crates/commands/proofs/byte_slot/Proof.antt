@@ -1,4 +1,4 @@
--- Within the eight bits the shift brings the bit down; past them the answer is 1. Assumes nothing.
+-- Within the eight bits the shift brings the bit down; past them the answer is 1.
 use borrow.Author.Tests.{le-ltb, lt-ltb}
 use borrow.Author.Needs.{needs}
 use Rattle.commands.proofs.byte_slot.Statement.{statement}

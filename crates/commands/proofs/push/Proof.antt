@@ -1,4 +1,4 @@
--- The bit comes in at the top; the others move down by one. Assumes nothing.
+-- The bit comes in at the top; the others move down by one.
 use native.Mathlib.Omega.{arith}
 use borrow.Author.Needs.{needs}
 use Rattle.commands.proofs.push.Statement.{statement}

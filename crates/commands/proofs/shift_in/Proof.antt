@@ -1,4 +1,4 @@
--- Before the last bit of the byte, at it, and past it: the definition's two tests. Assumes nothing.
+-- Before the last bit of the byte, at it, and past it: the definition's two tests.
 use borrow.Author.Tests.{eq-eqb, le-ltb, lt-ltb, ne-eqb}
 use borrow.Author.Needs.{needs}
 use Rattle.commands.proofs.shift_in.Statement.{statement}

@@ -1,4 +1,4 @@
--- What was read of each file is within its buffer. Assumes nothing.
+-- What was read of each file is within its buffer.
 use Prim.Native.Nat.{_≤_}
 use mathlib.Core.Path.{sym}
 use native.Mathlib.Omega.{arith}

@@ -1,4 +1,4 @@
--- Both buffers have their length, whatever is stored in them. Assumes nothing.
+-- Both buffers have their length, whatever is stored in them.
 use Prim.Native.Nat.{ℕ}
 use mathlib.Core.Path.{sym}
 use lib.ListN.{length-replicate}

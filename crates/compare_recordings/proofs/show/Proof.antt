@@ -1,4 +1,4 @@
--- The line that was laid, and the part, are those of the two recordings. Assumes nothing.
+-- The line that was laid, and the part, are those of the two recordings.
 use Prim.Native.Nat.{_≤_}
 use denote.Ref.{now}
 use mathlib.Core.Path.{refl, sym}

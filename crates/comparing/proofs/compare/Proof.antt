@@ -1,5 +1,4 @@
 -- The loop's invariant: so many lines are the same in both, and the lines behind them begin at the place. The measure is what is left of the reference.
--- Assumes nothing.
 use Prim.Native.Nat.{_-_}
 use denote.Ref.{now}
 use mathlib.Core.Path.{sym, _∙_}

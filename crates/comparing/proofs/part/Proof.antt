@@ -1,4 +1,4 @@
--- The side that was answered says of which recording the part is, and the place is within that one. Assumes nothing.
+-- The side that was answered says of which recording the part is, and the place is within that one.
 use Prim.Native.Nat.{_-_, _≤_}
 use denote.Ref.{now}
 use mathlib.Core.Path.{_≡_, ap, _∙_}

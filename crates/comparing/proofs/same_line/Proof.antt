@@ -1,4 +1,4 @@
--- Both lines by where they end: they are the same where both or neither has a feed and their characters are the same. Assumes nothing.
+-- Both lines by where they end: they are the same where both or neither has a feed and their characters are the same.
 use Prim.Native.Nat.{_≤_}
 use denote.Ref.{now}
 use lib.ListN.{length}

@@ -1,4 +1,4 @@
--- One answer for each pair of the bit that leaves and the bit that comes. Assumes nothing.
+-- One answer for each pair of the bit that leaves and the bit that comes.
 use borrow.Author.Tests.{eq-eqb, ne-eqb}
 use Rattle.crc.proofs.crc_bit.Statement.{statement}
 use Rattle.crc.proofs.crc_bit.Tie as tie

@@ -1,5 +1,4 @@
 -- The loop's invariant says what is still to come: the register as it stands, fed with the bits that are left, gives the answer.
--- Assumes nothing.
 use Prim.Native.Nat.{_≤_, _-_}
 use mathlib.Core.Path.{_≡_, _∙_, sym}
 use native.Mathlib.Omega.{arith}

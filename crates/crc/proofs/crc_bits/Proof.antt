@@ -1,5 +1,4 @@
 -- The loop's invariant says what is still to come: the register as it stands, fed with the bits that are left, gives the answer.
--- Assumes nothing.
 use mathlib.Core.Path.{_≡_, _∙_, refl}
 use borrow.Author.Needs.{needs}
 use Rattle.basic_laws.specs.Bits.{bitsOf}

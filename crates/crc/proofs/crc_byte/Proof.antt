@@ -1,4 +1,4 @@
--- One entry of a table that has its rule. Assumes nothing.
+-- One entry of a table that has its rule.
 use Prim.Native.Nat.{_<_}
 use native.Mathlib.Omega.{arith}
 use borrow.Author.Needs.{needs}

@@ -1,4 +1,4 @@
--- The loop's invariant: the register is the CRC of the bytes passed. Assumes nothing.
+-- The loop's invariant: the register is the CRC of the bytes passed.
 use Prim.Native.Nat.{_≤_, _-_}
 use mathlib.Core.Path.{_≡_, _∙_, refl}
 use native.Mathlib.Omega.{arith}

@@ -1,4 +1,4 @@
--- The test of the table: `refl` computes its rule at all 256 places and compares. Assumes nothing.
+-- The test of the table: `refl` computes its rule at all 256 places and compares.
 use mathlib.Core.Path.{refl}
 use Rattle.basic_laws.specs.Fold.{fold}
 use Rattle.basic_laws.specs.Bits.{bitsOf}

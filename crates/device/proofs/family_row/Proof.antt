@@ -1,4 +1,4 @@
--- The family of the code, then its properties. Assumes nothing.
+-- The family of the code, then its properties.
 use borrow.Author.Needs.{needs}
 use Rattle.device.proofs.family_row.Statement.{statement}
 use Rattle.device.proofs.family_row.Tie as tie

@@ -1,4 +1,4 @@
--- The row of the family, then the pins. Assumes nothing.
+-- The row of the family, then the pins.
 use Rattle.device.specs.Record.{rowOf}
 use borrow.Author.Needs.{needs}
 use Rattle.device.proofs.row_of.Statement.{statement}

@@ -1,4 +1,4 @@
--- With a configuration and without one. Assumes nothing.
+-- With a configuration and without one.
 use Rattle.device.specs.Settings.{settingsIn}
 use borrow.Author.Needs.{needs}
 use Rattle.device.proofs.settings_in.Statement.{statement}

@@ -1,4 +1,4 @@
--- With a configuration and without one; each byte goes to its own place. Assumes nothing.
+-- With a configuration and without one; each byte goes to its own place.
 use Rattle.device.specs.Settings.{withSettings}
 use borrow.Author.Needs.{needs}
 use Rattle.device.proofs.with_settings.Statement.{statement}

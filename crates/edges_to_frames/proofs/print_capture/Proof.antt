@@ -1,4 +1,4 @@
--- The reader is one that pieces have led to, and the buffers keep their lengths. The measure is the number of turns that are left. Assumes nothing.
+-- The reader is one that pieces have led to, and the buffers keep their lengths. The measure is the number of turns that are left.
 use mathlib.Core.Path.{_≡_, refl, _∙_}
 use native.Mathlib.Omega.{arith}
 use borrow.Author.Tests.{not-false}

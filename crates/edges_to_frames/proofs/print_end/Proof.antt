@@ -1,4 +1,4 @@
--- What stands in the buffer is what the end hands on. Assumes nothing.
+-- What stands in the buffer is what the end hands on.
 use Rattle.capture_laws.specs.Transcript.{of-end}
 use denote.Ref.{now}
 use mathlib.Core.Bool.{false≢true}

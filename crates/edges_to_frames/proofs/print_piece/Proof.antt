@@ -1,4 +1,4 @@
--- What stands in the buffer is what the piece hands on, and the reader goes on behind it. Assumes nothing.
+-- What stands in the buffer is what the piece hands on, and the reader goes on behind it.
 use Rattle.capture_laws.specs.Transcript.{more, of-piece}
 use Rattle.capture_laws.specs.Taken.{Piece}
 use denote.Ref.{now}

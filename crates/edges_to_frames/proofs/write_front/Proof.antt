@@ -1,4 +1,4 @@
--- A part is as long as asked where it is within the whole. Assumes nothing.
+-- A part is as long as asked where it is within the whole.
 use lib.Seq.{length-take-le}
 use borrow.Author.Needs.{needs}
 use Rattle.edges_to_frames.proofs.write_front.Statement.{statement}

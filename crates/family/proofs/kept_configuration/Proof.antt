@@ -1,4 +1,4 @@
--- With a configuration and without one. Assumes nothing.
+-- With a configuration and without one.
 use borrow.Author.Needs.{needs}
 use Rattle.family.proofs.kept_configuration.Statement.{statement}
 use Rattle.family.proofs.kept_configuration.Tie as tie

@@ -1,4 +1,4 @@
--- The two tests of the definition. Assumes nothing.
+-- The two tests of the definition.
 use borrow.Author.Needs.{needs}
 use Rattle.family.proofs.pins_wrong.Statement.{statement}
 use Rattle.family.proofs.pins_wrong.Tie as tie

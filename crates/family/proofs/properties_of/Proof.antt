@@ -1,4 +1,4 @@
--- Each row is the one that the definition picks by the same three numbers. Assumes nothing.
+-- Each row is the one that the definition picks by the same three numbers.
 use borrow.Author.Tests.{ne-eqb}
 use Rattle.family.specs.Families.{ds18s20, ds18b20, ds1825}
 use Rattle.family.proofs.properties_of.Statement.{statement}

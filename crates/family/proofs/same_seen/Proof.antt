@@ -1,4 +1,4 @@
--- By the upper four bits or by all, as the family has pins or none. Assumes nothing.
+-- By the upper four bits or by all, as the family has pins or none.
 use Rattle.family.proofs.same_seen.Statement.{statement}
 use Rattle.family.proofs.same_seen.Tie as tie
 

@@ -1,4 +1,4 @@
--- The mask leaves at most 60h, so neither sum passes a byte. Assumes nothing.
+-- The mask leaves at most 60h, so neither sum passes a byte.
 use native.Mathlib.Omega.{arith}
 use lib.Bits.{and-le-r}
 use borrow.Author.Needs.{needs}

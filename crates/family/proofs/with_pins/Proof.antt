@@ -1,4 +1,4 @@
--- The row with its low four bits replaced. Assumes nothing.
+-- The row with its low four bits replaced.
 use borrow.Author.Needs.{needs}
 use Rattle.family.proofs.with_pins.Statement.{statement}
 use Rattle.family.proofs.with_pins.Tie as tie

@@ -1,4 +1,4 @@
--- The definition's bytes are the 64 zeros that the code names. Assumes nothing.
+-- The definition's bytes are the 64 zeros that the code names.
 use Rattle.frame.specs.Frames.{noBits}
 use borrow.Author.Needs.{needs}
 use Rattle.frame.proofs.blank.Statement.{statement}

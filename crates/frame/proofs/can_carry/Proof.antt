@@ -1,4 +1,4 @@
--- The two conditions, in their order. Assumes nothing.
+-- The two conditions, in their order.
 use mathlib.Core.Path.{_≡_, sym, _∙_}
 use mathlib.Core.Bool.{true, false}
 use Rattle.frame.specs.Frames.{countAllowed}

@@ -1,4 +1,4 @@
--- The loop's invariant: whether the bytes from `i` on are clear, from bit `from` of the first, is the answer. The measure is what is left. Assumes nothing.
+-- The loop's invariant: whether the bytes from `i` on are clear, from bit `from` of the first, is the answer. The measure is what is left.
 use mathlib.Core.Bool.{_&&_}
 use borrow.Author.Tests.{eq-eqb, ne-eqb}
 use denote.Ref.{now}

@@ -1,4 +1,4 @@
--- The definition's tests, in its order. Assumes nothing.
+-- The definition's tests, in its order.
 use borrow.Author.Tests.{lt-leb, le-leb}
 use Rattle.frame.proofs.count_allowed.Statement.{statement}
 use Rattle.frame.proofs.count_allowed.Tie as tie

@@ -1,4 +1,4 @@
--- Below the most slots one byte is replaced, and so one bit of all. Assumes nothing.
+-- Below the most slots one byte is replaced, and so one bit of all.
 use Prim.Native.Nat.{ℕ, _+_, _/_, _<_, _≤_}
 use mathlib.Core.Path.{_≡_, refl, sym, ap, _∙_}
 use native.Mathlib.Omega.{arith}

@@ -1,4 +1,4 @@
--- Past the count or past the array there is no slot; else the bit of its byte. Assumes nothing.
+-- Past the count or past the array there is no slot; else the bit of its byte.
 use lib.ListN.{length, length-map}
 use mathlib.Core.Path.{_≡_, sym}
 use Rattle.frame.specs.FramesLaws.{slot-none, slot-past, slot-here}

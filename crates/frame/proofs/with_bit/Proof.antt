@@ -1,4 +1,4 @@
--- The bit's weight is taken out and put back in as asked. Assumes nothing.
+-- The bit's weight is taken out and put back in as asked.
 use Prim.Native.Nat.{_+_, _*_, _/_, _%_, _^_, _≤_}
 use mathlib.Core.Path.{_≡_}
 use mathlib.Core.Bool.{Bool, true, false}

@@ -1,4 +1,4 @@
--- The characters that fit are laid behind those that are held, which is what is held of both. Assumes nothing.
+-- The characters that fit are laid behind those that are held, which is what is held of both.
 use Prim.Native.Nat.{_-_}
 use mathlib.Core.Path.{_≡_, refl, ap, _∙_}
 use native.Mathlib.Nat.{sub-zero}

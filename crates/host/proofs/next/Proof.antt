@@ -1,4 +1,4 @@
--- The four ends of the call: the buffer is too short, the line stands whole in the piece, it ends there, and it has no feed. Assumes nothing.
+-- The four ends of the call: the buffer is too short, the line stands whole in the piece, it ends there, and it has no feed.
 use Prim.Native.Nat.{ℕ, _+_}
 use mathlib.Core.Path.{ap, _∙_}
 use mathlib.Core.Bool.{true}

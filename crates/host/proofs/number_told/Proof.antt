@@ -1,4 +1,4 @@
--- By the definition's own test. Assumes nothing.
+-- By the definition's own test.
 use borrow.Author.Tests.{eq-eqb, ne-eqb}
 use borrow.Author.Needs.{needs}
 use Rattle.host.proofs.number_told.Statement.{statement}

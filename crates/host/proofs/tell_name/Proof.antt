@@ -1,4 +1,4 @@
--- The number is that of the name. Assumes nothing.
+-- The number is that of the name.
 use borrow.Author.Needs.{needs}
 use Rattle.host.proofs.tell_name.Statement.{statement}
 use Rattle.host.proofs.tell_name.Tie as tie

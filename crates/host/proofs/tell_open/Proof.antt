@@ -1,4 +1,4 @@
--- By the definition's own tests; what is held is no more than may be. Assumes nothing.
+-- By the definition's own tests; what is held is no more than may be.
 use borrow.Author.Tests.{eq-eqb, ne-eqb}
 use denote.Ref.{now}
 use lib.Seq.{take-all}

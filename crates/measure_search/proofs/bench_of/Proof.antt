@@ -1,4 +1,4 @@
--- The loop ends after its last place. Assumes nothing.
+-- The loop ends after its last place.
 use Prim.Native.Nat.{_≤_, _-_}
 use borrow.Author.Needs.{needs}
 use Rattle.measure_search.proofs.bench_of.Statement.{statement}

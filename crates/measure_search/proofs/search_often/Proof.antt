@@ -1,4 +1,4 @@
--- The loop ends after its last turn, and both slices keep their lengths. Assumes nothing.
+-- The loop ends after its last turn, and both slices keep their lengths.
 use Prim.Native.Nat.{_≤_, _-_}
 use mathlib.Core.Path.{_≡_}
 use lib.ListN.{length}

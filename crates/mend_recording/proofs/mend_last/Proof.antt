@@ -1,4 +1,4 @@
--- What is left stands at the front of its buffer, and the report at the front of its own. Assumes nothing.
+-- What is left stands at the front of its buffer, and the report at the front of its own.
 use Prim.Native.Nat.{_≤_}
 use denote.Ref.{now}
 use mathlib.Core.Path.{sym, ap}

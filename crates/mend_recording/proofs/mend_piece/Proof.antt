@@ -1,4 +1,4 @@
--- What is left stands at the front of its buffer, the report at the front of its own, and what is carried over within the piece. Assumes nothing.
+-- What is left stands at the front of its buffer, the report at the front of its own, and what is carried over within the piece.
 use Prim.Native.Nat.{_≤_}
 use denote.Ref.{now}
 use mathlib.Core.Path.{sym, ap}

@@ -1,4 +1,4 @@
--- What is carried over stands within the buffer. Assumes nothing.
+-- What is carried over stands within the buffer.
 use native.Mathlib.Omega.{arith}
 use lib.ListN.{length-take}
 use borrow.Author.Needs.{needs}

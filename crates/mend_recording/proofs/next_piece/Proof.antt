@@ -1,4 +1,4 @@
--- What is read stands behind the bytes that are carried, and what is carried over afterwards is what the piece that they make leaves. Assumes nothing.
+-- What is read stands behind the bytes that are carried, and what is carried over afterwards is what the piece that they make leaves.
 use Prim.Native.Nat.{_-_, _≤_}
 use denote.Ref.{now}
 use mathlib.Core.Path.{_≡_, ap, _∙_}

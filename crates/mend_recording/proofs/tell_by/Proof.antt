@@ -1,4 +1,4 @@
--- What is told stands at the front of its buffer, within it. Assumes nothing.
+-- What is told stands at the front of its buffer, within it.
 use denote.Ref.{now}
 use mathlib.Core.Path.{ap}
 use native.Mathlib.Omega.{arith}

@@ -1,4 +1,4 @@
--- The last character is looked at, where there is one. Assumes nothing.
+-- The last character is looked at, where there is one.
 use denote.Ref.{now}
 use Rattle.mending.specs.StepLaws.{return-none, return-off, return-kept}
 use borrow.Author.Needs.{needs}

@@ -1,4 +1,4 @@
--- The loop's invariant: what is left has the same characters before its spaces. The measure is what is left. Assumes nothing.
+-- The loop's invariant: what is left has the same characters before its spaces. The measure is what is left.
 use Prim.Native.Nat.{_≤_}
 use denote.Ref.{now}
 use mathlib.Core.Path.{_≡_, ap}

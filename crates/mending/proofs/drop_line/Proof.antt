@@ -1,4 +1,4 @@
--- An empty text is laid. Assumes nothing.
+-- An empty text is laid.
 use Prim.Native.Nat.{_+_}
 use mathlib.Core.Path.{ap}
 use Rattle.text.specs.declared.laying.Written.{Written}

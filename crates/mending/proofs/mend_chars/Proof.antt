@@ -1,4 +1,4 @@
--- The characters, raised, stand at the front of the array; each call finds where the next step ends them. Assumes nothing.
+-- The characters, raised, stand at the front of the array; each call finds where the next step ends them.
 use Prim.Native.Nat.{_≤_}
 use denote.Ref.{now}
 use mathlib.Core.Bool.{Bool}

@@ -1,4 +1,4 @@
--- The characters, mended, are read; they are dropped or written by what the reader says. Assumes nothing.
+-- The characters, mended, are read; they are dropped or written by what the reader says.
 use Prim.Native.Nat.{ℕ, _+_, _<_}
 use denote.Ref.{now}
 use mathlib.Core.Bool.{true}

@@ -1,4 +1,4 @@
--- By the length and the feed, and then by how the line reads once mended. Assumes nothing.
+-- By the length and the feed, and then by how the line reads once mended.
 use denote.Ref.{now}
 use mathlib.Core.Path.{_∙_}
 use borrow.Author.Tests.{not-true, not-false}

@@ -1,4 +1,4 @@
--- The loop's invariant: the first `i` characters are laid from place 0, raised. The measure is what is left. Assumes nothing.
+-- The loop's invariant: the first `i` characters are laid from place 0, raised. The measure is what is left.
 use Prim.Native.Nat.{_+_, _≤_, _<_, _-_}
 use denote.Ref.{now}
 use mathlib.Core.List.{map}

@@ -1,4 +1,4 @@
--- By the ranges of the letters. Assumes nothing.
+-- By the ranges of the letters.
 use Rattle.mending.specs.StepLaws.{raised-below, raised-letter, raised-above}
 use borrow.Author.Needs.{needs}
 use Rattle.mending.proofs.raise.Statement.{statement}

@@ -1,4 +1,4 @@
--- By the test of the definition. Assumes nothing.
+-- By the test of the definition.
 use borrow.Author.Tests.{eq-eqb, ne-eqb}
 use borrow.Author.Needs.{needs}
 use Rattle.mending.proofs.report_written.Statement.{statement}

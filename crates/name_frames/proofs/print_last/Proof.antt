@@ -1,4 +1,4 @@
--- What is printed stands at the front of the text, within it. Assumes nothing.
+-- What is printed stands at the front of the text, within it.
 use mathlib.Core.Path.{ap}
 use native.Mathlib.Omega.{arith}
 use denote.Ref.{now}

@@ -1,4 +1,4 @@
--- What is printed stands at the front of the text, within it, and what is carried over within the piece. Assumes nothing.
+-- What is printed stands at the front of the text, within it, and what is carried over within the piece.
 use mathlib.Core.Path.{ap}
 use native.Mathlib.Omega.{arith}
 use lib.ListN.{length-take}

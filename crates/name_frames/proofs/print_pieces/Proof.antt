@@ -1,5 +1,5 @@
 -- The loop's invariant: what is carried over stands at the front of the buffer and is what the reads so far left, and both buffers have their lengths.
--- The measure is the number of turns that are left. Assumes nothing.
+-- The measure is the number of turns that are left.
 use Prim.Native.Nat.{_≤_}
 use mathlib.Core.Path.{_≡_, refl, _∙_}
 use native.Mathlib.Omega.{arith}

@@ -1,4 +1,4 @@
--- What is read stands behind the bytes that are carried, which stay. Assumes nothing.
+-- What is read stands behind the bytes that are carried, which stay.
 use Prim.Native.Nat.{_+_, _≤_}
 use denote.Ref.{now}
 use lib.ListN.{length}

@@ -1,4 +1,4 @@
--- The bit stands in the byte of its place. Assumes nothing.
+-- The bit stands in the byte of its place.
 use Prim.Native.Nat.{ℕ, _+_, _*_, _/_, _%_, _<_}
 use mathlib.Core.Bool.{false}
 use mathlib.Core.Path.{_≡_, sym, ap, _∙_}

@@ -1,4 +1,4 @@
--- The loop's invariant: `code` is the number of the bytes from place `left` of the eight on. The measure is `left`. Assumes nothing.
+-- The loop's invariant: `code` is the number of the bytes from place `left` of the eight on. The measure is `left`.
 use lib.Pow.{pow-mono, pow-add}
 use Prim.Native.Nat.{ℕ, _+_, _-_, _*_, _^_, _<_, _≤_}
 use mathlib.Core.Path.{_≡_, sym, ap, _∙_}

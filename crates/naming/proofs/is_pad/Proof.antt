@@ -1,4 +1,4 @@
--- The code's tests are the definition's. Assumes nothing.
+-- The code's tests are the definition's.
 use borrow.Author.Tests.{eq-eqb, ne-eqb}
 use borrow.Author.Needs.{needs}
 use Rattle.naming.proofs.is_pad.Statement.{statement}

@@ -1,4 +1,4 @@
--- The code's tests are the definition's. Assumes nothing.
+-- The code's tests are the definition's.
 use Rattle.naming.specs.Naming.{searches}
 use borrow.Author.Tests.{eq-eqb, ne-eqb}
 use Rattle.naming.proofs.is_search.Statement.{statement}

@@ -1,4 +1,4 @@
--- The code's own refusal decides. Assumes nothing.
+-- The code's own refusal decides.
 use borrow.Author.Tests.{eq-eqb, ne-eqb}
 use borrow.Author.Needs.{needs}
 use Rattle.naming.proofs.name_coded.Statement.{statement}

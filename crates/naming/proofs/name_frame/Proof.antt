@@ -1,5 +1,5 @@
 -- Each return is one line of the definition: the tests before it came out the other way, its own came out its way. `present`, `no-search`, `no-alarm`,
--- `somebody` and `no-pad` say what a test that came out the other way tells of the frame. Assumes nothing.
+-- `somebody` and `no-pad` say what a test that came out the other way tells of the frame.
 use mathlib.Core.Path.{_≡_, sym, ap, _∙_}
 use mathlib.Core.Bool.{true, false}
 use borrow.Author.Tests.{not-false}

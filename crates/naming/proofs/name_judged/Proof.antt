@@ -1,4 +1,4 @@
--- The scratchpad's judgement decides. Assumes nothing.
+-- The scratchpad's judgement decides.
 use borrow.Author.Tests.{eq-eqb, ne-eqb}
 use borrow.Author.Needs.{needs}
 use Rattle.naming.proofs.name_judged.Statement.{statement}

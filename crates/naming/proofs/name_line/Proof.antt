@@ -1,4 +1,4 @@
--- What is read is named. Assumes nothing.
+-- What is read is named.
 use mathlib.Core.Path.{ap, _∙_}
 use Rattle.naming.specs.Naming.{nameOfRead}
 use Rattle.naming.specs.Laws.{line-read}

@@ -1,4 +1,4 @@
--- The code's CRC is looked at before the scratchpad. Assumes nothing.
+-- The code's CRC is looked at before the scratchpad.
 use borrow.Author.Tests.{eq-eqb, ne-eqb}
 use borrow.Author.Needs.{needs}
 use Rattle.naming.proofs.name_pad.Statement.{statement}

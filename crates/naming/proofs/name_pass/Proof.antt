@@ -1,4 +1,4 @@
--- The triples are looked at before the code. Assumes nothing.
+-- The triples are looked at before the code.
 use borrow.Author.Needs.{needs}
 use Rattle.naming.proofs.name_pass.Statement.{statement}
 use Rattle.naming.proofs.name_pass.Tie as tie

@@ -1,4 +1,4 @@
--- A refusal is passed on; else the frame is named. Assumes nothing.
+-- A refusal is passed on; else the frame is named.
 use borrow.Author.Tests.{eq-eqb, ne-eqb}
 use borrow.Author.Needs.{needs}
 use Rattle.naming.proofs.name_read.Statement.{statement}

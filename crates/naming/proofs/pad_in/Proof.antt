@@ -1,4 +1,4 @@
--- Nine bytes, read one by one, are the part of the bytes that the definition takes. Assumes nothing.
+-- Nine bytes, read one by one, are the part of the bytes that the definition takes.
 use denote.Ref.{now}
 use Rattle.naming.specs.Laws.{pad-bytes}
 use borrow.Author.Needs.{needs}

@@ -1,4 +1,4 @@
--- The loop's invariant: the triples from `left` on are allowed, and `code` is the number of their third bits. The measure is `left`. Assumes nothing.
+-- The loop's invariant: the triples from `left` on are allowed, and `code` is the number of their third bits. The measure is `left`.
 use Prim.Native.Nat.{_+_, _-_, _*_, _≤_}
 use mathlib.Core.Bool.{true, false}
 use mathlib.Core.Path.{_≡_, sym}

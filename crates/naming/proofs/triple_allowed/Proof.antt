@@ -1,4 +1,4 @@
--- The code's branches are the definition's cases. Assumes nothing.
+-- The code's branches are the definition's cases.
 use borrow.Author.Needs.{needs}
 use Rattle.naming.proofs.triple_allowed.Statement.{statement}
 use Rattle.naming.proofs.triple_allowed.Tie as tie

@@ -1,4 +1,4 @@
--- What the call leaves at the front of the buffer is what the console says to the line. Assumes nothing.
+-- What the call leaves at the front of the buffer is what the console says to the line.
 use native.Mathlib.Omega.{arith}
 use denote.Ref.{now}
 use lib.ListN.{length-take}

@@ -1,4 +1,4 @@
--- With its feed the line is answered, and nothing is held; without, all is as it was. Assumes nothing.
+-- With its feed the line is answered, and nothing is held; without, all is as it was.
 use mathlib.Core.Path.{refl, ap}
 use native.Mathlib.Omega.{arith}
 use lib.Seq.{length-take-le}

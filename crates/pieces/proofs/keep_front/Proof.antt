@@ -1,5 +1,5 @@
 -- The loop's invariant: the first `i` bytes that are kept stand at the front, and those from `from` on are as they were. The measure is what is
--- left. Assumes nothing.
+-- left.
 use Prim.Native.Nat.{_+_, _-_, _<_, _≤_}
 use mathlib.Core.Path.{_≡_, refl, _∙_}
 use mathlib.Core.List.{[]}

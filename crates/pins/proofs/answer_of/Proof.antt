@@ -1,4 +1,4 @@
--- The pins of those that were read are the front of the array. Assumes nothing.
+-- The pins of those that were read are the front of the array.
 use mathlib.Core.Path.{_≡_, ap}
 use native.Mathlib.Omega.{arith}
 use lib.ListN.{length, length-take}

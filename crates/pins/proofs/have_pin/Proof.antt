@@ -1,4 +1,4 @@
--- The loop's invariant: so many of those passed have the number. The measure is how many are left. Assumes nothing.
+-- The loop's invariant: so many of those passed have the number. The measure is how many are left.
 use Prim.Native.Nat.{ℕ, _+_, _-_, _≤_}
 use mathlib.Core.Path.{_≡_, ap, _∙_}
 use native.Mathlib.Omega.{arith}

@@ -1,4 +1,4 @@
--- The row of the code's family says so. Assumes nothing.
+-- The row of the code's family says so.
 use borrow.Author.Needs.{needs}
 use Rattle.pins.proofs.is_pinned.Statement.{statement}
 use Rattle.pins.proofs.is_pinned.Tie as tie

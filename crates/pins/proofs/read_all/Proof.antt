@@ -1,4 +1,4 @@
--- The loop's invariant: the reading and the list hold what the codes so far have given, and no more codes than were passed. The measure is how many are left. Assumes nothing.
+-- The loop's invariant: the reading and the list hold what the codes so far have given, and no more codes than were passed. The measure is how many are left.
 use Prim.Native.Nat.{_-_, _≤_}
 use mathlib.Core.Path.{_≡_, refl}
 use native.Mathlib.Omega.{arith}

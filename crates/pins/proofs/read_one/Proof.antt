@@ -1,4 +1,4 @@
--- Without pins nothing, after a refused reply the bench alone, else one code more (`holds-skip`, `holds-refused`, `holds-read`). Assumes nothing.
+-- Without pins nothing, after a refused reply the bench alone, else one code more (`holds-skip`, `holds-refused`, `holds-read`).
 use denote.Ref.{now}
 use mathlib.Core.Path.{sym, _∙_}
 use native.Mathlib.Omega.{arith}

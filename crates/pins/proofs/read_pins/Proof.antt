@@ -1,4 +1,4 @@
--- Without room the refusal; with room the search and its reads. Assumes nothing.
+-- Without room the refusal; with room the search and its reads.
 use denote.Ref.{now}
 use lib.ListN.{length}
 use Rattle.basic_laws.specs.LaidLaws.{laid-none}

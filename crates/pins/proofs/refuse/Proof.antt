@@ -1,4 +1,4 @@
--- Nothing is listed, and nobody shares a pin. Assumes nothing.
+-- Nothing is listed, and nobody shares a pin.
 use Rattle.pins.specs.ReadingLaws.{nobody-shares, nothing-laid}
 use Rattle.pins.proofs.refuse.Statement.{statement}
 use Rattle.pins.proofs.refuse.Tie as tie

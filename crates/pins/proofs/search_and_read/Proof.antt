@@ -1,4 +1,4 @@
--- A search that is refused, and one that is done with the reads at the front of what it was lent. Assumes nothing.
+-- A search that is refused, and one that is done with the reads at the front of what it was lent.
 use denote.Ref.{now}
 use mathlib.Core.Path.{sym, ap, _∙_}
 use native.Mathlib.Omega.{arith}

@@ -1,4 +1,4 @@
--- What is printed is within its buffer. Assumes nothing.
+-- What is printed is within its buffer.
 use Prim.Native.Nat.{_≤_}
 use mathlib.Core.Path.{sym}
 use lib.ListN.{length}

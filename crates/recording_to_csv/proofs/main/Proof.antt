@@ -1,4 +1,4 @@
--- The buffer has its length. Assumes nothing.
+-- The buffer has its length.
 use Prim.Native.Nat.{ℕ}
 use mathlib.Core.Path.{sym}
 use lib.ListN.{length-replicate}

@@ -1,4 +1,4 @@
--- A code is below 2 ^ 64, so that from place 64 on its bits are zero; below that the shift is the division. Assumes nothing.
+-- A code is below 2 ^ 64, so that from place 64 on its bits are zero; below that the shift is the division.
 use Prim.Native.Nat.{_/_, _^_, _<_}
 use mathlib.Core.Path.{_≡_}
 use native.Mathlib.Nat.{div-eq-of-lt, lt-of-lt-of-le}

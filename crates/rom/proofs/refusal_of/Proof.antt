@@ -1,4 +1,4 @@
--- The calls give the two sides of the definition's first test and the row of its second. Assumes nothing.
+-- The calls give the two sides of the definition's first test and the row of its second.
 use borrow.Author.Needs.{needs}
 use borrow.Author.Tests.{eq-eqb, ne-eqb}
 use Rattle.rom.specs.Code.{codeRefusal}

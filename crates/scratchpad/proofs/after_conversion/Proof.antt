@@ -1,4 +1,4 @@
--- The stored reading goes into the two bytes of the register, the counts behind. Assumes nothing.
+-- The stored reading goes into the two bytes of the register, the counts behind.
 use borrow.Author.Needs.{needs}
 use Rattle.scratchpad.specs.Stored.{scratchpadAfter}
 use Rattle.scratchpad.proofs.after_conversion.Statement.{statement}

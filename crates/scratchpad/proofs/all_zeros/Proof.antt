@@ -1,4 +1,4 @@
--- The loop's invariant: whether all are zero is left to the bytes from i on. Assumes nothing.
+-- The loop's invariant: whether all are zero is left to the bytes from i on.
 use Prim.Native.Nat.{_≤_, _<_, _-_}
 use mathlib.Core.Path.{_≡_, _∙_, sym, refl}
 use native.Mathlib.Omega.{arith}

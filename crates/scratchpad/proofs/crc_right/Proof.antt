@@ -1,4 +1,4 @@
--- The first eight bytes are lent to the CRC, whose promise is the definition's other side. Assumes nothing.
+-- The first eight bytes are lent to the CRC, whose promise is the definition's other side.
 use mathlib.Core.Path.{_≡_}
 use native.Mathlib.Omega.{arith}
 use borrow.Author.Needs.{needs}

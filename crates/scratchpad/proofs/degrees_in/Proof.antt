@@ -1,4 +1,4 @@
--- The judgement's own reading, in degrees. Assumes nothing.
+-- The judgement's own reading, in degrees.
 use mathlib.Core.Path.{ap, _∙_}
 use Rattle.scratchpad.specs.InDegrees.{sixteenthsOf}
 use Rattle.scratchpad.specs.declared.Judged.{Judged}

@@ -1,4 +1,4 @@
--- The reading and the two count bytes are those of the definition. Assumes nothing.
+-- The reading and the two count bytes are those of the definition.
 use borrow.Author.Needs.{needs}
 use Rattle.scratchpad.proofs.fine_in.Statement.{statement}
 use Rattle.scratchpad.proofs.fine_in.Tie as tie

@@ -1,6 +1,5 @@
 -- Each return is one line of the definition: the tests before it came out the other way, its own came out its way. `simp` rewrites the
 -- definition's tests by what the calls promise and by the branches taken. A place is named for the call or the branch that it follows.
--- Assumes nothing.
 use borrow.Author.Needs.{needs}
 use Rattle.scratchpad.specs.Judgement.{judged}
 use Rattle.scratchpad.proofs.judge.Statement.{statement}

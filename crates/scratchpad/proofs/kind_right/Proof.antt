@@ -1,4 +1,4 @@
--- The branch is the definition's first test, the call its second. Assumes nothing.
+-- The branch is the definition's first test, the call its second.
 use borrow.Author.Needs.{needs}
 use Rattle.scratchpad.proofs.kind_right.Statement.{statement}
 use Rattle.scratchpad.proofs.kind_right.Tie as tie

@@ -1,4 +1,4 @@
--- Unit by unit. Assumes nothing.
+-- Unit by unit.
 use mathlib.Core.Path.{ap}
 use Rattle.temperature.specs.declared.Converted.{Converted}
 use borrow.Author.Needs.{needs}

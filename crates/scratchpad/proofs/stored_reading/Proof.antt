@@ -1,4 +1,4 @@
--- The count is measured with the configuration that stands in the scratchpad. Assumes nothing.
+-- The count is measured with the configuration that stands in the scratchpad.
 use Rattle.scratchpad.specs.Stored.{storedReading}
 use borrow.Author.Needs.{needs}
 use Rattle.scratchpad.proofs.stored_reading.Statement.{statement}

@@ -1,4 +1,4 @@
--- One arm for each unit; of half degrees the counts go to places 6 and 7. Assumes nothing.
+-- One arm for each unit; of half degrees the counts go to places 6 and 7.
 use borrow.Author.Needs.{needs}
 use Rattle.scratchpad.proofs.with_counts.Statement.{statement}
 use Rattle.scratchpad.proofs.with_counts.Tie as tie

@@ -1,4 +1,4 @@
--- The two bytes go to places 0 and 1. Assumes nothing.
+-- The two bytes go to places 0 and 1.
 use borrow.Author.Needs.{needs}
 use Rattle.scratchpad.proofs.with_register.Statement.{statement}
 use Rattle.scratchpad.proofs.with_register.Tie as tie

@@ -1,4 +1,4 @@
--- The two cases of the definition. Assumes nothing.
+-- The two cases of the definition.
 use borrow.Author.Needs.{needs}
 use Rattle.search.proofs.goes_on.Statement.{statement}
 use Rattle.search.proofs.goes_on.Tie as tie

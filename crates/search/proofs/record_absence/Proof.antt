@@ -1,4 +1,4 @@
--- The blank frame's line has seven bytes and is written at the start. Assumes nothing.
+-- The blank frame's line has seven bytes and is written at the start.
 use Prim.Native.Nat.{_+_}
 use mathlib.Core.Bool.{false}
 use mathlib.Core.Path.{_≡_, ap, sym, _∙_}

@@ -1,4 +1,4 @@
--- A refusal counts nothing. Assumes nothing.
+-- A refusal counts nothing.
 use mathlib.Core.Path.{sym}
 use Rattle.search.specs.Sweep.{refused-answer}
 use Rattle.search.proofs.refuse_search.Statement.{statement}

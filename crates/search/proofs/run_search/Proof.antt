@@ -1,4 +1,4 @@
--- One law of the definition for each of the ways a search can end. Assumes nothing.
+-- One law of the definition for each of the ways a search can end.
 use mathlib.Core.Bool.{true, false}
 use mathlib.Core.Path.{_≡_, ap, sym, _∙_}
 use native.Mathlib.Omega.{arith}

@@ -1,4 +1,4 @@
--- The frame of a pass has at most 200 slots, so that its line of at most 57 bytes has room, and the counts stay small. Assumes nothing.
+-- The frame of a pass has at most 200 slots, so that its line of at most 57 bytes has room, and the counts stay small.
 use Prim.Native.Nat.{_+_}
 use mathlib.Core.Path.{_≡_, _∙_, ap}
 use native.Mathlib.Omega.{arith}

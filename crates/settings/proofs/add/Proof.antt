@@ -1,4 +1,4 @@
--- The tests come in the order of the refusals: the code itself, then whether it is there, and for one that was never added the room. A place that was found lies within the table. Assumes nothing.
+-- The tests come in the order of the refusals: the code itself, then whether it is there, and for one that was never added the room. A place that was found lies within the table.
 use mathlib.Core.Path.{_≡_, sym, _∙_}
 use lib.ListN.{length, length-map}
 use Rattle.settings.specs.Calls.{settingsAdded}

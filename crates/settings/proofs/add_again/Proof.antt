@@ -1,4 +1,4 @@
--- The code is there, or it was removed. Assumes nothing.
+-- The code is there, or it was removed.
 use borrow.Author.Needs.{needs}
 use Rattle.settings.proofs.add_again.Statement.{statement}
 use Rattle.settings.proofs.add_again.Tie as tie

@@ -1,4 +1,4 @@
--- With a place left, and without one. Assumes nothing.
+-- With a place left, and without one.
 use borrow.Author.Tests.{le-ltb, lt-ltb}
 use borrow.Author.Needs.{needs}
 use Rattle.settings.proofs.add_first.Statement.{statement}

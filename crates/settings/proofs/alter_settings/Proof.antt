@@ -1,4 +1,4 @@
--- Each of the three by its own alteration. Assumes nothing.
+-- Each of the three by its own alteration.
 use borrow.Author.Needs.{needs}
 use Rattle.settings.proofs.alter_settings.Statement.{statement}
 use Rattle.settings.proofs.alter_settings.Tie as tie

@@ -1,4 +1,4 @@
--- The tests come in the order of the refusals: whether the code is there, then whether the version is the current one; the last version is the entry's own test. Assumes nothing.
+-- The tests come in the order of the refusals: whether the code is there, then whether the version is the current one; the last version is the entry's own test.
 use Rattle.settings.specs.Calls.{settingsChanged}
 use borrow.Author.Tests.{eq-eqb, ne-eqb}
 use borrow.Author.Needs.{needs}

@@ -1,4 +1,4 @@
--- At the last version, and before it. Assumes nothing.
+-- At the last version, and before it.
 use borrow.Author.Tests.{eq-eqb, ne-eqb}
 use borrow.Author.Needs.{needs}
 use Rattle.settings.proofs.change_entry.Statement.{statement}

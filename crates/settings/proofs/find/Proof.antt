@@ -1,4 +1,4 @@
--- The loop's invariant: the search among the entries from i on gives the answer. Assumes nothing.
+-- The loop's invariant: the search among the entries from i on gives the answer.
 use Prim.Native.Nat.{_≤_, _<_, _-_}
 use mathlib.Core.Logic.{⊎-elim}
 use mathlib.Core.Path.{_≡_, _∙_, sym, refl}

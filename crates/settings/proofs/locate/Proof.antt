@@ -1,4 +1,4 @@
--- The tests come in the order of the refusals: the code itself, then whether it is there. A place that was found lies within the table, and so does 0. Assumes nothing.
+-- The tests come in the order of the refusals: the code itself, then whether it is there. A place that was found lies within the table, and so does 0.
 use mathlib.Core.Path.{_≡_, sym, _∙_}
 use lib.ListN.{length, length-map}
 use Rattle.settings.specs.Calls.{located}

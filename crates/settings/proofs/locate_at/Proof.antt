@@ -1,4 +1,4 @@
--- The code is there, or it was removed. Assumes nothing.
+-- The code is there, or it was removed.
 use borrow.Author.Needs.{needs}
 use Rattle.settings.proofs.locate_at.Statement.{statement}
 use Rattle.settings.proofs.locate_at.Tie as tie

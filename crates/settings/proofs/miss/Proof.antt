@@ -1,4 +1,4 @@
--- The entry is the blank one. Assumes nothing.
+-- The entry is the blank one.
 use borrow.Author.Needs.{needs}
 use Rattle.settings.proofs.miss.Statement.{statement}
 use Rattle.settings.proofs.miss.Tie as tie

@@ -1,4 +1,4 @@
--- What was located, without its place. Assumes nothing.
+-- What was located, without its place.
 use Rattle.settings.specs.Calls.{settingsRead}
 use borrow.Author.Needs.{needs}
 use Rattle.settings.proofs.read.Statement.{statement}

@@ -1,4 +1,4 @@
--- The code is there, or not. Assumes nothing.
+-- The code is there, or not.
 use Rattle.settings.specs.Calls.{settingsRemoved}
 use borrow.Author.Tests.{eq-eqb, ne-eqb}
 use borrow.Author.Needs.{needs}

@@ -1,4 +1,4 @@
--- The two tests are the definition's, on the numbers that the bits hold. Assumes nothing.
+-- The two tests are the definition's, on the numbers that the bits hold.
 use mathlib.Core.Bool.{true, false}
 use mathlib.Core.Path.{_≡_}
 use lib.Signed.{leZ}

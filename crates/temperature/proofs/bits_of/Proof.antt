@@ -1,4 +1,4 @@
--- A number below zero has the bits of itself and 2 ^ 16, which the wider number holds on the way. Assumes nothing.
+-- A number below zero has the bits of itself and 2 ^ 16, which the wider number holds on the way.
 use mathlib.Core.Bool.{true, false}
 use mathlib.Core.Path.{_≡_, refl, _∙_}
 use lib.Dec.{lit≤}

@@ -1,4 +1,4 @@
--- The low and the high byte of the number's bits. Assumes nothing.
+-- The low and the high byte of the number's bits.
 use borrow.Author.Needs.{needs}
 use Rattle.basic_laws.specs.ComplementLaws.{held-back}
 use Rattle.temperature.proofs.bytes_of.Statement.{statement}

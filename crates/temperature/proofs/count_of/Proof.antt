@@ -1,4 +1,4 @@
--- Unit by unit, on the numbers that their bits hold. Assumes nothing.
+-- Unit by unit, on the numbers that their bits hold.
 use Rattle.basic_laws.specs.ComplementLaws.{held-back}
 use borrow.Author.Needs.{needs}
 use Rattle.temperature.proofs.count_of.Statement.{statement}

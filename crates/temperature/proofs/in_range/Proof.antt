@@ -1,4 +1,4 @@
--- Either unit's number lies between the ends of its unit. Assumes nothing.
+-- Either unit's number lies between the ends of its unit.
 use borrow.Author.Needs.{needs}
 use Rattle.basic_laws.specs.ComplementLaws.{held-back}
 use Rattle.temperature.proofs.in_range.Statement.{statement}

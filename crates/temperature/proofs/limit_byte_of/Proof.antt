@@ -1,5 +1,5 @@
 -- A limit from 0 on is its own byte, one below has 256 added to it; the number of sixteen bits holds the sum. `limited` is the test's answer, `fits8` that a limit
--- fits a byte, `held` that the code reads its number back. Assumes nothing.
+-- fits a byte, `held` that the code reads its number back.
 use Prim.Native.Nat.{_<_}
 use mathlib.Core.Bool.{true, false}
 use mathlib.Core.Path.{_≡_, sym, _∙_}

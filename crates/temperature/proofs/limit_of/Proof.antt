@@ -1,4 +1,4 @@
--- A byte from 128 on stands for itself less 256. Assumes nothing.
+-- A byte from 128 on stands for itself less 256.
 use Prim.Native.Nat.{_<_, _≤_}
 use mathlib.Core.Path.{_≡_}
 use native.Mathlib.Omega.{arith}

@@ -1,4 +1,4 @@
--- One arm for each unit, and each is its call's answer. Assumes nothing.
+-- One arm for each unit, and each is its call's answer.
 use borrow.Author.Needs.{needs}
 use Rattle.temperature.proofs.measured.Statement.{statement}
 use Rattle.temperature.proofs.measured.Tie as tie

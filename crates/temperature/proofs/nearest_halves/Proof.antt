@@ -1,4 +1,4 @@
--- A shift by two, one more, and a shift by one are the floor of an eighth of four more (`nearest-halved`), and neither leaves sixteen bits. Assumes nothing.
+-- A shift by two, one more, and a shift by one are the floor of an eighth of four more (`nearest-halved`), and neither leaves sixteen bits.
 use mathlib.Core.Path.{ap, _∙_}
 use native.Mathlib.Omega.{arith}
 use lib.Dec.{lit<}

@@ -1,4 +1,4 @@
--- The two bytes make the sixteen bits, and the family's unit names their number. Assumes nothing.
+-- The two bytes make the sixteen bits, and the family's unit names their number.
 use Prim.Native.Nat.{_+_, _*_, _<_}
 use mathlib.Core.Path.{_≡_, ap, _∙_}
 use lib.IntN.{ℤ}

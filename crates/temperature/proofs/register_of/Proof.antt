@@ -1,4 +1,4 @@
--- Either unit's number goes into the two bytes as it is. Assumes nothing.
+-- Either unit's number goes into the two bytes as it is.
 use borrow.Author.Needs.{needs}
 use Rattle.basic_laws.specs.ComplementLaws.{held-back}
 use Rattle.temperature.proofs.register_of.Statement.{statement}

@@ -1,5 +1,5 @@
 -- Each arm shifts the count right and multiplies back by the same power of two, which is the one law of rounding down, at 8, 4
--- and 2; at 1 the count is its own floor. Each step divides 2 ^ 15, so every product fits. Assumes nothing.
+-- and 2; at 1 the count is its own floor. Each step divides 2 ^ 15, so every product fits.
 use mathlib.Core.Path.{refl}
 use borrow.Author.Tests.{ne-eqb}
 use lib.Dec.{lit<}

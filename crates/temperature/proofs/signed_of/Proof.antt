@@ -1,4 +1,4 @@
--- Bits from 2 ^ 15 on stand for themselves less 2 ^ 16, which the wider number holds on the way. Assumes nothing.
+-- Bits from 2 ^ 15 on stand for themselves less 2 ^ 16, which the wider number holds on the way.
 use Prim.Native.Nat.{_<_, _≤_}
 use mathlib.Core.Path.{_≡_}
 use native.Mathlib.Omega.{arith}

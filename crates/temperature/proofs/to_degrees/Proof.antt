@@ -1,4 +1,4 @@
--- The count fits sixteen bits, so the code's quotient is the nearest number, which is exact. Assumes nothing.
+-- The count fits sixteen bits, so the code's quotient is the nearest number, which is exact.
 use mathlib.Core.Path.{refl}
 use borrow.Author.Needs.{needs}
 use Rattle.basic_laws.specs.ComplementLaws.{held-back}

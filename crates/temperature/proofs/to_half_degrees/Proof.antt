@@ -1,4 +1,4 @@
--- A shift by three that copies the sign is division by 8, rounded down. Assumes nothing.
+-- A shift by three that copies the sign is division by 8, rounded down.
 use mathlib.Core.Path.{ap}
 use Rattle.basic_laws.specs.ComplementLaws.{shift-code}
 use Rattle.temperature.proofs.to_half_degrees.Statement.{statement}

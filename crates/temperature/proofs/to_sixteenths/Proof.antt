@@ -1,4 +1,4 @@
--- The test's answer is the definition's; within the range eight times the count fits sixteen bits. Assumes nothing.
+-- The test's answer is the definition's; within the range eight times the count fits sixteen bits.
 use mathlib.Core.Bool.{true, false}
 use mathlib.Core.Path.{_≡_, sym, _∙_}
 use borrow.Author.Needs.{needs}

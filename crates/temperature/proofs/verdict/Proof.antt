@@ -1,4 +1,4 @@
--- The whole degree and the two limits are those of the definition, each from the call that makes it. Assumes nothing.
+-- The whole degree and the two limits are those of the definition, each from the call that makes it.
 use borrow.Author.Needs.{needs}
 use Rattle.temperature.proofs.verdict.Statement.{statement}
 use Rattle.temperature.proofs.verdict.Tie as tie

@@ -1,4 +1,4 @@
--- The call's answer, on the number that the bits hold. Assumes nothing.
+-- The call's answer, on the number that the bits hold.
 use borrow.Author.Needs.{needs}
 use Rattle.basic_laws.specs.ComplementLaws.{held-back}
 use Rattle.temperature.proofs.whole_in_range.Statement.{statement}

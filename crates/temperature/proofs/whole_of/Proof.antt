@@ -1,4 +1,4 @@
--- A shift by four is division of sixteenths by 16, one by one of half degrees by 2, both rounded down. Assumes nothing.
+-- A shift by four is division of sixteenths by 16, one by one of half degrees by 2, both rounded down.
 use borrow.Author.Needs.{needs}
 use Rattle.basic_laws.specs.ComplementLaws.{shift-code}
 use Rattle.temperature.proofs.whole_of.Statement.{statement}

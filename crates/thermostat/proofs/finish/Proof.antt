@@ -1,4 +1,4 @@
--- Whether a conversion runs, then the range. Assumes nothing.
+-- Whether a conversion runs, then the range.
 use Rattle.thermostat.specs.Finish.{finished}
 use borrow.Author.Needs.{needs}
 use Rattle.thermostat.proofs.finish.Statement.{statement}

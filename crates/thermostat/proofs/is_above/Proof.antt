@@ -1,4 +1,4 @@
--- The limit is what its byte stands for, and both numbers are held as they are. Assumes nothing.
+-- The limit is what its byte stands for, and both numbers are held as they are.
 use Rattle.basic_laws.specs.ComplementLaws.{held-back}
 use borrow.Author.Needs.{needs}
 use Rattle.thermostat.proofs.is_above.Statement.{statement}

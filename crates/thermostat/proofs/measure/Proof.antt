@@ -1,4 +1,4 @@
--- Each part is what its own function says. Assumes nothing.
+-- Each part is what its own function says.
 use Rattle.thermostat.specs.Finish.{measured}
 use borrow.Author.Needs.{needs}
 use Rattle.thermostat.proofs.measure.Statement.{statement}

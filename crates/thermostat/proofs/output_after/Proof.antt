@@ -1,4 +1,4 @@
--- The tests of the definition, in their order. Assumes nothing.
+-- The tests of the definition, in their order.
 use borrow.Author.Needs.{needs}
 use Rattle.thermostat.proofs.output_after.Statement.{statement}
 use Rattle.thermostat.proofs.output_after.Tie as tie

@@ -1,4 +1,4 @@
--- The record of a power-up, part by part. Assumes nothing.
+-- The record of a power-up, part by part.
 use Rattle.thermostat.specs.Power.{probePoweredUp}
 use mathlib.Core.Path.{refl}
 use Rattle.thermostat.proofs.start.Statement.{statement}

@@ -1,4 +1,4 @@
--- Eight bits put into an empty register, lowest first, make their number: `eight-in`. Assumes nothing.
+-- Eight bits put into an empty register, lowest first, make their number: `eight-in`.
 use Rattle.commands.specs.BytesLaws.{eight-in}
 use Rattle.thermostat.specs.Status.{statusOf}
 use borrow.Author.Needs.{needs}

@@ -1,4 +1,4 @@
--- Each bit is that of the byte, and a flag is left by it. Assumes nothing.
+-- Each bit is that of the byte, and a flag is left by it.
 use Rattle.thermostat.specs.Status.{statusWritten}
 use borrow.Author.Needs.{needs}
 use Rattle.thermostat.proofs.status_written.Statement.{statement}

@@ -1,4 +1,4 @@
--- A line that is held at the end is answered without its feed. Assumes nothing.
+-- A line that is held at the end is answered without its feed.
 use Prim.Native.Nat.{_<_}
 use native.Mathlib.Omega.{arith}
 use lib.ListN.{length-take}

@@ -1,4 +1,4 @@
--- The run is one that reads have led to, and the buffers keep their lengths. The measure is how many reads are left. Assumes nothing.
+-- The run is one that reads have led to, and the buffers keep their lengths. The measure is how many reads are left.
 use mathlib.Core.Path.{_≡_, refl, _∙_}
 use native.Mathlib.Omega.{arith}
 use denote.Ref.{now}

@@ -1,5 +1,5 @@
 -- The loop's invariant: the run stands on what was taken so far, what is still to run of the piece leads where the whole piece leads, and the buffers have their
--- lengths. The measure is what is left of the piece. Assumes nothing.
+-- lengths. The measure is what is left of the piece.
 use Prim.Native.Nat.{_≤_, _<_, _-_}
 use mathlib.Core.Path.{_≡_, refl, sym, _∙_}
 use native.Mathlib.Omega.{arith}

@@ -1,4 +1,4 @@
--- By the room, as the definition tests it, and by what the line asks for. Assumes nothing.
+-- By the room, as the definition tests it, and by what the line asks for.
 use denote.Ref.{now}
 use mathlib.Core.Path.{ap, _∙_}
 use Rattle.text.specs.Lines.{Line}

@@ -1,4 +1,4 @@
--- By the test of the feed. Assumes nothing.
+-- By the test of the feed.
 use borrow.Author.Needs.{needs}
 use Rattle.thermostat_session.proofs.asked.Statement.{statement}
 use Rattle.thermostat_session.proofs.asked.Tie as tie

@@ -1,4 +1,4 @@
--- What the call answers, and the probe after it. Assumes nothing.
+-- What the call answers, and the probe after it.
 use borrow.Author.Needs.{needs}
 use Rattle.thermostat_session.proofs.read.Statement.{statement}
 use Rattle.thermostat_session.proofs.read.Tie as tie

@@ -1,4 +1,4 @@
--- Request by request: what is said is what the call came to, and the call came to what its promise says. Assumes nothing.
+-- Request by request: what is said is what the call came to, and the call came to what its promise says.
 use Rattle.thermostat_session.specs.ProbeConsole.{probeResponded}
 use borrow.Author.Needs.{needs}
 use Rattle.thermostat_session.proofs.respond.Statement.{statement}

@@ -1,4 +1,4 @@
--- Byte by byte, as the definition compares them. Assumes nothing.
+-- Byte by byte, as the definition compares them.
 use borrow.Author.Tests.{ne-eqb, eq-eqb}
 use borrow.Author.Needs.{needs}
 use Rattle.why.proofs.limits_differ.Statement.{statement}

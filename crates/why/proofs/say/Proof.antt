@@ -1,4 +1,4 @@
--- Part by part, as the calls answer. Assumes nothing.
+-- Part by part, as the calls answer.
 use Rattle.why.specs.Why.{toldBy}
 use borrow.Author.Tests.{not-true, not-false}
 use borrow.Author.Needs.{needs}

@@ -1,4 +1,4 @@
--- The code's refusal, then whether the device is there, then its page. Assumes nothing.
+-- The code's refusal, then whether the device is there, then its page.
 use Prim.Native.Nat.{ℕ}
 use mathlib.Core.Logic.{_≢_}
 use mathlib.Core.Path.{_≡_, sym, ap, _∙_}

@@ -1,4 +1,4 @@
--- The loop's invariant: whether the wire is free is left to the live devices from i on. Assumes nothing.
+-- The loop's invariant: whether the wire is free is left to the live devices from i on.
 use Prim.Native.Nat.{_≤_, _<_, _-_}
 use mathlib.Core.Bool.{not}
 use mathlib.Core.Logic.{⊎-elim}

@@ -1,4 +1,4 @@
--- The loop's invariant: the live devices before i are changed, and all others as they were. Assumes nothing.
+-- The loop's invariant: the live devices before i are changed, and all others as they were.
 use Prim.Native.Nat.{_≤_, _-_, min}
 use mathlib.Core.Logic.{⊎-elim}
 use mathlib.Core.Path.{_≡_, _∙_}

@@ -1,4 +1,4 @@
--- Field after field; the register of the reading has two bytes, and the mark of the line stands behind the denominator. Assumes nothing.
+-- Field after field; the register of the reading has two bytes, and the mark of the line stands behind the denominator.
 use Prim.Native.Nat.{ℕ}
 use mathlib.Core.List.{List, [], _∷_, _++_}
 use mathlib.Core.Path.{subst}

@@ -1,4 +1,4 @@
--- The line as it is laid, and it is short. Assumes nothing.
+-- The line as it is laid, and it is short.
 use denote.Ref.{now}
 use mathlib.Core.Path.{ap, _∙_}
 use Rattle.bench_answers.specs.Answers.{refusalLine}

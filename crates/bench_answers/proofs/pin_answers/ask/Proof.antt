@@ -1,4 +1,4 @@
--- What is said is the front of the list and of the pins answered. Assumes nothing.
+-- What is said is the front of the list and of the pins answered.
 use denote.Ref.{now}
 use mathlib.Core.Path.{sym}
 use lib.Seq.{length-take-le}

@@ -1,4 +1,4 @@
--- By the room, as the definition tests it. Assumes nothing.
+-- By the room, as the definition tests it.
 use denote.Ref.{now}
 use Rattle.master_rules.specs.Pins.{pinsOutcome}
 use Rattle.bench_answers.specs.WholeLaws.{whole-said, whole-refused}

@@ -1,4 +1,4 @@
--- A part is as long as asked where it is within the whole, and 32 places are as good as more. Assumes nothing.
+-- A part is as long as asked where it is within the whole, and 32 places are as good as more.
 use denote.Ref.{now}
 use mathlib.Core.Path.{_≡_, sym, ap, subst, _∙_}
 use native.Mathlib.Omega.{arith}

@@ -1,4 +1,4 @@
--- The mark is put behind the sign or the number. Assumes nothing.
+-- The mark is put behind the sign or the number.
 use denote.Ref.{now}
 use mathlib.Core.List.{[], _∷_}
 use Rattle.text.specs.PuttingLaws.{field-laid}

@@ -1,4 +1,4 @@
--- The counts, and behind them a line for each probe. Assumes nothing.
+-- The counts, and behind them a line for each probe.
 use denote.Ref.{now}
 use native.Mathlib.Omega.{arith}
 use lib.ListN.{length}

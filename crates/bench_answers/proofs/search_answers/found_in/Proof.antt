@@ -1,4 +1,4 @@
--- What the search listed and recorded stands at the front of what it was lent, within the bounds of every search. Assumes nothing.
+-- What the search listed and recorded stands at the front of what it was lent, within the bounds of every search.
 use denote.Ref.{now}
 use lib.ListN.{length}
 use Rattle.master_rules.specs.Search.{searchOutcome}

@@ -1,4 +1,4 @@
--- A part is as long as asked where it is within the whole, and a search is as good with just enough. Assumes nothing.
+-- A part is as long as asked where it is within the whole, and a search is as good with just enough.
 use Prim.Native.Nat.{min}
 use denote.Ref.{now}
 use mathlib.Core.Path.{_≡_, sym, subst, _∙_}

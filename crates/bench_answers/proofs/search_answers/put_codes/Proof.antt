@@ -1,4 +1,4 @@
--- The loop's invariant: the lines of the first `i` codes are laid, and `to` is the place behind them. The measure is how many are left. Assumes nothing.
+-- The loop's invariant: the lines of the first `i` codes are laid, and `to` is the place behind them. The measure is how many are left.
 use Prim.Native.Nat.{_+_, _*_, _-_, _≤_}
 use denote.Ref.{now}
 use mathlib.Core.Path.{_≡_}

@@ -1,4 +1,4 @@
--- By the definition's own test. Assumes nothing.
+-- By the definition's own test.
 use borrow.Author.Needs.{needs}
 use Rattle.bench_answers.proofs.search_answers.run.Statement.{statement}
 use Rattle.bench_answers.proofs.search_answers.run.Tie as tie

@@ -1,4 +1,4 @@
--- Three parts, one behind the other: the counts are at most 64 bytes, the codes at most 544, the frames at most 1,824. Assumes nothing.
+-- Three parts, one behind the other: the counts are at most 64 bytes, the codes at most 544, the frames at most 1,824.
 use Prim.Native.Nat.{ℕ, _+_}
 use denote.Ref.{now}
 use mathlib.Core.Path.{sym, ap, _∙_}

@@ -1,4 +1,4 @@
--- Field after field; a number with a sign is read back from the bits that hold it. Assumes nothing.
+-- Field after field; a number with a sign is read back from the bits that hold it.
 use Prim.Native.Nat.{ℕ}
 use denote.Ref.{now}
 use mathlib.Core.List.{List, [], _∷_, _++_}

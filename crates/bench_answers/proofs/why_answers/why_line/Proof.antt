@@ -1,4 +1,4 @@
--- Refused without room; the line is short enough and is laid. Assumes nothing.
+-- Refused without room; the line is short enough and is laid.
 use Prim.Native.Nat.{_+_, _≤_}
 use denote.Ref.{now}
 use lib.ListN.{length}

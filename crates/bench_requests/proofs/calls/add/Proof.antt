@@ -1,4 +1,4 @@
--- By the tests of the three fields. Assumes nothing.
+-- By the tests of the three fields.
 use mathlib.Core.Path.{ap, _∙_}
 use Rattle.lines.specs.Fields.{codeIn, powerIn}
 use borrow.Author.Needs.{needs}

@@ -1,4 +1,4 @@
--- The pins are read first, and they are a byte; then the other fields. Assumes nothing.
+-- The pins are read first, and they are a byte; then the other fields.
 use denote.Ref.{now}
 use mathlib.Core.Path.{ap, _∙_}
 use native.Mathlib.Omega.{arith}

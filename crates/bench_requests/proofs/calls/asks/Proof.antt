@@ -1,4 +1,4 @@
--- A line has a first word, so what is left of the words are the fields. Assumes nothing.
+-- A line has a first word, so what is left of the words are the fields.
 use denote.Ref.{now}
 use Rattle.basic_laws.specs.Same.{same}
 use Rattle.lines.specs.WordsLaws.{words-some}

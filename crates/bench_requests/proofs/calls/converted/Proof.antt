@@ -1,4 +1,4 @@
--- By the tests of both fields. Assumes nothing.
+-- By the tests of both fields.
 use mathlib.Core.Path.{ap, _∙_}
 use Rattle.lines.specs.Fields.{codeIn, countIn}
 use borrow.Author.Needs.{needs}

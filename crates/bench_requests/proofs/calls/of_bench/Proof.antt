@@ -1,4 +1,4 @@
--- Row by row: where a row asks, its own request is given; behind the last, none has asked. Assumes nothing.
+-- Row by row: where a row asks, its own request is given; behind the last, none has asked.
 use mathlib.Core.Path.{sym, _∙_}
 use Rattle.bench_requests.specs.RequestsLaws.{row-add, row-pinned, row-reset, row-slot, row-converted, row-copied, row-cycle, row-show, row-why, no-bench-row}
 use borrow.Author.Needs.{needs}

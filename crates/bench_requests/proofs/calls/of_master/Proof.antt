@@ -1,4 +1,4 @@
--- Row by row: where a row asks, its own request is given; behind the last, none has asked. Assumes nothing.
+-- Row by row: where a row asks, its own request is given; behind the last, none has asked.
 use mathlib.Core.Path.{sym, _∙_}
 use Rattle.bench_requests.specs.RequestsLaws.{row-search-alone, row-alarm-alone, row-search, row-alarm, row-read, row-write, row-pins-alone, row-pins, no-master-row}
 use borrow.Author.Needs.{needs}

@@ -1,4 +1,4 @@
--- By the test of the field. Assumes nothing.
+-- By the test of the field.
 use mathlib.Core.Path.{ap, _∙_}
 use Rattle.lines.specs.Fields.{codeIn}
 use borrow.Author.Needs.{needs}

@@ -1,4 +1,4 @@
--- A minus, or a byte, whose two digits are below 256. Assumes nothing.
+-- A minus, or a byte, whose two digits are below 256.
 use denote.Ref.{now}
 use Rattle.lines.specs.FieldsLaws.{byte-below}
 use Rattle.bench_requests.specs.StoreRequests.{alterIn}

@@ -1,4 +1,4 @@
--- Field by field. Assumes nothing.
+-- Field by field.
 use Rattle.bench_requests.specs.StoreRequests.{alterationsIn}
 use borrow.Author.Needs.{needs}
 use Rattle.bench_requests.proofs.settings_requests.alterations_in.Statement.{statement}

@@ -1,4 +1,4 @@
--- By the words that stand first, then by how many there are. Assumes nothing.
+-- By the words that stand first, then by how many there are.
 use borrow.Author.Needs.{needs}
 use Rattle.bench_requests.proofs.settings_requests.asks.Statement.{statement}
 use Rattle.bench_requests.proofs.settings_requests.asks.Tie as tie

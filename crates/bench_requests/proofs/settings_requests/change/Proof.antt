@@ -1,4 +1,4 @@
--- By the tests of the three fields; a version that was read is at most 65,535. Assumes nothing.
+-- By the tests of the three fields; a version that was read is at most 65,535.
 use denote.Ref.{now}
 use mathlib.Core.Path.{_≡_, ap, _∙_}
 use native.Mathlib.Omega.{arith}

@@ -1,4 +1,4 @@
--- Row by row: where a row asks, none before it did; behind the last, none has asked. Assumes nothing.
+-- Row by row: where a row asks, none before it did; behind the last, none has asked.
 use mathlib.Core.Path.{sym, _∙_}
 use Rattle.bench_requests.specs.StoreRequests.{ofStore}
 use borrow.Author.Needs.{needs}

@@ -1,4 +1,4 @@
--- By the room. Assumes nothing.
+-- By the room.
 use denote.Ref.{now}
 use mathlib.Core.Path.{sym, _∙_}
 use borrow.Author.Tests.{not-true, not-false}

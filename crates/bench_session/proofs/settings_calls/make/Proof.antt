@@ -1,4 +1,4 @@
--- Request by request: the answer to what the call came to is told, and the call came to what its promise says. Assumes nothing.
+-- Request by request: the answer to what the call came to is told, and the call came to what its promise says.
 use denote.Ref.{now}
 use mathlib.Core.Path.{sym, subst}
 use mathlib.Core.List.{[]}

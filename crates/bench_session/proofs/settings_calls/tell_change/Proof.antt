@@ -1,4 +1,4 @@
--- The line as it is laid, and it is short. Assumes nothing.
+-- The line as it is laid, and it is short.
 use mathlib.Core.Path.{refl}
 use Rattle.bench_answers.specs.SettingsLinesLaws.{change-short}
 use borrow.Author.Needs.{needs}

@@ -1,4 +1,4 @@
--- Below nine and from nine on. Assumes nothing.
+-- Below nine and from nine on.
 use Prim.Native.Nat.{_<_, _≤_}
 use native.Mathlib.Omega.{arith}
 use borrow.Author.Tests.{lt-ltb, le-ltb}

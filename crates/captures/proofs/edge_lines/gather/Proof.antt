@@ -1,4 +1,4 @@
--- The invariant: the line with the first i characters is held. Assumes nothing.
+-- The invariant: the line with the first i characters is held.
 use Prim.Native.Nat.{_-_, _≤_}
 use mathlib.Core.Path.{_≡_, refl, _∙_}
 use native.Mathlib.Omega.{arith}

@@ -1,4 +1,4 @@
--- Each field by its own rule. Assumes nothing.
+-- Each field by its own rule.
 use borrow.Author.Needs.{needs}
 use Rattle.captures.proofs.edge_lines.lengthen.Statement.{statement}
 use Rattle.captures.proofs.edge_lines.lengthen.Tie as tie

@@ -1,4 +1,4 @@
--- The first character that is no digit settles it. Assumes nothing.
+-- The first character that is no digit settles it.
 use borrow.Author.Needs.{needs}
 use Rattle.captures.proofs.edge_lines.still_spelt.Statement.{statement}
 use Rattle.captures.proofs.edge_lines.still_spelt.Tie as tie

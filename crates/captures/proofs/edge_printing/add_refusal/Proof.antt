@@ -1,4 +1,4 @@
--- The line is laid, or has no room. Assumes nothing.
+-- The line is laid, or has no room.
 use denote.Ref.{now}
 use Rattle.captures.specs.EdgePrintingLaws.{refusal-short, refusal-laid}
 use borrow.Author.Needs.{needs}

@@ -1,4 +1,4 @@
--- A refusal has its line behind the frames. Assumes nothing.
+-- A refusal has its line behind the frames.
 use denote.Ref.{now}
 use Rattle.captures.specs.EdgePrintingLaws.{printed-refused, printed-on}
 use mathlib.Core.Path.{_∙_}

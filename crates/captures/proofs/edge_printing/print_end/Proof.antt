@@ -1,4 +1,4 @@
--- What the reader answers is printed. Assumes nothing.
+-- What the reader answers is printed.
 use borrow.Author.Needs.{needs}
 use Rattle.captures.proofs.edge_printing.print_end.Statement.{statement}
 use Rattle.captures.proofs.edge_printing.print_end.Tie as tie

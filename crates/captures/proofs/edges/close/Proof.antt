@@ -1,4 +1,4 @@
--- The writer refuses, or the reader goes on behind the frame. Assumes nothing.
+-- The writer refuses, or the reader goes on behind the frame.
 use denote.Ref.{now}
 use Rattle.captures.specs.EdgesLaws.{closing-refused, closing-done}
 use mathlib.Core.Path.{_∙_}

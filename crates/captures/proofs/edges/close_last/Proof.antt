@@ -1,4 +1,4 @@
--- The writer refuses, or the last frame is there. Assumes nothing.
+-- The writer refuses, or the last frame is there.
 use denote.Ref.{now}
 use Rattle.captures.specs.EdgesLaws.{last-refused, last-done}
 use mathlib.Core.Path.{_∙_}

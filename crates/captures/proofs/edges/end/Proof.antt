@@ -1,4 +1,4 @@
--- One law for each way in which an end can come out: again refused, in a line, in a low, with a last frame, and before any edge. Assumes nothing.
+-- One law for each way in which an end can come out: again refused, in a line, in a low, with a last frame, and before any edge.
 use denote.Ref.{now}
 use native.Mathlib.Omega.{arith}
 use Rattle.captures.specs.EdgesLaws.{end-again, end-in-line, end-low, end-closes, end-nothing}

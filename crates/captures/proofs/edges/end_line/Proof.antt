@@ -1,4 +1,4 @@
--- Another character, another length, and a time. Assumes nothing.
+-- Another character, another length, and a time.
 use mathlib.Core.Bool.{false}
 use borrow.Author.Tests.{not-true, not-false}
 use Rattle.captures.specs.declared.edges.Reader.{Reader}

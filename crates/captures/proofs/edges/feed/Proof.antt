@@ -1,4 +1,4 @@
--- The invariant: what is still to come of the piece makes of reader and buffer what the whole piece makes of those at the start. Assumes nothing.
+-- The invariant: what is still to come of the piece makes of reader and buffer what the whole piece makes of those at the start.
 use Prim.Native.Nat.{_-_, _≤_}
 use mathlib.Core.Path.{_≡_, sym, ap, _∙_}
 use lib.ListN.{length, drop, drop-of-length-le}

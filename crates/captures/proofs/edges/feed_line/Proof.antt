@@ -1,4 +1,4 @@
--- After a refusal nothing is read; else the line gets its characters, and its feed if it has one. Assumes nothing.
+-- After a refusal nothing is read; else the line gets its characters, and its feed if it has one.
 use Rattle.captures.specs.Edges.{Reading}
 use Rattle.text.specs.Lines.{lineFeed}
 use Rattle.basic_laws.specs.FirstLaws.{at-within}

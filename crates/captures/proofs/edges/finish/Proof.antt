@@ -1,4 +1,4 @@
--- The reader has just started. Assumes nothing.
+-- The reader has just started.
 use borrow.Author.Needs.{needs}
 use Rattle.captures.proofs.edges.finish.Statement.{statement}
 use Rattle.captures.proofs.edges.finish.Tie as tie

@@ -1,4 +1,4 @@
--- A refused edge, and one that is taken. Assumes nothing.
+-- A refused edge, and one that is taken.
 use mathlib.Core.Bool.{false}
 use Rattle.captures.specs.declared.edges.Reader.{Reader}
 use Rattle.captures.specs.EdgesLaws.{edge-refused, edge-taken}

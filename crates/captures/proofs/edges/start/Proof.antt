@@ -1,4 +1,4 @@
--- A line without a character and a line that has not fallen. Assumes nothing.
+-- A line without a character and a line that has not fallen.
 use borrow.Author.Needs.{needs}
 use Rattle.captures.proofs.edges.start.Statement.{statement}
 use Rattle.captures.proofs.edges.start.Tie as tie

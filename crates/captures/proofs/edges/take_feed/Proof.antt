@@ -1,4 +1,4 @@
--- A line that closes a frame, and any other. Assumes nothing.
+-- A line that closes a frame, and any other.
 use denote.Ref.{now}
 use Rattle.captures.specs.EdgesLaws.{feed-closes, feed-moves}
 use mathlib.Core.Path.{_∙_}

@@ -1,4 +1,4 @@
--- Below, within and above the bounds of a reset. Assumes nothing.
+-- Below, within and above the bounds of a reset.
 use Prim.Native.Nat.{_<_, _≤_}
 use native.Mathlib.Omega.{arith}
 use Rattle.captures.specs.RuleLaws.{first-short, first-reset, first-long}

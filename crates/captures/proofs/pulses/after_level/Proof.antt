@@ -1,4 +1,4 @@
--- One return for each stage. Assumes nothing.
+-- One return for each stage.
 use Rattle.captures.specs.declared.pulses.PulseStage.{PulseStage}
 use Rattle.captures.specs.Rule.{afterLevel}
 use mathlib.Core.Path.{sym, ap, _∙_}

@@ -1,4 +1,4 @@
--- One return for each kind of low. Assumes nothing.
+-- One return for each kind of low.
 use borrow.Author.Needs.{needs}
 use Rattle.captures.proofs.pulses.after_low.Statement.{statement}
 use Rattle.captures.proofs.pulses.after_low.Tie as tie

@@ -1,4 +1,4 @@
--- Below, within and above the bounds of presence. Assumes nothing.
+-- Below, within and above the bounds of presence.
 use Rattle.captures.specs.RuleLaws.{presence-short, presence-seen, presence-long}
 use mathlib.Core.Path.{_∙_}
 use borrow.Author.Needs.{needs}

@@ -1,4 +1,4 @@
--- Below the wait, within it, between it and silence, and silence. Assumes nothing.
+-- Below the wait, within it, between it and silence, and silence.
 use Prim.Native.Nat.{_<_, _≤_}
 use native.Mathlib.Omega.{arith}
 use Rattle.captures.specs.RuleLaws.{gap-short, gap-wait, gap-between, gap-silence}

@@ -1,4 +1,4 @@
--- The first edge has no edge before it; every other is later than the last or refused. Assumes nothing.
+-- The first edge has no edge before it; every other is later than the last or refused.
 use Rattle.captures.specs.RuleLaws.{first-any, edge-late, edge-later}
 use mathlib.Core.Path.{sym, _∙_}
 use borrow.Author.Tests.{not-true, not-false}

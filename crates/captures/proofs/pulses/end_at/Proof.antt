@@ -1,4 +1,4 @@
--- One return for each stage. Assumes nothing.
+-- One return for each stage.
 use borrow.Author.Needs.{needs}
 use Rattle.captures.proofs.pulses.end_at.Statement.{statement}
 use Rattle.captures.proofs.pulses.end_at.Tie as tie

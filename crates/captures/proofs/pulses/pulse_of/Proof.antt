@@ -1,4 +1,4 @@
--- One return for each stretch between two bounds of the table. Assumes nothing.
+-- One return for each stretch between two bounds of the table.
 use Prim.Native.Nat.{_<_, _≤_}
 use native.Mathlib.Omega.{arith}
 use Rattle.captures.specs.BoundsLaws.{pulse-none, pulse-one, pulse-zero, pulse-between, pulse-reset, pulse-long}

@@ -1,4 +1,4 @@
--- The frame is blank. Assumes nothing.
+-- The frame is blank.
 use borrow.Author.Needs.{needs}
 use Rattle.captures.proofs.pulses.restart.Statement.{statement}
 use Rattle.captures.proofs.pulses.restart.Tie as tie

@@ -1,4 +1,4 @@
--- Without presence and at 512 slots the slot is refused. Assumes nothing.
+-- Without presence and at 512 slots the slot is refused.
 use Prim.Native.Nat.{_<_, _≤_}
 use native.Mathlib.Omega.{arith}
 use Rattle.captures.specs.RuleLaws.{slot-silent, slot-past, slot-taken}

@@ -1,4 +1,4 @@
--- The proof of the cycle of calls {turned}: one bit fewer is left to turn in each call, and the loop passes each place once. Assumes nothing.
+-- The proof of the cycle of calls {turned}: one bit fewer is left to turn in each call, and the loop passes each place once.
 use Prim.Native.Nat.{ℕ, _<_, _≤_, _-_}
 use borrow.Author.Needs.{needs}
 use borrow.Fn.Kinds.{In}

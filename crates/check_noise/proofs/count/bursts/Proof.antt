@@ -1,4 +1,4 @@
--- The loop passes each place once. Assumes nothing.
+-- The loop passes each place once.
 use Prim.Native.Nat.{_≤_, _-_}
 use borrow.Author.Needs.{needs}
 use Rattle.check_noise.proofs.count.bursts.Statement.{statement}

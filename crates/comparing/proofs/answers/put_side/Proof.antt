@@ -1,4 +1,4 @@
--- Word by word, as the tests say. Assumes nothing.
+-- Word by word, as the tests say.
 use borrow.Author.Tests.{eq-eqb, ne-eqb}
 use Rattle.comparing.specs.Departure.{sideNumber}
 use Rattle.comparing.specs.declared.Side.the-variants.{Other}

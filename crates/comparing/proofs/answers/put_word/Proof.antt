@@ -1,4 +1,4 @@
--- The space is put behind. Assumes nothing.
+-- The space is put behind.
 use denote.Ref.{now}
 use mathlib.Core.Path.{ap}
 use Rattle.text.specs.declared.laying.Written.{Written}

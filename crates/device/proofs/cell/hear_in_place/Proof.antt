@@ -1,5 +1,5 @@
 -- The function's code is walked step by step: the borrow is opened, the device is copied out and handed to `device::offer::offer` and then to `device::hearing::hear`, of which only
--- their promises are known, the device that comes back is stored, the borrow is closed at it, and the bit that was offered is the answer. Assumes nothing.
+-- their promises are known, the device that comes back is stored, the borrow is closed at it, and the bit that was offered is the answer.
 use mathlib.Core.Path.{_≡_, refl}
 use mathlib.Core.Bool.{Bool}
 use Prim.Native.Nat.{ℕ}

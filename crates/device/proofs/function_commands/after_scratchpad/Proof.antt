@@ -1,4 +1,4 @@
--- The tests of the code are those of the definition, in the same order: past the nine bytes, within a byte, at its end, at the end of all. Assumes nothing.
+-- The tests of the code are those of the definition, in the same order: past the nine bytes, within a byte, at its end, at the end of all.
 use borrow.Author.Tests.{le-ltb, lt-ltb}
 use borrow.Author.Needs.{needs}
 use Rattle.device.proofs.function_commands.after_scratchpad.Statement.{statement}

@@ -1,4 +1,4 @@
--- The settings are those of the scratchpad, for the row of the code. Assumes nothing.
+-- The settings are those of the scratchpad, for the row of the code.
 use borrow.Author.Needs.{needs}
 use Rattle.device.proofs.function_commands.copying.Statement.{statement}
 use Rattle.device.proofs.function_commands.copying.Tie as tie

@@ -1,4 +1,4 @@
--- BEh and B4h by their keys; at any other byte (`other`) a busy device goes quiet, and any other obeys. Assumes nothing.
+-- BEh and B4h by their keys; at any other byte (`other`) a busy device goes quiet, and any other obeys.
 use borrow.Author.Tests.{ne-eqb}
 use Rattle.device.specs.Hear.{functionCommand}
 use borrow.Author.Needs.{needs}

@@ -1,4 +1,4 @@
--- One return for each thing that can be held of a byte: a part, the whole, or nothing. Assumes nothing.
+-- One return for each thing that can be held of a byte: a part, the whole, or nothing.
 use borrow.Author.Needs.{needs}
 use Rattle.device.proofs.function_commands.hear_settings.Statement.{statement}
 use Rattle.device.proofs.function_commands.hear_settings.Tie as tie

@@ -1,4 +1,4 @@
--- One return for each command that a device obeys, by the key of the match, and one for all other bytes. Assumes nothing.
+-- One return for each command that a device obeys, by the key of the match, and one for all other bytes.
 use Rattle.device.specs.Hear.{idleCommand}
 use borrow.Author.Tests.{ne-eqb}
 use borrow.Author.Needs.{needs}

@@ -1,4 +1,4 @@
--- The settings of EEPROM go over the scratchpad, for the row of the code. Assumes nothing.
+-- The settings of EEPROM go over the scratchpad, for the row of the code.
 use borrow.Author.Needs.{needs}
 use Rattle.device.proofs.function_commands.recalled.Statement.{statement}
 use Rattle.device.proofs.function_commands.recalled.Tie as tie

@@ -1,4 +1,4 @@
--- The third setting is the configuration. Assumes nothing.
+-- The third setting is the configuration.
 use borrow.Author.Tests.{eq-eqb, ne-eqb}
 use borrow.Author.Needs.{needs}
 use Rattle.device.proofs.function_commands.setting_byte.Statement.{statement}

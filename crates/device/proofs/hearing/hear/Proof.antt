@@ -1,4 +1,4 @@
--- One return for each stage, with what its own function says. Assumes nothing.
+-- One return for each stage, with what its own function says.
 use Rattle.device.specs.Hear.{hearOf}
 use borrow.Author.Needs.{needs}
 use Rattle.device.proofs.hearing.hear.Statement.{statement}

@@ -1,4 +1,4 @@
--- One return for each stage, with what its own function says. Assumes nothing.
+-- One return for each stage, with what its own function says.
 use borrow.Author.Needs.{needs}
 use Rattle.device.proofs.offer.offer.Statement.{statement}
 use Rattle.device.proofs.offer.offer.Tie as tie

@@ -1,4 +1,4 @@
--- A bit of one of the eight bytes, or of their CRC, which is the ninth; past the nine the line gets a 1. `pad` is the eight, `long` their number. Assumes nothing.
+-- A bit of one of the eight bytes, or of their CRC, which is the ninth; past the nine the line gets a 1. `pad` is the eight, `long` their number.
 use Prim.Native.Nat.{_<_, _≤_}
 use mathlib.Core.Path.{_≡_}
 use native.Mathlib.Omega.{arith}

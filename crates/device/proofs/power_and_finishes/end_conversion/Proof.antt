@@ -1,4 +1,4 @@
--- A device that converts, with a count in range and out of it; any other is refused. Assumes nothing.
+-- A device that converts, with a count in range and out of it; any other is refused.
 use Rattle.device.specs.Finish.{conversionEnded}
 use borrow.Author.Needs.{needs}
 use Rattle.device.proofs.power_and_finishes.end_conversion.Statement.{statement}

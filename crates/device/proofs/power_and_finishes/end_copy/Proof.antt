@@ -1,4 +1,4 @@
--- A device that copies ends it with what it holds; any other is refused. Assumes nothing.
+-- A device that copies ends it with what it holds; any other is refused.
 use Rattle.device.specs.Finish.{copyEnded}
 use borrow.Author.Needs.{needs}
 use Rattle.device.proofs.power_and_finishes.end_copy.Statement.{statement}

@@ -1,4 +1,4 @@
--- The reading, the scratchpad and the flag are those of the definition, each from the call that makes it, and each part is replaced by its own call. Assumes nothing.
+-- The reading, the scratchpad and the flag are those of the definition, each from the call that makes it, and each part is replaced by its own call.
 use Rattle.device.specs.Finish.{conversionDone}
 use borrow.Author.Needs.{needs}
 use Rattle.device.proofs.power_and_finishes.finish_conversion.Statement.{statement}

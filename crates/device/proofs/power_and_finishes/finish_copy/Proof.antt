@@ -1,4 +1,4 @@
--- The two parts are replaced one after the other. Assumes nothing.
+-- The two parts are replaced one after the other.
 use Rattle.device.specs.Finish.{copyDone}
 use borrow.Author.Needs.{needs}
 use Rattle.device.proofs.power_and_finishes.finish_copy.Statement.{statement}

@@ -1,4 +1,4 @@
--- The pins are kept where the family has them, the configuration in its stored form, and the rest is power-up. Assumes nothing.
+-- The pins are kept where the family has them, the configuration in its stored form, and the rest is power-up.
 use Rattle.device.specs.Power.{joined}
 use borrow.Author.Needs.{needs}
 use Rattle.device.proofs.power_and_finishes.join.Statement.{statement}

@@ -1,4 +1,4 @@
--- The record is that of power-up, with code, power and EEPROM of the device. Assumes nothing.
+-- The record is that of power-up, with code, power and EEPROM of the device.
 use Rattle.device.specs.Power.{powerUp}
 use borrow.Author.Needs.{needs}
 use Rattle.device.proofs.power_and_finishes.power_cycle.Statement.{statement}

@@ -1,4 +1,4 @@
--- A bit that is the same leads on, to the next bit or to a function command; one that differs, or lies past the code, makes the device quiet. Assumes nothing.
+-- A bit that is the same leads on, to the next bit or to a function command; one that differs, or lies past the code, makes the device quiet.
 use borrow.Author.Tests.{eq-eqb, le-ltb, lt-ltb, ne-eqb}
 use borrow.Author.Needs.{needs}
 use Rattle.device.proofs.rom_commands.after_match.Statement.{statement}

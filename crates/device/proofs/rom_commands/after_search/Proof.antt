@@ -1,4 +1,4 @@
--- One return for each of the three slots of a bit. Assumes nothing.
+-- One return for each of the three slots of a bit.
 use borrow.Author.Needs.{needs}
 use Rattle.device.proofs.rom_commands.after_search.Statement.{statement}
 use Rattle.device.proofs.rom_commands.after_search.Tie as tie

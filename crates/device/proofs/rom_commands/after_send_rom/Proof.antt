@@ -1,4 +1,4 @@
--- Before the last bit, at it, and past it. Assumes nothing.
+-- Before the last bit, at it, and past it.
 use borrow.Author.Tests.{eq-eqb, le-ltb, lt-ltb, ne-eqb}
 use borrow.Author.Needs.{needs}
 use Rattle.device.proofs.rom_commands.after_send_rom.Statement.{statement}

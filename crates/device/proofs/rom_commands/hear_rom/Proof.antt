@@ -1,4 +1,4 @@
--- One return for each thing that can be held of a command: a part, the whole, or nothing. Assumes nothing.
+-- One return for each thing that can be held of a command: a part, the whole, or nothing.
 use borrow.Author.Needs.{needs}
 use Rattle.device.proofs.rom_commands.hear_rom.Statement.{statement}
 use Rattle.device.proofs.rom_commands.hear_rom.Tie as tie

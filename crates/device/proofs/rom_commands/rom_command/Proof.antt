@@ -1,4 +1,4 @@
--- One return for each command, two for the alarm search, and one for all other bytes. Assumes nothing.
+-- One return for each command, two for the alarm search, and one for all other bytes.
 use borrow.Author.Tests.{ne-eqb}
 use Rattle.device.proofs.rom_commands.rom_command.Statement.{statement}
 use Rattle.device.proofs.rom_commands.rom_command.Tie as tie

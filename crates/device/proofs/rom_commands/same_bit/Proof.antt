@@ -1,4 +1,4 @@
--- A comparison with a known bit is that bit or its complement. Assumes nothing.
+-- A comparison with a known bit is that bit or its complement.
 use borrow.Author.Needs.{needs}
 use Rattle.basic_laws.specs.ChoiceLaws.{beq-true, beq-false}
 use Rattle.device.proofs.rom_commands.same_bit.Statement.{statement}

@@ -1,4 +1,4 @@
--- Presence, count, slots and feed, laid one behind the other, are the line. Assumes nothing.
+-- Presence, count, slots and feed, laid one behind the other, are the line.
 use Prim.Native.Nat.{_+_, _*_, _-_, _≤_}
 use mathlib.Core.Path.{_≡_, sym, _∙_}
 use native.Mathlib.Omega.{arith}

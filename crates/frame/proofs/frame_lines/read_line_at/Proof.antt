@@ -1,4 +1,4 @@
--- The end of the line decides whether it has a feed and where the next one starts. Assumes nothing.
+-- The end of the line decides whether it has a feed and where the next one starts.
 use Prim.Native.Nat.{_≤_}
 use mathlib.Core.Path.{sym, _∙_}
 use native.Mathlib.Omega.{arith}

@@ -1,4 +1,4 @@
--- One law of the definition for each of the ways a write can end. Assumes nothing.
+-- One law of the definition for each of the ways a write can end.
 use Prim.Native.Nat.{_+_, _*_, _≤_}
 use mathlib.Core.Path.{_≡_, sym, _∙_}
 use mathlib.Core.Bool.{true}

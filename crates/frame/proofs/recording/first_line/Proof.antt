@@ -1,5 +1,5 @@
 -- The function's code is walked: the reader that `open` returns is held in a local and handed to `next`; of both only their promises are known. A local's type has its lifetime
--- erased, which what the struct owns does not tell. Assumes nothing.
+-- erased, which what the struct owns does not tell.
 use mathlib.Core.Path.{_≡_, refl, ap, _∙_}
 use Prim.Native.Nat.{ℕ}
 use mathlib.Core.List.{List, [], _∷_}

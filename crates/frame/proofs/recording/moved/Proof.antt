@@ -1,4 +1,4 @@
--- The function's code is walked: the struct is taken apart, its slice reference is kept, and the place given takes the place of its own. Assumes nothing.
+-- The function's code is walked: the struct is taken apart, its slice reference is kept, and the place given takes the place of its own.
 use mathlib.Core.Path.{refl}
 use Prim.Native.Nat.{ℕ, _<_, _^_}
 use mathlib.Core.List.{[], _∷_}

@@ -1,5 +1,5 @@
 -- The function's code is walked: the struct is taken apart, and `frame::frame_lines::read_line_at`, of which only its promise is known, is called on the bytes and the place. The struct is plain to
--- copy, so that what it owns is had twice: one copy stays whole for the end, of the other the bytes go to the callee beside the lifetime's token. Assumes nothing.
+-- copy, so that what it owns is had twice: one copy stays whole for the end, of the other the bytes go to the callee beside the lifetime's token.
 use mathlib.Core.Path.{_≡_, refl}
 use Prim.Native.Nat.{_<_, _^_}
 use mathlib.Core.List.{[], _∷_}

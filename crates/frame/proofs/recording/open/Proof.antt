@@ -1,4 +1,4 @@
--- The function's code is walked: the slice reference becomes the struct's first field and 0 its second. Assumes nothing.
+-- The function's code is walked: the slice reference becomes the struct's first field and 0 its second.
 use mathlib.Core.Path.{refl}
 use Prim.Native.Nat.{ℕ}
 use mathlib.Core.List.{List, [], _∷_}

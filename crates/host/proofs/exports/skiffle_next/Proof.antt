@@ -1,4 +1,4 @@
--- The buffer of 135 bytes is long enough. Assumes nothing.
+-- The buffer of 135 bytes is long enough.
 use Prim.Native.Nat.{_≤_}
 use mathlib.Core.Path.{_≡_}
 use native.Mathlib.Omega.{arith}

@@ -1,4 +1,4 @@
--- A number of five digits with its sign fits sixteen bits where its reader takes it; behind a minus stands the rest of the word. Assumes nothing.
+-- A number of five digits with its sign fits sixteen bits where its reader takes it; behind a minus stands the rest of the word.
 use denote.Ref.{now}
 use Prim.Native.Nat.{_-_}
 use lib.ListN.{length, take, drop}

@@ -1,4 +1,4 @@
--- By the definition's own tests. Assumes nothing.
+-- By the definition's own tests.
 use Rattle.lines.specs.Fields.{powerIn}
 use borrow.Author.Needs.{needs}
 use Rattle.lines.proofs.fields.power_in.Statement.{statement}

@@ -1,4 +1,4 @@
--- Two digits are a byte. Assumes nothing.
+-- Two digits are a byte.
 use denote.Ref.{now}
 use Rattle.lines.specs.Fields.{threeBytesIn}
 use Rattle.lines.specs.FieldsLaws.{byte-below}

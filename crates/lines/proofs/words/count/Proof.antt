@@ -1,4 +1,4 @@
--- The loop's invariant: the words counted so far and those from `i` on, which share one, are all the words. The measure is what is left. Assumes nothing.
+-- The loop's invariant: the words counted so far and those from `i` on, which share one, are all the words. The measure is what is left.
 use denote.Ref.{now}
 use Prim.Native.Nat.{_+_, _≤_, _-_}
 use mathlib.Core.Path.{_≡_}

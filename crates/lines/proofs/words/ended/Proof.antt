@@ -1,4 +1,4 @@
--- By the definition's own tests. Assumes nothing.
+-- By the definition's own tests.
 use borrow.Author.Tests.{eq-eqb, ne-eqb}
 use Rattle.lines.proofs.words.ended.Statement.{statement}
 use Rattle.lines.proofs.words.ended.Tie as tie

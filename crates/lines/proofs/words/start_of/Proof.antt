@@ -1,4 +1,4 @@
--- The loop's invariant: at `at` starts word `j`. The measure is how many words are left to pass. Assumes nothing.
+-- The loop's invariant: at `at` starts word `j`. The measure is how many words are left to pass.
 use denote.Ref.{now}
 use Prim.Native.Nat.{_≤_, _-_}
 use mathlib.Core.Path.{_≡_, refl}

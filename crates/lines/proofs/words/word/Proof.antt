@@ -1,4 +1,4 @@
--- The word starts where the passed words end, and ends at the next space. Where there are no more words, the part is empty. Assumes nothing.
+-- The word starts where the passed words end, and ends at the next space. Where there are no more words, the part is empty.
 use denote.Ref.{now}
 use native.Mathlib.Omega.{arith}
 use lib.ListN.{drop, length-drop}

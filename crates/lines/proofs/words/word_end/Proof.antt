@@ -1,4 +1,4 @@
--- The loop's invariant: the end of the word that starts at `i` is the end asked for. The measure is what is left. Assumes nothing.
+-- The loop's invariant: the end of the word that starts at `i` is the end asked for. The measure is what is left.
 use denote.Ref.{now}
 use Prim.Native.Nat.{_+_, _≤_, _-_}
 use mathlib.Core.Path.{_≡_, refl, sym, _∙_}

@@ -1,4 +1,4 @@
--- The line is formed at the front of an array, and laid from there. Assumes nothing.
+-- The line is formed at the front of an array, and laid from there.
 use Prim.Native.Nat.{_≤_}
 use denote.Ref.{now}
 use mathlib.Core.Path.{refl, sym, ap, _∙_}

@@ -1,4 +1,4 @@
--- Refused without room; nothing for a line that was kept; else the line is short enough and is laid. Assumes nothing.
+-- Refused without room; nothing for a line that was kept; else the line is short enough and is laid.
 use Prim.Native.Nat.{_+_}
 use denote.Ref.{now}
 use mathlib.Core.Path.{_≡_, sym, ap, _∙_}

@@ -1,4 +1,4 @@
--- The loop's invariant is `Noting`: what is told of the first `i` lines is laid. The measure is what is left of the report. Assumes nothing.
+-- The loop's invariant is `Noting`: what is told of the first `i` lines is laid. The measure is what is left of the report.
 use Prim.Native.Nat.{_*_, _-_, _<_, _≤_}
 use denote.Ref.{now}
 use native.Mathlib.Omega.{arith}

@@ -1,4 +1,4 @@
--- Each end of the call is a case of its definition. Assumes nothing.
+-- Each end of the call is a case of its definition.
 use Prim.Native.Nat.{ℕ, _<_, _≤_}
 use denote.Ref.{now}
 use mathlib.Core.Bool.{false}

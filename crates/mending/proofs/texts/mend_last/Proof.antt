@@ -1,4 +1,4 @@
--- What is left of the line is laid, and its report behind those before it. Assumes nothing.
+-- What is left of the line is laid, and its report behind those before it.
 use Prim.Native.Nat.{ℕ}
 use denote.Ref.{now}
 use mathlib.Core.List.{[], _∷_}

@@ -1,5 +1,5 @@
 -- The loop's invariant is `MendingWalk`: text and report of the lines before `at` are laid, and what is to come is that of the lines from it on. The measure is
--- what is left of the text. Assumes nothing.
+-- what is left of the text.
 use Prim.Native.Nat.{ℕ, _-_}
 use denote.Ref.{now}
 use mathlib.Core.List.{[], _∷_}

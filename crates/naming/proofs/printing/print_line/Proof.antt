@@ -1,4 +1,4 @@
--- What is named is printed. Assumes nothing.
+-- What is named is printed.
 use borrow.Author.Needs.{needs}
 use Rattle.naming.proofs.printing.print_line.Statement.{statement}
 use Rattle.naming.proofs.printing.print_line.Tie as tie

@@ -1,4 +1,4 @@
--- The text is as long as its count says, and is laid where it fits. Assumes nothing.
+-- The text is as long as its count says, and is laid where it fits.
 use Prim.Native.Nat.{_-_, _≤_}
 use mathlib.Core.Path.{_≡_}
 use lib.ListN.{length, take, drop}

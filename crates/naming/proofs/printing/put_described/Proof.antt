@@ -1,4 +1,4 @@
--- A refusal's text, or two parts, laid one behind the other. Assumes nothing.
+-- A refusal's text, or two parts, laid one behind the other.
 use Prim.Native.Nat.{_+_}
 use mathlib.Core.Path.{_≡_, ap, _∙_}
 use native.Mathlib.Omega.{arith}

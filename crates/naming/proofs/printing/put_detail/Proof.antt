@@ -1,4 +1,4 @@
--- Each arm lays its details one behind the other. Assumes nothing.
+-- Each arm lays its details one behind the other.
 use Prim.Native.Nat.{ℕ, _+_, _≤_}
 use mathlib.Core.Path.{_≡_, sym, ap, _∙_}
 use mathlib.Core.List.{_∷_}

@@ -1,4 +1,4 @@
--- The word and the number behind it are the text. Assumes nothing.
+-- The word and the number behind it are the text.
 use mathlib.Core.Path.{ap, _∙_}
 use denote.Ref.{now}
 use Rattle.text.specs.declared.laying.Written.{Written}

@@ -1,4 +1,4 @@
--- A store and the digits behind it are laid as one. Assumes nothing.
+-- A store and the digits behind it are laid as one.
 use Prim.Native.Nat.{_+_, _≤_}
 use mathlib.Core.Path.{refl, _∙_}
 use mathlib.Core.List.{[], _∷_}

@@ -1,4 +1,4 @@
--- Each arm lays the characters of its word. Assumes nothing.
+-- Each arm lays the characters of its word.
 use borrow.Author.Needs.{needs}
 use Rattle.naming.proofs.printing.put_word.Statement.{statement}
 use Rattle.naming.proofs.printing.put_word.Tie as tie

@@ -1,4 +1,4 @@
--- The text and the feed behind it. Assumes nothing.
+-- The text and the feed behind it.
 use Prim.Native.Nat.{_<_}
 use native.Mathlib.Omega.{arith}
 use mir.Syntax.{w8}

@@ -1,4 +1,4 @@
--- The two ends of the call are the two cases of its definition. Assumes nothing.
+-- The two ends of the call are the two cases of its definition.
 use denote.Ref.{now}
 use lib.Dec.{lit<}
 use Rattle.pieces.specs.Walk.{feed-short, feed-done}

@@ -1,4 +1,4 @@
--- The three ends of the call: no room, a last line without a feed, and none. Assumes nothing.
+-- The three ends of the call: no room, a last line without a feed, and none.
 use denote.Ref.{now}
 use lib.Dec.{lit<}
 use Rattle.pieces.specs.Walk.{finish-short, finish-open, finish-whole}

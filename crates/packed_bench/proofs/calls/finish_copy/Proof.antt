@@ -1,4 +1,4 @@
--- Unpacked, called, packed: the one law. Assumes nothing.
+-- Unpacked, called, packed: the one law.
 use mathlib.Core.Path.{_∙_}
 use borrow.Author.Needs.{needs}
 use denote.Ref.{now}

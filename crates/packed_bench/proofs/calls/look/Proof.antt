@@ -1,4 +1,4 @@
--- Unpacked and looked at; where the bytes are refused the bench is the empty one, on which nothing is seen. Assumes nothing.
+-- Unpacked and looked at; where the bytes are refused the bench is the empty one, on which nothing is seen.
 use mathlib.Core.Path.{_≡_, _∙_, ap}
 use borrow.Author.Needs.{needs}
 use borrow.Author.Tests.{eq-eqb, ne-eqb}

@@ -1,4 +1,4 @@
--- The bytes of the two cases. Assumes nothing.
+-- The bytes of the two cases.
 use borrow.Author.Needs.{needs}
 use Rattle.packed_bench.proofs.packing.course_bytes.Statement.{statement}
 use Rattle.packed_bench.proofs.packing.course_bytes.Tie as tie

@@ -1,4 +1,4 @@
--- Each field from its own bytes. Assumes nothing.
+-- Each field from its own bytes.
 use mathlib.Core.Path.{_≡_, ap, _∙_}
 use lib.ListN.{getD}
 use Rattle.packed_bench.specs.Bytes.{codeFromBytes, eightAt}

@@ -1,4 +1,4 @@
--- The parts of eight bytes, laid one after another. Assumes nothing.
+-- The parts of eight bytes, laid one after another.
 use Prim.Native.Nat.{_<_, _^_}
 use mathlib.Core.Path.{_≡_}
 use lib.ListN.{length}

@@ -1,4 +1,4 @@
--- Each byte by what its call answers. Assumes nothing.
+-- Each byte by what its call answers.
 use borrow.Author.Needs.{needs}
 use Rattle.packed_bench.proofs.packing.page_bytes.Statement.{statement}
 use Rattle.packed_bench.proofs.packing.page_bytes.Tie as tie

@@ -1,4 +1,4 @@
--- One return for each case. Assumes nothing.
+-- One return for each case.
 use borrow.Author.Needs.{needs}
 use Rattle.packed_bench.proofs.record_parts.activity_case.Statement.{statement}
 use Rattle.packed_bench.proofs.record_parts.activity_case.Tie as tie

@@ -1,4 +1,4 @@
--- The definition, byte by byte. Assumes nothing.
+-- The definition, byte by byte.
 use Rattle.packed_bench.specs.Bytes.{bytesLowFirst}
 use mathlib.Core.Path.{refl}
 use borrow.Author.Needs.{needs}

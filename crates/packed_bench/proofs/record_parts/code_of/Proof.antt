@@ -1,4 +1,4 @@
--- Each byte goes below the number of the bytes after it. Assumes nothing.
+-- Each byte goes below the number of the bytes after it.
 use Rattle.packed_bench.specs.Bytes.{codeFromBytes}
 use borrow.Author.Needs.{needs}
 use Rattle.packed_bench.proofs.record_parts.code_of.Statement.{statement}

@@ -1,4 +1,4 @@
--- A number past the first is the last case. Assumes nothing.
+-- A number past the first is the last case.
 use Rattle.packed_bench.specs.PartsLaws.{nonzero}
 use Rattle.device.specs.declared.Power.the-variants.{Line, External}
 use mathlib.Core.List.{[], _∷_}

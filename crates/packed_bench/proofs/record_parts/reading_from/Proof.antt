@@ -1,4 +1,4 @@
--- At twelve bits the reading is the raw one. Assumes nothing.
+-- At twelve bits the reading is the raw one.
 use mathlib.Core.Path.{ap, _∙_}
 use borrow.Author.Needs.{needs}
 use Rattle.temperature.specs.Register.{rawReading}

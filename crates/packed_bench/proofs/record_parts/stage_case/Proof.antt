@@ -1,4 +1,4 @@
--- One return for each stage. Assumes nothing.
+-- One return for each stage.
 use borrow.Author.Needs.{needs}
 use Rattle.packed_bench.proofs.record_parts.stage_case.Statement.{statement}
 use Rattle.packed_bench.proofs.record_parts.stage_case.Tie as tie

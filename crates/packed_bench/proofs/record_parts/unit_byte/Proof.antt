@@ -1,4 +1,4 @@
--- Either unit; the number that it counts is one of its type. Assumes nothing.
+-- Either unit; the number that it counts is one of its type.
 use borrow.Author.Needs.{needs}
 use Rattle.packed_bench.proofs.record_parts.unit_byte.Statement.{statement}
 use Rattle.packed_bench.proofs.record_parts.unit_byte.Tie as tie

@@ -1,4 +1,4 @@
--- Either the device's bytes or zeros, as the definition has it. Assumes nothing.
+-- Either the device's bytes or zeros, as the definition has it.
 use Prim.Native.Nat.{_<_}
 use mathlib.Core.Path.{_≡_, _∙_, subst}
 use native.Mathlib.Omega.{arith}

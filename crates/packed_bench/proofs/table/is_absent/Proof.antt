@@ -1,4 +1,4 @@
--- The loop's invariant: whether the code is absent is left to the devices from i on. Assumes nothing.
+-- The loop's invariant: whether the code is absent is left to the devices from i on.
 use Prim.Native.Nat.{_≤_, _<_, _-_}
 use mathlib.Core.Bool.{not}
 use mathlib.Core.Path.{_≡_, _∙_, sym, ap, refl}

@@ -1,4 +1,4 @@
--- The bytes written again are the definition's, over zeros as long as a table; the test is the definition's too. Assumes nothing.
+-- The bytes written again are the definition's, over zeros as long as a table; the test is the definition's too.
 use mathlib.Core.Path.{_≡_, _∙_, sym, ap, refl}
 use borrow.Author.Needs.{needs}
 use denote.Ref.{now}

@@ -1,4 +1,4 @@
--- Too few bytes stay as they are; else the table is written, and what the types of the records hold is what its way back asks for. Assumes nothing.
+-- Too few bytes stay as they are; else the table is written, and what the types of the records hold is what its way back asks for.
 use native.Mathlib.Omega.{arith}
 use borrow.Author.Needs.{needs}
 use borrow.Author.Tests.{lt-ltb, le-ltb}

@@ -1,4 +1,4 @@
--- The first i bytes are laid over the slice. Assumes nothing.
+-- The first i bytes are laid over the slice.
 use Prim.Native.Nat.{_+_, _-_, _<_, _≤_}
 use mathlib.Core.Path.{_≡_, refl, ap, _∙_}
 use native.Mathlib.Omega.{arith}

@@ -1,4 +1,4 @@
--- The loop's invariant: the devices so far, and those of the entries from i on, are the devices of the bytes; the places from i on are vacant. Assumes nothing.
+-- The loop's invariant: the devices so far, and those of the entries from i on, are the devices of the bytes; the places from i on are vacant.
 use Prim.Native.Nat.{_+_, _*_, _≤_, _-_}
 use mathlib.Core.Path.{_≡_, _∙_, sym, ap, refl}
 use mathlib.Core.List.{_++_}

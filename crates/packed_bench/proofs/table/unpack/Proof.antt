@@ -1,4 +1,4 @@
--- The two tests of the definition, in its order. Assumes nothing.
+-- The two tests of the definition, in its order.
 use mathlib.Core.Path.{_≡_, _∙_, sym, ap}
 use borrow.Author.Needs.{needs}
 use borrow.Author.Tests.{lt-ltb, le-ltb}

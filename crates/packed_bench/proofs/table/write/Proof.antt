@@ -1,4 +1,4 @@
--- The loop's invariant: what is lent, with the entries that are left laid from entry i on, is what is promised; the devices so far are of the types. Assumes nothing.
+-- The loop's invariant: what is lent, with the entries that are left laid from entry i on, is what is promised; the devices so far are of the types.
 use Prim.Native.Nat.{_+_, _*_, _≤_, _<_, _-_}
 use mathlib.Core.Path.{_≡_, _∙_, sym, ap, refl}
 use native.Mathlib.Omega.{arith}

@@ -1,4 +1,4 @@
--- By the definition's own tests. Assumes nothing.
+-- By the definition's own tests.
 use mathlib.Core.Path.{_∙_, ap}
 use native.Mathlib.Omega.{arith}
 use borrow.Author.Tests.{lt-ltb, le-ltb}

@@ -1,4 +1,4 @@
--- On the empty bench nothing is seen but a vacant place. Assumes nothing.
+-- On the empty bench nothing is seen but a vacant place.
 use mathlib.Core.Path.{_≡_, ap, _∙_}
 use Rattle.bench.specs.Bench.{vacant}
 use Rattle.bench.specs.Calls.{looked}

@@ -1,4 +1,4 @@
--- The loop's invariant: what is lent, with the lines that are left laid from `to` on, is what is promised. Assumes nothing.
+-- The loop's invariant: what is lent, with the lines that are left laid from `to` on, is what is promised.
 use Prim.Native.Nat.{_+_, _*_, _≤_, _-_}
 use mathlib.Core.Path.{_≡_, _∙_, sym, ap, refl}
 use native.Mathlib.Omega.{arith}

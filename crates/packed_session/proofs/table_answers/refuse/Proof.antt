@@ -1,4 +1,4 @@
--- Request by request, the line that its form has. Assumes nothing.
+-- Request by request, the line that its form has.
 use Rattle.packed_session.specs.TableAnswers.{refusedOnTable}
 use borrow.Author.Needs.{needs}
 use Rattle.packed_session.proofs.table_answers.refuse.Statement.{statement}

@@ -1,4 +1,4 @@
--- By the room, as the definition tests it, and by what the line asks for. Assumes nothing.
+-- By the room, as the definition tests it, and by what the line asks for.
 use mathlib.Core.Path.{_≡_, subst}
 use native.Mathlib.Omega.{arith}
 use borrow.Author.Tests.{lt-leb, le-leb}

@@ -1,4 +1,4 @@
--- Refused bytes are told and stay; else what the console answered on the bench of the bytes is said, and the bench that it left is packed. Assumes nothing.
+-- Refused bytes are told and stay; else what the console answered on the bench of the bytes is said, and the bench that it left is packed.
 use denote.Ref.{now}
 use borrow.Author.Tests.{le-leb}
 use lib.ListN.{length}

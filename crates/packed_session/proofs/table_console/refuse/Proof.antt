@@ -1,4 +1,4 @@
--- By whether the line has its feed. Assumes nothing.
+-- By whether the line has its feed.
 use borrow.Author.Needs.{needs}
 use Rattle.packed_session.proofs.table_console.refuse.Statement.{statement}
 use Rattle.packed_session.proofs.table_console.refuse.Tie as tie

@@ -1,4 +1,4 @@
--- Each request by its own call. Assumes nothing.
+-- Each request by its own call.
 use denote.Ref.{now}
 use Rattle.packed_session.specs.TableConsole.{spokenTo}
 use Rattle.packed_session.specs.TellsLaws.{line-tells, dump-tells}

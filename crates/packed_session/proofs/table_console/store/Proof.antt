@@ -1,4 +1,4 @@
--- The byte is stored, and what that came to is told. Assumes nothing.
+-- The byte is stored, and what that came to is told.
 use borrow.Author.Needs.{needs}
 use Rattle.packed_session.proofs.table_console.store.Statement.{statement}
 use Rattle.packed_session.proofs.table_console.store.Tie as tie

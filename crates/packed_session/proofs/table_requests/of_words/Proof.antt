@@ -1,4 +1,4 @@
--- By the definition's own tests. Assumes nothing.
+-- By the definition's own tests.
 use borrow.Author.Tests.{eq-eqb, ne-eqb}
 use Rattle.packed_session.specs.TableRequests.{ofTable}
 use borrow.Author.Needs.{needs}

@@ -1,4 +1,4 @@
--- By the definition's own test. Assumes nothing.
+-- By the definition's own test.
 use borrow.Author.Tests.{lt-leb, le-leb}
 use Rattle.packed_session.specs.TableRequests.{tableRequestOf}
 use borrow.Author.Needs.{needs}

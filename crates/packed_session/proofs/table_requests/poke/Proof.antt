@@ -1,4 +1,4 @@
--- By the tests of both fields; two digits are a byte. Assumes nothing.
+-- By the tests of both fields; two digits are a byte.
 use denote.Ref.{now}
 use mathlib.Core.Path.{_≡_, ap, _∙_}
 use Rattle.lines.specs.Fields.{byteIn}

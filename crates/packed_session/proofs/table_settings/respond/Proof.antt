@@ -1,4 +1,4 @@
--- By whose request it is: the table's, a write to a device, or one of the store alone. The answer to what the call came to is said, and the call came to what its promise says. Assumes nothing.
+-- By whose request it is: the table's, a write to a device, or one of the store alone. The answer to what the call came to is said, and the call came to what its promise says.
 use Prim.Native.Nat.{ℕ, _+_, _≤_}
 use denote.Ref.{now}
 use mathlib.Core.Path.{_≡_, ap, refl, _∙_}

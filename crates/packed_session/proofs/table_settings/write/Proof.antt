@@ -1,4 +1,4 @@
--- Refused bytes are told and stay; else what the write came to on the bench of the bytes is said, and the bench that it left is packed. Assumes nothing.
+-- Refused bytes are told and stay; else what the write came to on the bench of the bytes is said, and the bench that it left is packed.
 use denote.Ref.{now}
 use mathlib.Core.Path.{ap, _∙_}
 use Rattle.basic_laws.specs.Laid.{laid}

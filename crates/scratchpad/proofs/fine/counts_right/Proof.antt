@@ -1,4 +1,4 @@
--- One arm for each unit; of half degrees the two tests are those of the definition. Assumes nothing.
+-- One arm for each unit; of half degrees the two tests are those of the definition.
 use borrow.Author.Needs.{needs}
 use borrow.Author.Tests.{lt-ltb, le-ltb}
 use Rattle.scratchpad.proofs.fine.counts_right.Statement.{statement}

@@ -1,4 +1,4 @@
--- One arm for each unit; of half degrees by the test of the counts, which gives what the fraction asks. Assumes nothing.
+-- One arm for each unit; of half degrees by the test of the counts, which gives what the fraction asks.
 use Prim.Native.Nat.{ℕ, _<_, _≤_}
 use mathlib.Core.Bool.{true}
 use mathlib.Core.Path.{_≡_, sym, _∙_}

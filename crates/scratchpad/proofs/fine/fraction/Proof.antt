@@ -1,4 +1,4 @@
--- Every product, difference and sum stays far within 32 bits: whole degrees of 16 bits times at most 1020, and two small numbers. Assumes nothing.
+-- Every product, difference and sum stays far within 32 bits: whole degrees of 16 bits times at most 1020, and two small numbers.
 use Prim.Native.Nat.{ℕ, _-_, _*_, _<_, _≤_}
 use mathlib.Core.Path.{_≡_, ap}
 use native.Mathlib.Omega.{arith}

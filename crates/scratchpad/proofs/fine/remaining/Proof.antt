@@ -1,4 +1,4 @@
--- The low four bits of the register are those of the count (`remaining-low`). Assumes nothing.
+-- The low four bits of the register are those of the count (`remaining-low`).
 use mathlib.Core.Path.{sym}
 use borrow.Author.Needs.{needs}
 use Rattle.scratchpad.specs.FineLaws.{remaining-low}

@@ -1,4 +1,4 @@
--- The loop's invariant says what is still to come: the bits that are left, sent and recorded on what stands, give the answer. Assumes nothing.
+-- The loop's invariant says what is still to come: the bits that are left, sent and recorded on what stands, give the answer.
 use Prim.Native.Nat.{_≤_, _-_}
 use mathlib.Core.Path.{_≡_, _∙_, sym}
 use native.Mathlib.Omega.{arith}

@@ -1,4 +1,4 @@
--- The loop's invariant: the walk is one of the laws at this place, from the walk that the command left on. Assumes nothing.
+-- The loop's invariant: the walk is one of the laws at this place, from the walk that the command left on.
 use Prim.Native.Nat.{_≤_, _-_}
 use mathlib.Core.Logic.{⊎-elim}
 use mathlib.Core.Path.{_≡_, _∙_, refl}

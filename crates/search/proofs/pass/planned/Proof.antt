@@ -1,4 +1,4 @@
--- Before the place of departure a bit of the code, else a comparison. Assumes nothing.
+-- Before the place of departure a bit of the code, else a comparison.
 use borrow.Author.Tests.{le-ltb, lt-ltb}
 use borrow.Author.Needs.{needs}
 use Rattle.search.proofs.pass.planned.Statement.{statement}

@@ -1,4 +1,4 @@
--- The slot's line is pushed. Assumes nothing.
+-- The slot's line is pushed.
 use Rattle.search.specs.Pass.{oneSlot}
 use borrow.Author.Needs.{needs}
 use Rattle.search.proofs.pass.show.Statement.{statement}

@@ -1,4 +1,4 @@
--- The three slots of the place, by whether anybody answered. Assumes nothing.
+-- The three slots of the place, by whether anybody answered.
 use mathlib.Core.Path.{_∙_, sym}
 use borrow.Author.Needs.{needs}
 use Rattle.search.specs.Pass.{place-over, place-on}

@@ -1,4 +1,4 @@
--- The weight is at most 2 ^ 63, so that neither the shift nor the sum passes 64 bits. Assumes nothing.
+-- The weight is at most 2 ^ 63, so that neither the shift nor the sum passes 64 bits.
 use Prim.Native.Nat.{_^_, _≤_}
 use native.Mathlib.Omega.{arith}
 use borrow.Author.Needs.{needs}

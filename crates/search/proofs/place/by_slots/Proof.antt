@@ -1,4 +1,4 @@
--- Three slots in a row, or two where both reads showed 1. Assumes nothing.
+-- Three slots in a row, or two where both reads showed 1.
 use borrow.Author.Needs.{needs}
 use Rattle.search.specs.Place.{placed}
 use Rattle.search.proofs.place.by_slots.Statement.{statement}

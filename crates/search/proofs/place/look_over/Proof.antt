@@ -1,4 +1,4 @@
--- The loop's invariant: the survey is of the devices before i. Assumes nothing.
+-- The loop's invariant: the survey is of the devices before i.
 use Prim.Native.Nat.{_≤_, _<_, _-_, min}
 use mathlib.Core.Path.{_≡_, _∙_, ap, refl}
 use native.Mathlib.Omega.{arith}

@@ -1,4 +1,4 @@
--- The loop's invariant: the devices before i are settled, and all others as they were; a quiet one is settled as it stands. Assumes nothing.
+-- The loop's invariant: the devices before i are settled, and all others as they were; a quiet one is settled as it stands.
 use Prim.Native.Nat.{_≤_, _<_, _-_, min}
 use mathlib.Core.Bool.{not}
 use mathlib.Core.Logic.{⊎-elim}

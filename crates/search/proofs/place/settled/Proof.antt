@@ -1,4 +1,4 @@
--- By whether the device is quiet. Assumes nothing.
+-- By whether the device is quiet.
 use borrow.Author.Needs.{needs}
 use Rattle.search.specs.Standing.{settledOf}
 use Rattle.search.proofs.place.settled.Statement.{statement}

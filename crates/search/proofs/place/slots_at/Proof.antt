@@ -1,4 +1,4 @@
--- Where every device fits and the reads are not both 1, the law of the three slots at once; elsewhere the slots themselves. Assumes nothing.
+-- Where every device fits and the reads are not both 1, the law of the three slots at once; elsewhere the slots themselves.
 use mathlib.Core.Path.{sym}
 use borrow.Author.Needs.{needs}
 use Rattle.search.specs.PlaceLaws.{surveyed-at-once}

@@ -1,4 +1,4 @@
--- Each stage by itself; of a search, its place and its phase. Assumes nothing.
+-- Each stage by itself; of a search, its place and its phase.
 use borrow.Author.Needs.{needs}
 use Rattle.search.proofs.place.starts_at.Statement.{statement}
 use Rattle.search.proofs.place.starts_at.Tie as tie

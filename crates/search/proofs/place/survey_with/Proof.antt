@@ -1,4 +1,4 @@
--- By whether the device is quiet. Assumes nothing.
+-- By whether the device is quiet.
 use mathlib.Core.Bool.{not, and-true}
 use borrow.Author.Needs.{needs}
 use Rattle.search.specs.Standing.{fits, oneAt, zeroSentAt, surveyedWith}

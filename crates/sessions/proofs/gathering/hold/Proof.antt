@@ -1,5 +1,5 @@
 -- The loop's invariant: the first `i` characters are laid behind those that were held, and end within the buffer, which has its length.
--- The measure is what is left of them. Assumes nothing.
+-- The measure is what is left of them.
 use Prim.Native.Nat.{_+_, _-_, _<_, _≤_}
 use mathlib.Core.Path.{_≡_, refl, _∙_}
 use native.Mathlib.Omega.{arith}

@@ -1,4 +1,4 @@
--- The part of the line ends at its feed or at the end of the piece, and its characters are held behind those before it. Assumes nothing.
+-- The part of the line ends at its feed or at the end of the piece, and its characters are held behind those before it.
 use Prim.Native.Nat.{_<_, _≤_}
 use native.Mathlib.Omega.{arith}
 use denote.Ref.{now}

@@ -1,4 +1,4 @@
--- The store's refusal, or the write. Assumes nothing.
+-- The store's refusal, or the write.
 use Rattle.settings.specs.Written.{settingsWritten}
 use borrow.Author.Tests.{eq-eqb, ne-eqb}
 use borrow.Author.Needs.{needs}

@@ -1,4 +1,4 @@
--- Both characters are digits, so the sum is below 256. Assumes nothing.
+-- Both characters are digits, so the sum is below 256.
 use Prim.Native.Nat.{ℕ, _+_, _<_}
 use borrow.Author.Tests.{ltb-true}
 use native.Mathlib.Omega.{arith}

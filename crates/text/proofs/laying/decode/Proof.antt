@@ -1,4 +1,4 @@
--- The loop's invariant: the first `i` of the bytes that the digits stand for are laid from place 0. The measure is what is left. Assumes nothing.
+-- The loop's invariant: the first `i` of the bytes that the digits stand for are laid from place 0. The measure is what is left.
 use denote.Ref.{now}
 use lib.Seq.{take-all}
 use Rattle.basic_laws.specs.LaidLaws.{laid-next, laid-none}

@@ -1,4 +1,4 @@
--- A place past the end leaves no room; else what is left behind the place decides. Assumes nothing.
+-- A place past the end leaves no room; else what is left behind the place decides.
 use Prim.Native.Nat.{_+_, _<_}
 use mathlib.Core.Path.{sym}
 use native.Mathlib.Omega.{arith}

@@ -1,4 +1,4 @@
--- The text is laid where it fits. Assumes nothing.
+-- The text is laid where it fits.
 use Prim.Native.Nat.{_+_, _≤_}
 use mathlib.Core.Path.{refl, sym, _∙_}
 use borrow.Author.Tests.{leb-true, not-true, not-false}

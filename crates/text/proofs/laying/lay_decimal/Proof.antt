@@ -1,4 +1,4 @@
--- The digits are counted, and laid where they fit. Assumes nothing.
+-- The digits are counted, and laid where they fit.
 use Prim.Native.Nat.{_+_, _≤_}
 use mathlib.Core.Path.{sym, ap, _∙_}
 use borrow.Author.Tests.{leb-true, not-true, not-false}

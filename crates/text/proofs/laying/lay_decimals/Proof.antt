@@ -1,4 +1,4 @@
--- The digits are laid where they fit. Assumes nothing.
+-- The digits are laid where they fit.
 use Prim.Native.Nat.{_+_, _≤_}
 use mathlib.Core.Path.{sym, _∙_}
 use borrow.Author.Tests.{leb-true, not-true, not-false}

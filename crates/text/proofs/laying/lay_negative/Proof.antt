@@ -1,4 +1,4 @@
--- Where there is room for both, the minus is stored and the digits are laid behind it. Assumes nothing.
+-- Where there is room for both, the minus is stored and the digits are laid behind it.
 use Prim.Native.Nat.{_+_, _≤_}
 use denote.Ref.{now}
 use mathlib.Core.List.{_∷_}

@@ -1,4 +1,4 @@
--- By the sign, as the definition tests it. Assumes nothing.
+-- By the sign, as the definition tests it.
 use denote.Ref.{now}
 use lib.IntN.{natAbs}
 use mathlib.Core.Path.{ap, _∙_}

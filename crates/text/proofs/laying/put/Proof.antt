@@ -1,4 +1,4 @@
--- The loop's invariant: the first `i` characters are laid, and the slice has its length. The measure is what is left. Assumes nothing.
+-- The loop's invariant: the first `i` characters are laid, and the slice has its length. The measure is what is left.
 use Prim.Native.Nat.{_+_, _-_, _<_, _≤_}
 use mathlib.Core.Path.{_≡_, refl, _∙_}
 use native.Mathlib.Omega.{arith}

@@ -1,4 +1,4 @@
--- The loop's invariant: with the digits that are left laid too, the slice is as it is to be. The measure is how many are left. Assumes nothing.
+-- The loop's invariant: with the digits that are left laid too, the slice is as it is to be. The measure is how many are left.
 use Prim.Native.Nat.{ℕ, suc, _+_, _-_, _%_, _<_, _≤_}
 use mathlib.Core.Path.{_≡_, refl, ap, _∙_}
 use native.Mathlib.Omega.{arith}

@@ -1,4 +1,4 @@
--- Another character, no room, or all the bytes laid. Assumes nothing.
+-- Another character, no room, or all the bytes laid.
 use Prim.Native.Nat.{_+_, _/_, _≤_}
 use mathlib.Core.Path.{_≡_, sym, _∙_}
 use mathlib.Core.Bool.{true}

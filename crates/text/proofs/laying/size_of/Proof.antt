@@ -1,4 +1,4 @@
--- The wider number holds the number and, where it is negative, its opposite. Assumes nothing.
+-- The wider number holds the number and, where it is negative, its opposite.
 use Prim.Native.Nat.{ℕ}
 use mathlib.Core.Bool.{true, false}
 use mathlib.Core.Path.{_≡_, refl, ap}

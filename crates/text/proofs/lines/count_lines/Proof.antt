@@ -1,4 +1,4 @@
--- The loop's invariant: so many lines stand before the place, at most one for each byte. The measure is what is left. Assumes nothing.
+-- The loop's invariant: so many lines stand before the place, at most one for each byte. The measure is what is left.
 use Prim.Native.Nat.{_+_, _-_, _≤_}
 use denote.Ref.{now}
 use mathlib.Core.Path.{_≡_}

@@ -1,4 +1,4 @@
--- The line ends behind its feed, which belongs to it, or at the end of the data. Assumes nothing.
+-- The line ends behind its feed, which belongs to it, or at the end of the data.
 use denote.Ref.{now}
 use borrow.Author.Needs.{needs}
 use Rattle.text.specs.LinesLaws.{behind-fed, behind-open}

@@ -1,4 +1,4 @@
--- The digit's letter or numeral goes by the definition's own test. Assumes nothing.
+-- The digit's letter or numeral goes by the definition's own test.
 use borrow.Author.Tests.{lt-ltb, le-ltb}
 use borrow.Author.Needs.{needs}
 use Rattle.text.proofs.numbers.digit.Statement.{statement}

@@ -1,4 +1,4 @@
--- Where there is no character there is no minus. Assumes nothing.
+-- Where there is no character there is no minus.
 use denote.Ref.{now}
 use Rattle.text.specs.DecimalLaws.{positive-empty}
 use borrow.Author.Needs.{needs}

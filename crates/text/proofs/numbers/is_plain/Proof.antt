@@ -1,4 +1,4 @@
--- No character, one that is no digit, a single digit, and several. Assumes nothing.
+-- No character, one that is no digit, a single digit, and several.
 use denote.Ref.{now}
 use mathlib.Core.Path.{sym, _∙_}
 use borrow.Author.Tests.{not-true, not-false}

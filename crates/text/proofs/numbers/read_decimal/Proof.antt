@@ -1,4 +1,4 @@
--- No digit, too many, or a number to be read. Assumes nothing.
+-- No digit, too many, or a number to be read.
 use mathlib.Core.Path.{_∙_}
 use borrow.Author.Tests.{le-leb, lt-leb}
 use borrow.Author.Needs.{needs}

@@ -1,4 +1,4 @@
--- The two lengths, right and wrong. Assumes nothing.
+-- The two lengths, right and wrong.
 use mathlib.Core.Path.{_∙_}
 use borrow.Author.Tests.{eq-eqb, ne-eqb}
 use borrow.Author.Needs.{needs}

@@ -1,5 +1,5 @@
 -- The loop's invariant: the first `i` characters are digits, and make a number up to the bound. A character that is no digit, or a digit that takes
--- the number past the bound, ends the loop: digits behind it make no number smaller. The measure is what is left. Assumes nothing.
+-- the number past the bound, ends the loop: digits behind it make no number smaller. The measure is what is left.
 use Prim.Native.Nat.{_-_, _<_, _≤_}
 use mathlib.Core.Path.{_≡_, refl, sym, _∙_}
 use mathlib.Core.Bool.{true}

@@ -1,4 +1,4 @@
--- What is no number in plain decimal, a number up to the bound, and one beyond it. Assumes nothing.
+-- What is no number in plain decimal, a number up to the bound, and one beyond it.
 use denote.Ref.{now}
 use mathlib.Core.Path.{sym, ap, _∙_}
 use borrow.Author.Tests.{not-true, not-false}

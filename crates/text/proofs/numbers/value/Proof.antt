@@ -1,4 +1,4 @@
--- Five ranges of characters, a law for each. Assumes nothing.
+-- Five ranges of characters, a law for each.
 use Rattle.text.specs.DigitsLaws.{value-below, value-numeral, value-between, value-letter, value-above}
 use borrow.Author.Needs.{needs}
 use Rattle.text.proofs.numbers.value.Statement.{statement}

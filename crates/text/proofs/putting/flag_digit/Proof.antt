@@ -1,4 +1,4 @@
--- By the definition's own tests. Assumes nothing.
+-- By the definition's own tests.
 use Rattle.text.proofs.putting.flag_digit.Statement.{statement}
 use Rattle.text.proofs.putting.flag_digit.Tie as tie
 

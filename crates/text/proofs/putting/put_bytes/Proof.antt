@@ -1,4 +1,4 @@
--- The mark is put behind. Assumes nothing.
+-- The mark is put behind.
 use denote.Ref.{now}
 use mathlib.Core.Path.{ap}
 use Rattle.text.specs.declared.laying.Written.{Written}

@@ -1,4 +1,4 @@
--- As it is laid. Assumes nothing.
+-- As it is laid.
 use mathlib.Core.Path.{ap}
 use Rattle.text.specs.declared.laying.Written.{Written}
 use borrow.Author.Needs.{needs}

@@ -1,4 +1,4 @@
--- The mark is put behind the digit. Assumes nothing.
+-- The mark is put behind the digit.
 use Prim.Native.Nat.{ℕ}
 use mathlib.Core.List.{List, [], _∷_}
 use mathlib.Core.Path.{_≡_, subst}

@@ -1,4 +1,4 @@
--- The mark is put behind. Assumes nothing.
+-- The mark is put behind.
 use denote.Ref.{now}
 use Prim.Native.Nat.{ℕ}
 use mathlib.Core.List.{List}

@@ -1,4 +1,4 @@
--- Where the reset shows presence the command and the byte are sent; else the answer is 4. Either way the flags are as they were: `flags-left`. Assumes nothing.
+-- Where the reset shows presence the command and the byte are sent; else the answer is 4. Either way the flags are as they were: `flags-left`.
 use mathlib.Core.Path.{_≡_, ap, _∙_}
 use Rattle.refusals.specs.Refusals.{accepted, noPresence}
 use Rattle.thermostat.specs.Calls.{statusChanged}

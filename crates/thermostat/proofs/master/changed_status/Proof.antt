@@ -1,4 +1,4 @@
--- Eight bits put into an empty register, lowest first, make their number: `eight-in`. Assumes nothing.
+-- Eight bits put into an empty register, lowest first, make their number: `eight-in`.
 use Rattle.basic_laws.specs.Bits.{bitAt}
 use mathlib.Core.Bool.{true}
 use Rattle.thermostat.specs.Calls.{changedStatus}

@@ -1,4 +1,4 @@
--- The loop's invariant: i read slots have been made, and the register holds the number that they showed in its upper i bits. `shifted-on` puts in the next bit. Assumes nothing.
+-- The loop's invariant: i read slots have been made, and the register holds the number that they showed in its upper i bits. `shifted-on` puts in the next bit.
 use Prim.Native.Nat.{ℕ, suc, _≤_, _+_, _-_, _*_, _^_}
 use mathlib.Core.Path.{_≡_, _∙_, refl, ap}
 use mathlib.Core.Bool.{true}

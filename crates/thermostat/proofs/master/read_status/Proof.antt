@@ -1,4 +1,4 @@
--- Where the reset shows presence the command is sent and the byte read; else the answer is 4. Assumes nothing.
+-- Where the reset shows presence the command is sent and the byte read; else the answer is 4.
 use Rattle.thermostat.specs.Calls.{statusRead}
 use borrow.Author.Needs.{needs}
 use Rattle.thermostat.proofs.master.read_status.Statement.{statement}

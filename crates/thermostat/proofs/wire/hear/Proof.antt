@@ -1,4 +1,4 @@
--- In thermostat mode nothing is heard; else by the stage, with what its own function says. Assumes nothing.
+-- In thermostat mode nothing is heard; else by the stage, with what its own function says.
 use borrow.Author.Needs.{needs}
 use Rattle.thermostat.proofs.wire.hear.Statement.{statement}
 use Rattle.thermostat.proofs.wire.hear.Tie as tie

@@ -1,4 +1,4 @@
--- One return for each thing that can be held of a command: a part, the whole, or nothing. Assumes nothing.
+-- One return for each thing that can be held of a command: a part, the whole, or nothing.
 use borrow.Author.Needs.{needs}
 use Rattle.thermostat.proofs.wire.hear_command.Statement.{statement}
 use Rattle.thermostat.proofs.wire.hear_command.Tie as tie

@@ -1,4 +1,4 @@
--- The AND of what the probe and the master offer. Assumes nothing.
+-- The AND of what the probe and the master offer.
 use borrow.Author.Needs.{needs}
 use Rattle.thermostat.proofs.wire.line_shown.Statement.{statement}
 use Rattle.thermostat.proofs.wire.line_shown.Tie as tie

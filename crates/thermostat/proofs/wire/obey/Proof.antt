@@ -1,4 +1,4 @@
--- What runs, and where it leads. Assumes nothing.
+-- What runs, and where it leads.
 use borrow.Author.Needs.{needs}
 use Rattle.thermostat.proofs.wire.obey.Statement.{statement}
 use Rattle.thermostat.proofs.wire.obey.Tie as tie

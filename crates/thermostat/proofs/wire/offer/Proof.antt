@@ -1,4 +1,4 @@
--- In thermostat mode nothing is sent; else by the stage. Assumes nothing.
+-- In thermostat mode nothing is sent; else by the stage.
 use borrow.Author.Needs.{needs}
 use Rattle.thermostat.proofs.wire.offer.Statement.{statement}
 use Rattle.thermostat.proofs.wire.offer.Tie as tie

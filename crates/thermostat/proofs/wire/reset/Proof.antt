@@ -1,4 +1,4 @@
--- Heard outside thermostat mode alone. Assumes nothing.
+-- Heard outside thermostat mode alone.
 use Rattle.thermostat.specs.Slot.{probeReset}
 use borrow.Author.Needs.{needs}
 use Rattle.thermostat.proofs.wire.reset.Statement.{statement}

@@ -1,4 +1,4 @@
--- One return for each command that starts or stops, by the key of the match, and one for all other bytes. Assumes nothing.
+-- One return for each command that starts or stops, by the key of the match, and one for all other bytes.
 use Rattle.thermostat.specs.Slot.{runsAfter}
 use borrow.Author.Tests.{ne-eqb}
 use Rattle.thermostat.proofs.wire.runs_after.Statement.{statement}

@@ -1,4 +1,4 @@
--- The next bit, or quiet after the eighth. Assumes nothing.
+-- The next bit, or quiet after the eighth.
 use borrow.Author.Tests.{lt-ltb, le-ltb}
 use borrow.Author.Needs.{needs}
 use Rattle.thermostat.proofs.wire.send_on.Statement.{statement}

@@ -1,4 +1,4 @@
--- The line, and the probe that has heard it. Assumes nothing.
+-- The line, and the probe that has heard it.
 use Rattle.thermostat.specs.Slot.{probeSlotted}
 use borrow.Author.Needs.{needs}
 use Rattle.thermostat.proofs.wire.slot.Statement.{statement}

@@ -1,4 +1,4 @@
--- One return for each command that has a byte, by the key of the match, and one for all other bytes. Assumes nothing.
+-- One return for each command that has a byte, by the key of the match, and one for all other bytes.
 use Rattle.thermostat.specs.Slot.{stageAfter}
 use borrow.Author.Tests.{ne-eqb}
 use borrow.Author.Needs.{needs}

@@ -1,4 +1,4 @@
--- One return for each register. Assumes nothing.
+-- One return for each register.
 use borrow.Author.Needs.{needs}
 use Rattle.thermostat.proofs.wire.store.Statement.{statement}
 use Rattle.thermostat.proofs.wire.store.Tie as tie

@@ -1,4 +1,4 @@
--- Field after field. Assumes nothing.
+-- Field after field.
 use denote.Ref.{now}
 use Rattle.text.specs.Decimal.{decimal}
 use Rattle.text.specs.Digits.{hexDigits}

@@ -1,4 +1,4 @@
--- Reply by reply: the line is laid, and it is short. Assumes nothing.
+-- Reply by reply: the line is laid, and it is short.
 use denote.Ref.{now}
 use Rattle.bench_answers.specs.Answers.{badLine, refusalLine, bitLine}
 use Rattle.bench_answers.specs.AnswersLaws.{bad-short, refusal-short, bit-short}

@@ -1,4 +1,4 @@
--- Bit by bit. Assumes nothing.
+-- Bit by bit.
 use Rattle.thermostat_session.specs.ProbeRequests.{askedIn}
 use borrow.Author.Needs.{needs}
 use Rattle.thermostat_session.proofs.requests.asked_in.Statement.{statement}

@@ -1,4 +1,4 @@
--- By the tests of the fields; two digits are a byte. Assumes nothing.
+-- By the tests of the fields; two digits are a byte.
 use denote.Ref.{now}
 use mathlib.Core.Path.{ap, _∙_}
 use Rattle.lines.specs.Fields.{byteIn}

@@ -1,4 +1,4 @@
--- The same number, of degrees, which is held as it is. Assumes nothing.
+-- The same number, of degrees, which is held as it is.
 use Rattle.basic_laws.specs.ComplementLaws.{held-back}
 use Rattle.thermostat_session.specs.ProbeRequests.{degreesAsked}
 use borrow.Author.Needs.{needs}

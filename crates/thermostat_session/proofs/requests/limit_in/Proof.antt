@@ -1,4 +1,4 @@
--- By both tests. Assumes nothing.
+-- By both tests.
 use Rattle.thermostat_session.specs.ProbeRequests.{limitIn}
 use borrow.Author.Needs.{needs}
 use Rattle.thermostat_session.proofs.requests.limit_in.Statement.{statement}

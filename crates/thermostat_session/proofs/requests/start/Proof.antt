@@ -1,4 +1,4 @@
--- By the tests of the three fields. Assumes nothing.
+-- By the tests of the three fields.
 use mathlib.Core.Path.{ap, _∙_}
 use Rattle.thermostat_session.specs.ProbeRequests.{limitIn}
 use borrow.Author.Needs.{needs}

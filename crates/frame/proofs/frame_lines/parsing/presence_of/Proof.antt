@@ -1,4 +1,4 @@
--- Digits in the front of a line of digits are a number. Assumes nothing.
+-- Digits in the front of a line of digits are a number.
 use mathlib.Core.Path.{_≡_, ap, _∙_}
 use native.Mathlib.Omega.{arith}
 use denote.Ref.{now}

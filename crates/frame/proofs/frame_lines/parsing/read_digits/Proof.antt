@@ -1,4 +1,4 @@
--- One law of the definition for each answer; `shown` and `allowed` say what was read of the head. Assumes nothing.
+-- One law of the definition for each answer; `shown` and `allowed` say what was read of the head.
 use Prim.Native.Nat.{ℕ, _+_, _*_, _-_, _≤_}
 use mathlib.Core.Path.{_≡_, sym, ap, _∙_}
 use mathlib.Core.Bool.{_||_}

@@ -1,4 +1,4 @@
--- One law of the definition for each answer. Assumes nothing.
+-- One law of the definition for each answer.
 use mathlib.Core.Path.{sym, ap, _∙_}
 use borrow.Author.Tests.{not-true, not-false}
 use denote.Ref.{now}

@@ -1,4 +1,4 @@
--- The decoded bytes lie over 64 zeros, and those before place n are the ones decoded. Assumes nothing.
+-- The decoded bytes lie over 64 zeros, and those before place n are the ones decoded.
 use borrow.Author.Tests.{not-true, not-false}
 use Prim.Native.Nat.{_+_, _-_, _≤_}
 use mathlib.Core.Path.{_≡_, sym, ap, _∙_}

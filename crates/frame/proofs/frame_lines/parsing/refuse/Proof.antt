@@ -1,4 +1,4 @@
--- The frame of a refusal is the blank one. Assumes nothing.
+-- The frame of a refusal is the blank one.
 use borrow.Author.Needs.{needs}
 use Rattle.frame.proofs.frame_lines.parsing.refuse.Statement.{statement}
 use Rattle.frame.proofs.frame_lines.parsing.refuse.Tie as tie
