@@ -1,4 +1,5 @@
--- The fine reading after a finish: the finish stores the count bytes of its count (`after-fine`), and a read answers the scratchpad of the device (`read-answered`), which stands where it stood.
+-- The fine reading after a finish: the finish stores the count bytes of its count (`after-fine`), and a read answers
+-- the scratchpad of the device (`read-answered`), which stands where it stood.
 use Prim.Native.Nat.{ℕ, _<_}
 use mathlib.Core.Bool.{true}
 use mathlib.Core.List.{List, [], _∷_, _++_}
@@ -44,12 +45,15 @@ done-code : (d : Device) (count : Sixteenths) → conversionDone d count .code �
 unfolding conversionDone
 done-code d count = refl
 
-done-pad : (d : Device) (count : Sixteenths) → conversionDone d count .scratchpad ≡ scratchpadAfter (rowOf (d .code) (d .pins)) count (d .scratchpad)
+done-pad : (d : Device) (count : Sixteenths)
+    → conversionDone d count .scratchpad ≡ scratchpadAfter (rowOf (d .code) (d .pins)) count (d .scratchpad)
 unfolding conversionDone
 done-pad d count = refl
 
-module _ (b : Bench) (code : ℕ) (count : Sixteenths) (s : BenchSound b) (unit : familyRow code .unit ≡ inHalfDegrees) (range : inRange (InSixteenths count) ≡ true)
-    (finished : Bench) (o : OneChanged b code (λ d. conversionDone d count) finished) (r : Readable finished) (f : free finished ≡ true) where
+module _ (b : Bench) (code : ℕ) (count : Sixteenths) (s : BenchSound b) (unit : familyRow code .unit
+    ≡ inHalfDegrees) (range : inRange (InSixteenths count) ≡ true)
+    (finished : Bench) (o : OneChanged b code (λ d. conversionDone d count) finished) (r : Readable finished)
+    (f : free finished ≡ true) where
   device : Device
   device = getD (live b) (o .place) vacant
 
@@ -63,10 +67,13 @@ module _ (b : Bench) (code : ℕ) (count : Sixteenths) (s : BenchSound b) (unit 
   at : placeOf finished code ≡ At (o .place)
   unfolding device
   at =
-      let c : getD (live finished) (o .place) vacant .code ≡ code = ap (λ d. d .code) stands ∙ done-code device count ∙ o .code-there in
-      subst (λ (k : ℕ). placeOf finished k ≡ At (o .place)) c (place-is finished (o .place) (r .sound .codes-distinct) within)
+      let c : getD (live finished) (o .place) vacant .code ≡ code =
+      ap (λ d. d .code) stands ∙ done-code device count ∙ o .code-there in
+      subst (λ (k : ℕ). placeOf finished k ≡ At (o .place)) c
+      (place-is finished (o .place) (r .sound .codes-distinct) within)
 
-  pad : deviceAt finished (o .place) .scratchpad ≡ scratchpadAfter (rowOf code (device .pins)) count (device .scratchpad)
+  pad : deviceAt finished (o .place) .scratchpad
+      ≡ scratchpadAfter (rowOf code (device .pins)) count (device .scratchpad)
   unfolding device
   pad =
       ap (λ d. d .scratchpad) (sym (device-live finished code (o .place) at) ∙ stands) ∙ done-pad device count
@@ -79,13 +86,16 @@ module _ (b : Bench) (code : ℕ) (count : Sixteenths) (s : BenchSound b) (unit 
   fine-there : readAt finished code .fine ≡ theCount count
   unfolding device rowOf
   fine-there =
-      ap (λ a. a .fine) (read-answered finished r code (o .place) f at) ∙ ap (fineIn (familyRow code)) pad ∙ after-fine (rowOf code (device .pins)) count (device .scratchpad) range eight unit
+      ap (λ a. a .fine) (read-answered finished r code (o .place) f at) ∙ ap (fineIn (familyRow code)) pad
+      ∙ after-fine (rowOf code (device .pins)) count (device .scratchpad) range eight unit
 
-fine-read : (b : Bench) (code : ℕ) (count : Sixteenths) → BenchSound b → familyRow code .unit ≡ inHalfDegrees → conversionFinished b code count .refusal ≡ accepted
+fine-read : (b : Bench) (code : ℕ) (count : Sixteenths) → BenchSound b → familyRow code .unit ≡ inHalfDegrees
+    → conversionFinished b code count .refusal ≡ accepted
     → Readable (conversionFinished b code count .bench) → free (conversionFinished b code count .bench) ≡ true
     → readAt (conversionFinished b code count .bench) code .fine ≡ theCount count
 fine-read b code count s unit =
-    conversion-cases b code (λ c. c .refusal ≡ accepted → Readable (c .bench) → free (c .bench) ≡ true → readAt (c .bench) code .fine ≡ theCount count)
+    conversion-cases b code (λ c. c .refusal ≡ accepted → Readable (c .bench) → free (c .bench) ≡ true
+    → readAt (c .bench) code .fine ≡ theCount count)
     (λ n refused e r f. absurd (refused e))
     count (λ range finished o e r f. fine-there b code count s unit range finished o r f)
 
@@ -97,5 +107,6 @@ after-more h c = ap (λ l. l .bench) (fold-append step start h (c ∷ []))
 pub fine-is-count : FineIsCount
 fine-is-count h code count t typed unit done f =
     let more = after-more h (finishConversion code count) in
-    let r = rw more at (readable-after (h ++ (finishConversion code count ∷ [])) (each-snoc Typed h (finishConversion code count) t typed)) in
+    let r = rw more at (readable-after (h ++ (finishConversion code count ∷ []))
+    (each-snoc Typed h (finishConversion code count) t typed)) in
     rw more (fine-read (after h) code count (bench-is-sound h t) unit done r (rw more at f))

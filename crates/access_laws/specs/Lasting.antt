@@ -1,4 +1,5 @@
--- What holds of every device that joins, which it does with pins that it can have, and what nothing that can happen to a device takes from it, holds of each device of the bench after every history: `lasts-after`.
+-- What holds of every device that joins, which it does with pins that it can have, and what nothing that can happen to
+-- a device takes from it, holds of each device of the bench after every history: `lasts-after`.
 use mathlib.Core.Bool.{Bool, false}
 use mathlib.Core.List.{List, [], _∷_}
 use mathlib.Core.Path.{_≡_}
@@ -17,11 +18,15 @@ use Rattle.bench.specs.declared.Bench.{Bench}
 use Rattle.bench.specs.Everywhere.{Invariant, heard-each, restarted-each, conversion-each, copy-each, cycle-each}
 use Rattle.bench.specs.Laws.{slot-cases, reset-cases, added-cases}
 use Rattle.bench.specs.Sound.{BenchSound}
-use Rattle.bench.specs.SoundLaws.{empty-sound, slotted-sound, reset-done-sound, added-sound, conversion-finished-sound, copy-finished-sound, power-cycled-sound}
-use Rattle.history_laws.specs.History.{Call, add, reset, slot, finishConversion, finishCopy, powerCycle, search, searchAlarms, read, write, readPins, Typed, apply, Ledger, step, start, ledger, after}
+use Rattle.bench.specs.SoundLaws.{empty-sound, slotted-sound, reset-done-sound, added-sound, conversion-finished-sound}
+use Rattle.bench.specs.SoundLaws.{copy-finished-sound, power-cycled-sound}
+use Rattle.history_laws.specs.History.{Call, add, reset, slot, finishConversion, finishCopy, powerCycle, search}
+use Rattle.history_laws.specs.History.{searchAlarms, read, write, readPins, Typed, apply, Ledger, step, start, ledger}
+use Rattle.history_laws.specs.History.{after}
 use Rattle.history_laws.specs.Kept.{read-keeps, write-keeps, outcome-keeps, pins-keep}
 
-module _ (P : Device → Type 0) (I : Invariant P) (joins : (new : Joining) → Typed (add new) → pinsWrong (familyRow (new .code)) (new .pins) ≡ false → P (joined new)) where
+module _ (P : Device → Type 0) (I : Invariant P) (joins : (new : Joining) → Typed (add new)
+    → pinsWrong (familyRow (new .code)) (new .pins) ≡ false → P (joined new)) where
   record Lasts (b : Bench) : Type 0 where
     pub sound : BenchSound b
     pub each : Each P (live b)
@@ -29,7 +34,8 @@ module _ (P : Device → Type 0) (I : Invariant P) (joins : (new : Joining) → 
   by-slot : (m : Bool) (b : Bench) → Lasts b → Lasts (slotted b m .bench)
   by-slot m b r = record {
     sound = slotted-sound b m (r .sound);
-    each = slot-cases b m (λ s. Each P (live (s .bench))) (λ f. heard-each P I b (r .each) (lineBit b m)) (λ f. r .each);
+    each = slot-cases b m (λ s. Each P (live (s .bench))) (λ f. heard-each P I b (r .each) (lineBit b m))
+        (λ f. r .each);
   }
 
   by-reset : (b : Bench) → Lasts b → Lasts (resetDone b .bench)
@@ -47,9 +53,18 @@ module _ (P : Device → Type 0) (I : Invariant P) (joins : (new : Joining) → 
   }
   by-call b reset t r = by-reset b r
   by-call b (slot m) t r = by-slot m b r
-  by-call b (finishConversion code n) t r = record { sound = conversion-finished-sound b code n (r .sound); each = conversion-each P I b (r .each) code n }
-  by-call b (finishCopy code) t r = record { sound = copy-finished-sound b code (r .sound); each = copy-each P I b (r .each) code }
-  by-call b (powerCycle code) t r = record { sound = power-cycled-sound b code (r .sound); each = cycle-each P I b (r .each) code }
+  by-call b (finishConversion code n) t r = record {
+    sound = conversion-finished-sound b code n (r .sound);
+    each = conversion-each P I b (r .each) code n;
+  }
+  by-call b (finishCopy code) t r = record {
+    sound = copy-finished-sound b code (r .sound);
+    each = copy-each P I b (r .each) code;
+  }
+  by-call b (powerCycle code) t r = record {
+    sound = power-cycled-sound b code (r .sound);
+    each = cycle-each P I b (r .each) code;
+  }
   by-call b (search places room) t r = outcome-keeps Lasts by-slot by-reset searchRom b places room r
   by-call b (searchAlarms places room) t r = outcome-keeps Lasts by-slot by-reset alarmSearch b places room r
   by-call b (read code) t r = read-keeps Lasts by-slot by-reset code b r

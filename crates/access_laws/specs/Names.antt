@@ -1,6 +1,7 @@
--- What the recording of a search is named when it is read back (the scope, "The master" and "Frames"): after every history, line by line, the bytes that a search has
--- written are named SEARCH with the codes listed, in their order, those of an alarm search ALARM with theirs; NOBODY where nobody is listed though there are devices, and
--- EMPTY where there is no device.
+-- What the recording of a search is named when it is read back (the scope, "The master" and "Frames"): after every
+-- history, line by line, the bytes that a search has written are named SEARCH with the codes listed, in their order,
+-- those of an alarm search ALARM with theirs; NOBODY where nobody is listed though there are devices, and EMPTY where
+-- there is no device.
 --     namesOf name n k             the names: n the codes on the bench, k those listed
 --     recorded recording o         the bytes of the recording that the search has written: as many as it tells
 --     NamesClaim                   the claim, for every history, with the premises of demand 3
@@ -41,5 +42,6 @@ pub record RecordingNamed (h : List Call) (places : ℕ) (recording : List ℕ) 
 
 abbrev pub NamesClaim : Type 0
 NamesClaim =
-    (h : List Call) → Each Typed h → free (after h) ≡ true → (places : ℕ) (recording : List ℕ) → fewestPlaces ≤ places → fewestBytes ≤ length recording
+    (h : List Call) → Each Typed h → free (after h) ≡ true → (places : ℕ) (recording : List ℕ) → fewestPlaces ≤ places
+    → fewestBytes ≤ length recording
     → RecordingNamed h places recording

@@ -1,5 +1,6 @@
--- The recording of a search, read back, names what was listed: `recording-named`. A pass shows its command and then allowed triples, whose sent bits are the code
--- (`PassShown`); those are the slots that the naming reads; and the lines of a recording are read as the frames that were written (`read-back`).
+-- The recording of a search, read back, names what was listed: `recording-named`. A pass shows its command and then
+-- allowed triples, whose sent bits are the code (`PassShown`); those are the slots that the naming reads; and the lines
+-- of a recording are read as the frames that were written (`read-back`).
 --     Fits c     the bits of a sound code
 use Prim.Native.Nat.{ℕ, suc, _*_, _^_, _<_, _≤_}
 use mathlib.Core.Bool.{Bool, true, false}
@@ -37,7 +38,8 @@ use Rattle.bench.specs.declared.Bench.{Bench}
 use Rattle.master_rules.specs.OnTheBench as bench
 use Rattle.master_rules.specs.OnTheBench.{flaggedCodes}
 use Rattle.bench.specs.Slot.{resetDone}
-use Rattle.master_rules.specs.Search.{fewestPlaces, fewestBytes, mostPasses, frameOf, foundOutcome, searchRun, searchOutcome, Outcome}
+use Rattle.master_rules.specs.Search.{fewestPlaces, fewestBytes, mostPasses, frameOf, foundOutcome, searchRun}
+use Rattle.master_rules.specs.Search.{searchOutcome, Outcome}
 use Rattle.history_laws.specs.History.{after, added}
 use Rattle.history_laws.specs.Demand.{alarms}
 use Rattle.history_laws.specs.Corollaries.{bench-is-sound, codes-are-added}
@@ -83,11 +85,14 @@ shown-allowed (t ∷ ts) h = rw (same-triples (t .bit) (t .coBit) (t .sent) (h .
 
 -- ## One pass
 
-module _ (command : ℕ) (name : Name) (reads : (code : ℕ) (ss : List Bool) → PassListing code ss → (f : Frame) → Recorded (bitsOf 8 command ++ ss) f → named f ≡ listsCode name code) where
-  pass-named : (c : Code) (l : List Bool) → Fits c → PassShown (bitsOf 8 command) c l → named (frameOf l) ≡ listsCode name (numberOf c)
+module _ (command : ℕ) (name : Name) (reads : (code : ℕ) (ss : List Bool) → PassListing code ss → (f : Frame)
+    → Recorded (bitsOf 8 command ++ ss) f → named f ≡ listsCode name code) where
+  pass-named : (c : Code) (l : List Bool) → Fits c → PassShown (bitsOf 8 command) c l
+      → named (frameOf l) ≡ listsCode name (numberOf c)
   pass-named c l h p =
       let ts = p .triples in
-      let n : length (triplesShown ts) ≡ 192 = shown-length ts ∙ ap (λ (d : Code). 3 * length d) (p .code-is) ∙ ap (λ (k : ℕ). 3 * k) (h .long) in
+      let n : length (triplesShown ts) ≡ 192 =
+      shown-length ts ∙ ap (λ (d : Code). 3 * length d) (p .code-is) ∙ ap (λ (k : ℕ). 3 * k) (h .long) in
       let eight = bits-length 8 command in
       let few : length (bitsOf 8 command ++ triplesShown ts) ≤ 512 = simp length-append (omega arith) in
       let listing : PassListing (numberOf c) (triplesShown ts) = record {
@@ -97,7 +102,9 @@ module _ (command : ℕ) (name : Name) (reads : (code : ℕ) (ss : List Bool) �
         small = h .small;
         sound = h .sound-is;
       } in
-      ap (λ (m : List Bool). named (frameOf m)) (p .lines-are) ∙ reads (numberOf c) (triplesShown ts) listing (frameOf (bitsOf 8 command ++ triplesShown ts)) (recorded-all (bitsOf 8 command ++ triplesShown ts) few)
+      ap (λ (m : List Bool). named (frameOf m)) (p .lines-are)
+      ∙ reads (numberOf c) (triplesShown ts) listing (frameOf (bitsOf 8 command ++ triplesShown ts))
+      (recorded-all (bitsOf 8 command ++ triplesShown ts) few)
 
   passes-named : (cs : List Code) (ls : List (List Bool)) → Each Fits cs → Along (PassShown (bitsOf 8 command)) cs ls
       → map named (map frameOf ls) ≡ map (listsCode name) (map numberOf cs)
@@ -111,7 +118,8 @@ module _ (command : ℕ) (name : Name) (reads : (code : ℕ) (ss : List Bool) �
 frame-writable : (l : List Bool) → length l ≤ mostSlots → (fs : List Frame) → Writable fs → Writable (frameOf l ∷ fs)
 frame-writable l h fs w = let r = recorded-all l h in one (r .held) (r .carried) w
 
-frames-writable : (n : ℕ) (ls : List (List Bool)) → Each (λ l. length l ≡ n) ls → n ≤ mostSlots → Writable (map frameOf ls)
+frames-writable : (n : ℕ) (ls : List (List Bool)) → Each (λ l. length l ≡ n) ls → n ≤ mostSlots
+    → Writable (map frameOf ls)
 frames-writable n [] h k = none
 frames-writable n (l ∷ ls) h k = frame-writable l (rw (h .0) k) (map frameOf ls) (frames-writable n ls (h .1) k)
 
@@ -124,10 +132,12 @@ lines-named [] = refl
 lines-named (l ∷ ls) = let i = lines-named ls in rw i
 
 -- what a search has written is named as its frames are
-recorded-named : (recording : List ℕ) (o : Outcome) → Writable (o .frames) → map lineNamed (linesOf (recorded recording o)) ≡ map named (o .frames)
+recorded-named : (recording : List ℕ) (o : Outcome) → Writable (o .frames)
+    → map lineNamed (linesOf (recorded recording o)) ≡ map named (o .frames)
 recorded-named recording o w =
     let s : recorded recording o ≡ writeAll (o .frames) = laid-read recording 0 (writeAll (o .frames)) (omega arith) in
-    ap (λ x. map lineNamed (linesOf x)) s ∙ lines-named (linesOf (writeAll (o .frames))) ∙ ap (map readNamed) (read-back w) ∙ named-each (o .frames)
+    ap (λ x. map lineNamed (linesOf x)) s ∙ lines-named (linesOf (writeAll (o .frames)))
+    ∙ ap (map readNamed) (read-back w) ∙ named-each (o .frames)
 
 -- ## A whole search
 
@@ -151,24 +161,34 @@ record Reads (name : Name) (everybody : List ℕ) (o : Outcome) : Type 0 where
 
 -- nobody on the bench
 lonely-reads : (name : Name) (o : Outcome) → o .frames ≡ blankFrame false ∷ [] → Reads name [] o
-lonely-reads name o e = record { writable = rw e (one (blank-held false) (blank-lineable false) none); names-are = rw (e, empty-named) }
+lonely-reads name o e = record {
+  writable = rw e (one (blank-held false) (blank-lineable false) none);
+  names-are = rw (e, empty-named);
+}
 
 -- a search that lists codes, by what is known of its run
 module _ (command : ℕ) (name : Name)
-    (reads : (code : ℕ) (ss : List Bool) → PassListing code ss → (f : Frame) → Recorded (bitsOf 8 command ++ ss) f → named f ≡ listsCode name code)
-    (b : Bench) (r : SearchBy Bench) (same : searchRun command b ≡ r) (ns : List ℕ) (fits : Each Fits (map (bitsOf 64) ns))
+    (reads : (code : ℕ) (ss : List Bool) → PassListing code ss → (f : Frame) → Recorded (bitsOf 8 command ++ ss) f
+    → named f ≡ listsCode name code)
+    (b : Bench) (r : SearchBy Bench) (same : searchRun command b
+    ≡ r) (ns : List ℕ) (fits : Each Fits (map (bitsOf 64) ns))
     (complete : Complete slotRule (bitsOf 8 command) 64 (map (bitsOf 64) ns) b r)
   where
     wide : Each (λ l. length l ≡ 200) (r .lines)
     wide = rw (bits-length 8 command) at (complete .slots-are)
 
     frames-named : map named (map frameOf (r .lines)) ≡ map (listsCode name) (map numberOf (r .codes))
-    frames-named = passes-named command name reads (r .codes) (r .lines) (each-perm Fits (complete .all-listed) fits) (complete .frames)
+    frames-named = passes-named command name reads (r .codes) (r .lines) (each-perm Fits (complete .all-listed) fits)
+        (complete .frames)
 
     -- somebody is listed
-    listed-reads : (n : ℕ) (everybody : List ℕ) → 0 < length ns → Reads name (n ∷ everybody) (foundOutcome (searchRun command b))
+    listed-reads : (n : ℕ) (everybody : List ℕ) → 0 < length ns
+        → Reads name (n ∷ everybody) (foundOutcome (searchRun command b))
     listed-reads n everybody h =
-        rw same record { writable = frames-writable 200 (r .lines) wide (lit≤ tt); names-are = frames-named ∙ by-listed (map numberOf (r .codes)) some }
+        rw same record {
+          writable = frames-writable 200 (r .lines) wide (lit≤ tt);
+          names-are = frames-named ∙ by-listed (map numberOf (r .codes)) some;
+        }
       where
         some : 0 < length (map numberOf (r .codes))
         some =
@@ -183,7 +203,8 @@ module _ (command : ℕ) (name : Name)
 
 -- ## After every history
 
-module _ (b : Bench) (s : BenchSound b) (f : free b ≡ true) (l : Below 64 (codesOf b)) (places room : ℕ) (p : fewestPlaces ≤ places) (q : fewestBytes ≤ room) where
+module _ (b : Bench) (s : BenchSound b) (f : free b
+    ≡ true) (l : Below 64 (codesOf b)) (places room : ℕ) (p : fewestPlaces ≤ places) (q : fewestBytes ≤ room) where
   few-codes : length (codesOf b) ≤ mostPasses
   few-codes = rw (codes-count b (s .places) (s .few)) (s .few)
 
@@ -200,14 +221,24 @@ module _ (b : Bench) (s : BenchSound b) (f : free b ≡ true) (l : Below 64 (cod
   search-reads (n ∷ ns) e =
       let some : 0 < length (codesOf b) = rw e (omega arith) in
       rw (passes-made searchRom b places room p q f (there n ns e))
-      (listed-reads searchRom Search search-named b (bench.searchOn mostPasses b) (bench.search-calls mostPasses b f) (codesOf b)
-      (each-fits (codesOf b) l (s .codes-sound)) (bench.search-complete mostPasses b l (s .codes-distinct) some few-codes) n ns some)
+      (listed-reads searchRom Search search-named b (bench.searchOn mostPasses b) (bench.search-calls mostPasses b f)
+      (codesOf b)
+      (each-fits (codesOf b) l (s .codes-sound))
+      (bench.search-complete mostPasses b l (s .codes-distinct) some few-codes) n ns some)
 
-  alarm-reads : (ns ks : List ℕ) → codesOf b ≡ ns → flaggedCodes b ≡ ks → Reads Alarm ns (searchOutcome alarmSearch b places room)
+  alarm-reads : (ns ks : List ℕ) → codesOf b ≡ ns → flaggedCodes b ≡ ks
+      → Reads Alarm ns (searchOutcome alarmSearch b places room)
   alarm-reads [] ks e k = rw (nobody-there alarmSearch b places room p q f (absent e)) (lonely-reads Alarm _ refl)
   alarm-reads (n ∷ ns) [] e k =
-      rw (passes-made alarmSearch b places room p q f (there n ns e), bench.alarm-calls mostPasses b f, bench.alarm-none 31 b k)
-      record { writable = frame-writable unheardBits ten [] none; names-are = rw (nobody-named (frameOf unheardBits) (recorded-all unheardBits ten)) }
+      rw (
+        passes-made alarmSearch b places room p q f (there n ns e),
+        bench.alarm-calls mostPasses b f,
+        bench.alarm-none 31 b k,
+      )
+      record {
+        writable = frame-writable unheardBits ten [] none;
+        names-are = rw (nobody-named (frameOf unheardBits) (recorded-all unheardBits ten));
+      }
     where
       unheardBits : List Bool
       unheardBits = bitsOf 8 alarmSearch ++ (true ∷ true ∷ [])
@@ -220,8 +251,10 @@ module _ (b : Bench) (s : BenchSound b) (f : free b ≡ true) (l : Below 64 (cod
       let most = few-codes in
       let room-left : length (flaggedCodes b) ≤ mostPasses = omega arith in
       rw (passes-made alarmSearch b places room p q f (there n ns e))
-      (listed-reads alarmSearch Alarm alarm-named b (bench.alarmSearchOn mostPasses b) (bench.alarm-calls mostPasses b f) (flaggedCodes b)
-      (each-fits (flaggedCodes b) (bench.flagged-below b l) (bench.some-each (λ c. sound c ≡ true) (λ d. d .alarm) (live b) (s .codes-sound)))
+      (listed-reads alarmSearch Alarm alarm-named b (bench.alarmSearchOn mostPasses b)
+      (bench.alarm-calls mostPasses b f) (flaggedCodes b)
+      (each-fits (flaggedCodes b) (bench.flagged-below b l)
+      (bench.some-each (λ c. sound c ≡ true) (λ d. d .alarm) (live b) (s .codes-sound)))
       (bench.alarm-complete mostPasses b l (s .codes-distinct) some room-left) n ns some)
 
 pub recording-named : NamesClaim
@@ -230,8 +263,11 @@ recording-named h t f places recording p q =
     let l = codes-fit h t in
     let are = codes-are-added h t in
     let searched = search-reads (after h) s f l places (length recording) p q (added h) are in
-    let alarmed = alarm-reads (after h) s f l places (length recording) p q (added h) (alarms h) are (flagged-are-alarms h t) in
+    let alarmed = alarm-reads (after h) s f l places (length recording) p q (added h) (alarms h) are
+    (flagged-are-alarms h t) in
     record {
-      search = recorded-named recording (searchOutcome searchRom (after h) places (length recording)) (searched .writable) ∙ searched .names-are;
-      alarm-search = recorded-named recording (searchOutcome alarmSearch (after h) places (length recording)) (alarmed .writable) ∙ alarmed .names-are;
+      search = recorded-named recording (searchOutcome searchRom (after h) places (length recording))
+          (searched .writable) ∙ searched .names-are;
+      alarm-search = recorded-named recording (searchOutcome alarmSearch (after h) places (length recording))
+          (alarmed .writable) ∙ alarmed .names-are;
     }

@@ -1,6 +1,7 @@
--- Which device a read at a code picks: after 55h, the code and BEh the device with the code is about to send the first bit of its scratchpad, which is as it was, and
--- every other one is quiet. The matching device agrees with each bit of the code; any other differs from it in one of the 64, since different numbers below 2^64 have
--- different bits, and is quiet from there on.
+-- Which device a read at a code picks: after 55h, the code and BEh the device with the code is about to send the first
+-- bit of its scratchpad, which is as it was, and every other one is quiet. The matching device agrees with each bit of
+-- the code; any other differs from it in one of the 64, since different numbers below 2^64 have different bits, and is
+-- quiet from there on.
 --     picked code d     d about to send its scratchpad, if it has the code, and quiet if not
 --     read-picks        so a reset, 55h, the code and BEh leave every device
 use Prim.Native.Nat.{ℕ, zero, suc, _+_, _/_, _^_, _<_}
@@ -44,11 +45,13 @@ pub half-then : (x i : ℕ) → x / 2 ^ i / 2 ≡ x / 2 ^ suc i
 half-then x i = div-div-eq-div-mul x (2 ^ i) 2 ∙ ap (λ (k : ℕ). x / k) (sym (pow-suc 2 i))
 
 -- a device at bit i goes on where it agrees with the line, and is quiet where it does not
-bit-agrees : (i : ℕ) → i < 64 → (x : Bool) (d : Device) → Bool·beq (bitAt (d .code) i) x ≡ true → hearOf (withStage d (Match i)) x ≡ withStage d (matchStage (suc i))
+bit-agrees : (i : ℕ) → i < 64 → (x : Bool) (d : Device) → Bool·beq (bitAt (d .code) i) x ≡ true
+    → hearOf (withStage d (Match i)) x ≡ withStage d (matchStage (suc i))
 unfolding hearOf
 bit-agrees i h x d e = rw (e, next-bit i h)
 
-bit-differs : (i : ℕ) (x : Bool) (d : Device) → Bool·beq (bitAt (d .code) i) x ≡ false → hearOf (withStage d (Match i)) x ≡ withStage d Quiet
+bit-differs : (i : ℕ) (x : Bool) (d : Device) → Bool·beq (bitAt (d .code) i) x ≡ false
+    → hearOf (withStage d (Match i)) x ≡ withStage d Quiet
 unfolding hearOf
 bit-differs i x d e = rw e
 
@@ -56,7 +59,8 @@ bit-differs i x d e = rw e
 
 module _ (d : Device) where
   -- the device with the code
-  own-hears : (m i : ℕ) → i + m ≡ 64 → Hears (λ e. e ≡ withStage d awaitFunction) (bitsOf m (d .code / 2 ^ i)) (withStage d (matchStage i))
+  own-hears : (m i : ℕ) → i + m ≡ 64 → Hears (λ e. e
+      ≡ withStage d awaitFunction) (bitsOf m (d .code / 2 ^ i)) (withStage d (matchStage i))
   unfolding bitsOf
   own-hears zero i e = let z : i ≡ 64 = omega arith in rw z
   own-hears (suc m) i e =
@@ -73,25 +77,61 @@ module _ (d : Device) where
   other-hears code zero i e n = absurd (n refl)
   other-hears code (suc m) i e n =
       let l : i < 64 = omega arith in
-      rw (lt-ltb i 64 l) (calm (bitAt code i) (withStage d (Match i)) (Match i) refl refl, refl, by-test (Bool·beq (bitAt (d .code) i) (bitAt code i)) refl l (other-hears code m (suc i) (omega arith)))
+      rw (lt-ltb i 64 l) (
+        calm (bitAt code i) (withStage d (Match i)) (Match i) refl refl,
+        refl,
+        by-test (Bool·beq (bitAt (d .code) i) (bitAt code i)) refl l (other-hears code m (suc i) (omega arith)),
+      )
     where
       by-test : (t : Bool) → Bool·beq (bitAt (d .code) i) (bitAt code i) ≡ t → i < 64
-          → (bitsOf m (d .code / 2 ^ suc i) ≢ bitsOf m (code / 2 ^ suc i) → Hears (λ e. e ≡ withStage d Quiet) (bitsOf m (code / 2 ^ suc i)) (withStage d (matchStage (suc i))))
-          → Hears (λ e. e ≡ withStage d Quiet) (bitsOf m (code / 2 ^ i / 2)) (hearOf (withStage d (Match i)) (bitAt code i))
+          → (bitsOf m (d .code / 2 ^ suc i) ≢ bitsOf m (code / 2 ^ suc i)
+          → Hears (λ e. e ≡ withStage d Quiet) (bitsOf m (code / 2 ^ suc i)) (withStage d (matchStage (suc i))))
+          → Hears (λ e. e ≡ withStage d Quiet) (bitsOf m (code / 2 ^ i / 2))
+          (hearOf (withStage d (Match i)) (bitAt code i))
       by-test true f l later =
           rw (half-then code i, bit-agrees i l (bitAt code i) d f)
-          (later (λ g. n (rw (beq-is (bitAt (d .code) i) (bitAt code i) f, half-then (d .code) i, half-then code i, g))))
-      by-test false f l later = rw (bit-differs i (bitAt code i) d f) (quiet-hears (λ e. e ≡ withStage d Quiet) (bitsOf m (code / 2 ^ i / 2)) (withStage d Quiet) refl refl)
+          (later (λ g. n (rw (
+            beq-is (bitAt (d .code) i) (bitAt code i) f,
+            half-then (d .code) i,
+            half-then code i,
+            g,
+          ))))
+      by-test false f l later = rw (bit-differs i (bitAt code i) d f)
+          (quiet-hears (λ e. e ≡ withStage d Quiet) (bitsOf m (code / 2 ^ i / 2)) (withStage d Quiet) refl refl)
 
   -- ## The commands
 
   rom-heard : Hears (λ e. e ≡ withStage d (matchStage 0)) (bitsOf 8 matchRom) (resetOf d)
   unfolding bitsOf hearOf
-  rom-heard = ((refl, refl, (refl, refl, (refl, refl, (refl, refl, (refl, refl, (refl, refl, (refl, refl, (refl, refl, refl)))))))))
+  rom-heard = ((
+    refl,
+    refl,
+    (
+      refl,
+      refl,
+      (
+        refl,
+        refl,
+        (refl, refl, (refl, refl, (refl, refl, (refl, refl, (refl, refl, refl))))),
+      ),
+    ),
+  ))
 
   read-taken : Hears (λ e. e ≡ withStage d (SendScratchpad 0 0)) (bitsOf 8 readScratchpad) (withStage d awaitFunction)
   unfolding bitsOf hearOf functionCommand
-  read-taken = ((refl, refl, (refl, refl, (refl, refl, (refl, refl, (refl, refl, (refl, refl, (refl, refl, (refl, refl, refl)))))))))
+  read-taken = ((
+    refl,
+    refl,
+    (
+      refl,
+      refl,
+      (
+        refl,
+        refl,
+        (refl, refl, (refl, refl, (refl, refl, (refl, refl, (refl, refl, refl))))),
+      ),
+    ),
+  ))
 
 -- ## All of it
 
@@ -103,26 +143,35 @@ then-hears : (E F : Device → Type 0) (code : ℕ) (d : Device) → Hears E (co
     → ((e : Device) → E e → Hears F (bitsOf 8 readScratchpad) e) → Hears F (addressBits code readScratchpad) (resetOf d)
 then-hears E F code d h go =
     hears-append F (bitsOf 8 matchRom) (codeBits code ++ bitsOf 8 readScratchpad) (resetOf d)
-    (hears-then (λ e. e ≡ withStage d (matchStage 0)) (Hears F (codeBits code ++ bitsOf 8 readScratchpad)) code-then (bitsOf 8 matchRom) (resetOf d) (rom-heard d))
+    (hears-then (λ e. e ≡ withStage d (matchStage 0)) (Hears F (codeBits code ++ bitsOf 8 readScratchpad)) code-then
+    (bitsOf 8 matchRom) (resetOf d) (rom-heard d))
   where
     code-then : (e : Device) → e ≡ withStage d (matchStage 0) → Hears F (codeBits code ++ bitsOf 8 readScratchpad) e
-    code-then e q = rw q (hears-append F (codeBits code) (bitsOf 8 readScratchpad) (withStage d (matchStage 0)) (hears-then E (Hears F (bitsOf 8 readScratchpad)) go (codeBits code) (withStage d (matchStage 0)) h))
+    code-then e q = rw q (hears-append F (codeBits code) (bitsOf 8 readScratchpad) (withStage d (matchStage 0))
+        (hears-then E (Hears F (bitsOf 8 readScratchpad)) go (codeBits code) (withStage d (matchStage 0)) h))
 
-pub read-picks : (code : ℕ) (d : Device) → code < 2 ^ 64 → d .code < 2 ^ 64 → Hears (λ e. e ≡ picked code d) (addressBits code readScratchpad) (resetOf d)
+pub read-picks : (code : ℕ) (d : Device) → code < 2 ^ 64 → d .code < 2 ^ 64
+    → Hears (λ e. e ≡ picked code d) (addressBits code readScratchpad) (resetOf d)
 read-picks code d a b = by-test (eqb (d .code) code) refl
   where
-    own : d .code ≡ code → Hears (λ e. e ≡ withStage d (SendScratchpad 0 0)) (addressBits code readScratchpad) (resetOf d)
+    own : d .code ≡ code → Hears (λ e. e ≡ withStage d (SendScratchpad 0 0)) (addressBits code readScratchpad)
+        (resetOf d)
     own f =
-        let c : Hears (λ e. e ≡ withStage d awaitFunction) (codeBits code) (withStage d (matchStage 0)) = rw (← f) (rw (whole (d .code)) at (own-hears d 64 0 refl)) in
-        then-hears (λ e. e ≡ withStage d awaitFunction) (λ e. e ≡ withStage d (SendScratchpad 0 0)) code d c (λ e q. rw q (read-taken d))
+        let c : Hears (λ e. e ≡ withStage d awaitFunction) (codeBits code) (withStage d (matchStage 0)) =
+        rw (← f) (rw (whole (d .code)) at (own-hears d 64 0 refl)) in
+        then-hears (λ e. e ≡ withStage d awaitFunction) (λ e. e
+        ≡ withStage d (SendScratchpad 0 0)) code d c (λ e q. rw q (read-taken d))
 
     other : d .code ≢ code → Hears (λ e. e ≡ withStage d Quiet) (addressBits code readScratchpad) (resetOf d)
     other n =
         let c : Hears (λ e. e ≡ withStage d Quiet) (codeBits code) (withStage d (matchStage 0)) =
-        rw (whole code) at (other-hears d code 64 0 refl (λ e. bits-differ 64 (d .code) code b a n (rw (whole (d .code), whole code) at e))) in
+        rw (whole code) at (other-hears d code 64 0 refl
+        (λ e. bits-differ 64 (d .code) code b a n (rw (whole (d .code), whole code) at e))) in
         then-hears (λ e. e ≡ withStage d Quiet) (λ e. e ≡ withStage d Quiet) code d c (λ e q.
         rw q (quiet-hears (λ e. e ≡ withStage d Quiet) (bitsOf 8 readScratchpad) (withStage d Quiet) refl refl))
 
-    by-test : (t : Bool) → eqb (d .code) code ≡ t → Hears (λ e. e ≡ withStage d (if t then SendScratchpad 0 0 else Quiet)) (addressBits code readScratchpad) (resetOf d)
+    by-test : (t : Bool) → eqb (d .code) code ≡ t
+        → Hears (λ e. e ≡ withStage d (if t then SendScratchpad 0 0 else Quiet)) (addressBits code readScratchpad)
+        (resetOf d)
     by-test true e = own (eqb-true (d .code) code e)
     by-test false e = other (eqb-false (d .code) code e)

@@ -1,5 +1,7 @@
--- The answers of reads. A bench that calls reach is sound, and its devices hold bytes (`Readable`): so a read at the code of a device shows its scratchpad with a right
--- CRC, not all zeros, a configuration in stored form, a reading in range and counts to believe, which the judgement accepts; and a read at any other code shows ones, which it refuses with 5.
+-- The answers of reads. A bench that calls reach is sound, and its devices hold bytes (`Readable`): so a read at the
+-- code of a device shows its scratchpad with a right CRC, not all zeros, a configuration in stored form, a reading in
+-- range and counts to believe, which the judgement accepts; and a read at any other code shows ones, which it refuses
+-- with 5.
 use Prim.Native.Nat.{ℕ, _<_}
 use mathlib.Core.Bool.{Bool, true, false, not, _||_, false≢true}
 use mathlib.Core.List.{List, [], _∷_}
@@ -49,7 +51,8 @@ use Rattle.access_laws.specs.Bytewise.{Bytewise, Readable, readable-afte
 -- ## A read that is admitted, where somebody shows presence
 
 read-judged : (b : Bench) (code : ℕ) → admission b code ≡ accepted → presenceOf b ≡ true
-    → readAt b code ≡ judgedReply (shownAt b code) (afterSlots 72 (addressed code readScratchpad (restarted b))) (judged (familyOf code) (shownAt b code))
+    → readAt b code ≡ judgedReply (shownAt b code) (afterSlots 72 (addressed code readScratchpad (restarted b)))
+    (judged (familyOf code) (shownAt b code))
 unfolding readAt readBack fetched
 read-judged b code h there = rw (h, reset-accepted b (admitted-free b code h), there)
 
@@ -60,7 +63,8 @@ ones-judged family = refl
 pub absent-refused : AbsentRefused
 absent-refused b code fits fit h there nowhere =
     ap (λ r. r .refusal) (read-judged b code h there)
-    ∙ ap (λ (nine : List ℕ). judgedReply nine (afterSlots 72 (addressed code readScratchpad (restarted b))) (judged (familyOf code) nine) .refusal)
+    ∙ ap (λ (nine : List ℕ). judgedReply nine (afterSlots 72 (addressed code readScratchpad (restarted b)))
+    (judged (familyOf code) nine) .refusal)
     (shows-ones b code fits fit (admitted-free b code h) nowhere)
     ∙ rw (ones-judged (familyOf code))
 
@@ -72,7 +76,8 @@ module _ (row : Properties) (pad : List ℕ) (s : PadSound row pad) where
 
   nine-crc-right : crcRight (nineBytes pad) ≡ true
   nine-crc-right =
-      rw (nine-crc pad 8 (s .eight) refl, take-at pad (crcOf pad ∷ []) 8 (s .eight)) (eq-eqb (crcOf pad) (crcOf pad) refl)
+      rw (nine-crc pad 8 (s .eight) refl, take-at pad (crcOf pad ∷ []) 8 (s .eight))
+      (eq-eqb (crcOf pad) (crcOf pad) refl)
 
   nine-not-zero : getD pad 7 0 ≢ 0 → allZeros (nineBytes pad) ≡ false
   nine-not-zero n = by-test (allZeros (nineBytes pad)) refl
@@ -83,14 +88,31 @@ module _ (row : Properties) (pad : List ℕ) (s : PadSound row pad) where
           absurd (n (sym (nine-at 7 (lit< tt)) ∙ eqb-true _ 0 (all-at (λ b. eqb b 0) (nineBytes pad) 0 7 l e)))
       by-test false e = refl
 
-nine-judged : (family pins : ℕ) (pad : List ℕ) → propertiesOf family .known ≡ true → PadSound (withPins (propertiesOf family) pins) pad → getD pad 7 0 ≢ 0
-    → judged family (nineBytes pad) ≡ record { refusal = accepted; reading = readingIn (propertiesOf family) pad; fine = fineIn (propertiesOf family) pad }
+nine-judged : (family pins : ℕ) (pad : List ℕ) → propertiesOf family .known ≡ true
+    → PadSound (withPins (propertiesOf family) pins) pad → getD pad 7 0 ≢ 0
+    → judged family (nineBytes pad) ≡ record {
+      refusal = accepted;
+      reading = readingIn (propertiesOf family) pad;
+      fine = fineIn (propertiesOf family) pad;
+    }
 unfolding judged
 nine-judged family pins pad known s n =
     let row = propertiesOf family in
     let own = withPins row pins in
     let at : (k : ℕ) → k < 8 → getD (nineBytes pad) k 0 ≡ getD pad k 0 = nine-at own pad s in
-    rw (nine-crc-right own pad s, nine-not-zero own pad s n, known, at 0 (lit< tt), at 1 (lit< tt), at 4 (lit< tt), at 6 (lit< tt), at 7 (lit< tt), kept-in-form row pins (getD pad 4 0) (s .as-kept), raw-range row pad (s .in-range), s .counts-believed)
+    rw (
+      nine-crc-right own pad s,
+      nine-not-zero own pad s n,
+      known,
+      at 0 (lit< tt),
+      at 1 (lit< tt),
+      at 4 (lit< tt),
+      at 6 (lit< tt),
+      at 7 (lit< tt),
+      kept-in-form row pins (getD pad 4 0) (s .as-kept),
+      raw-range row pad (s .in-range),
+      s .counts-believed,
+    )
 
 -- ## A device of a readable bench
 
@@ -147,7 +169,8 @@ module _ (b : Bench) (r : Readable b) (code i : ℕ) (f : free b ≡ true) (at :
 
   shown-is : shownAt b code ≡ nineBytes (deviceAt b i .scratchpad)
   shown-is =
-      shows-scratchpad b code i (r .codes-fit) (r .sound .codes-distinct) f at (pad-sound .eight) (bytewise .stored .pad-bytes)
+      shows-scratchpad b code i (r .codes-fit) (r .sound .codes-distinct) f at (pad-sound .eight)
+      (bytewise .stored .pad-bytes)
 
   -- the answer, with the bench after its slots
   abbrev pub answered : Bench → Access
@@ -163,7 +186,11 @@ module _ (b : Bench) (r : Readable b) (code i : ℕ) (f : free b ≡ true) (at :
   unfolding rowOf
   read-is =
       read-judged b code admitted present
-      ∙ rw (shown-is, nine-judged (familyOf code) (deviceAt b i .pins) (deviceAt b i .scratchpad) (sound-known code code-sound) pad-sound seventh-is)
+      ∙ rw (
+        shown-is,
+        nine-judged (familyOf code) (deviceAt b i .pins) (deviceAt b i .scratchpad)
+            (sound-known code code-sound) pad-sound seventh-is,
+      )
 
   bench-is : readAt b code .bench ≡ issued (readBits code ∷ []) b .bench
   bench-is = rw present at (read-unrefused b code admitted .bench-is)

@@ -1,5 +1,6 @@
--- The nine bytes of a reply, slot by slot: where in each read slot the line is the next bit of nine bytes, whatever the slots before have shown, the bytes shown are
--- those nine. It is so while one device sends its scratchpad and all others are quiet, and, with nine bytes FFh, where all are quiet.
+-- The nine bytes of a reply, slot by slot: where in each read slot the line is the next bit of nine bytes, whatever the
+-- slots before have shown, the bytes shown are those nine. It is so while one device sends its scratchpad and all
+-- others are quiet, and, with nine bytes FFh, where all are quiet.
 --     Replies R Inv      with Inv k j the line shows bit j of byte k of R, and a slot goes on to the next
 --     reply-shown        then the bytes shown are R
 --     sending, silence   the two ways to reply
@@ -46,15 +47,18 @@ use Rattle.access_laws.specs.Picked.{half-then}
 pub record Replies (R : List ℕ) (Inv : ℕ → ℕ → List Device → Type 0) : Type 0 where
   pub moving : (k j : ℕ) (ds : List Device) → Inv k j ds → Each Moving ds
   pub offers : (k j : ℕ) (ds : List Device) → k < 9 → j < 8 → Inv k j ds → all offerOf ds ≡ bitAt (getD R k 0) j
-  pub hears : (k j : ℕ) (ds : List Device) → k < 9 → j < 8 → (l : Bool) → Inv k j ds → Inv k (suc j) (map (λ d. hearOf d l) ds)
+  pub hears : (k j : ℕ) (ds : List Device) → k < 9 → j < 8 → (l : Bool) → Inv k j ds
+      → Inv k (suc j) (map (λ d. hearOf d l) ds)
   pub turns : (k : ℕ) (ds : List Device) → Inv k 8 ds → Inv (suc k) 0 ds
 
 -- ## Bit by bit and byte by byte
 
 -- the first of some read slots, of which the line's bit is known
-after-one : (m : ℕ) (c : Bench) (bit : Bool) → Free c → lineBit c true ≡ bit → afterSlots (suc m) c ≡ afterSlots m (heard c bit)
+after-one : (m : ℕ) (c : Bench) (bit : Bool) → Free c → lineBit c true ≡ bit
+    → afterSlots (suc m) c ≡ afterSlots m (heard c bit)
 unfolding slots
-after-one m c bit f line = ap (λ s. afterSlots m (s .bench)) (slot-accepted c true f) ∙ ap (λ (l : Bool). afterSlots m (heard c l)) line
+after-one m c bit f line = ap (λ s. afterSlots m (s .bench)) (slot-accepted c true f)
+    ∙ ap (λ (l : Bool). afterSlots m (heard c l)) line
 
 module _ (R : List ℕ) (Inv : ℕ → ℕ → List Device → Type 0) (r : Replies R Inv) where
   -- m slots, with which byte k ends
@@ -63,9 +67,11 @@ module _ (R : List ℕ) (Inv : ℕ → ℕ → List Device → Type 0) (r : Repl
     pub ended : Inv k 8 (live (afterSlots m c))
     pub stays-free : Free (afterSlots m c)
 
-  byte-ends : (k : ℕ) → k < 9 → (m j : ℕ) → j + m ≡ 8 → (c : Bench) → Inv k j (live c) → Free c → ByteEnds k m (bitsOf m (getD R k 0 / 2 ^ j)) c
+  byte-ends : (k : ℕ) → k < 9 → (m j : ℕ) → j + m ≡ 8 → (c : Bench) → Inv k j (live c) → Free c
+      → ByteEnds k m (bitsOf m (getD R k 0 / 2 ^ j)) c
   unfolding slots bitsOf
-  byte-ends k h zero j e c i f = let z : j ≡ 8 = omega arith in record { lines = refl; ended = rw z at i; stays-free = f }
+  byte-ends k h zero j e c i f = let z : j ≡ 8 = omega arith in
+      record { lines = refl; ended = rw z at i; stays-free = f }
   byte-ends k h (suc m) j e c i f =
       let l : j < 8 = omega arith in
       let bit = bitAt (getD R k 0) j in
@@ -88,7 +94,8 @@ module _ (R : List ℕ) (Inv : ℕ → ℕ → List Device → Type 0) (r : Repl
         let x = getD R k 0 in
         let b = byte-ends k h 8 0 refl c i f in
         let one : x / 1 ≡ x = omega arith in
-        let first : numberOf (shown (readSlots 8) c) ≡ x = ap numberOf (b .lines ∙ ap (bitsOf 8) one) ∙ number-bits 8 x (bytes k) in
+        let first : numberOf (shown (readSlots 8) c) ≡ x =
+        ap numberOf (b .lines ∙ ap (bitsOf 8) one) ∙ number-bits 8 x (bytes k) in
         let later = bytes-left n (suc k) (omega arith) (afterSlots 8 c) (r .turns k _ (b .ended)) (b .stays-free) in
         rw (first, later) (sym (drop-cons R k 0 (omega arith)))
 
@@ -128,7 +135,8 @@ silence = record {
 
 -- where a sending device stands at bit j of byte k; after its last bit at the next byte, and after the last byte quiet
 abbrev pub sendStage : ℕ → ℕ → Stage
-sendStage k j = if ltb j 8 then (if ltb k 9 then SendScratchpad k j else Quiet) else if ltb k 8 then SendScratchpad (k + 1) 0 else Quiet
+sendStage k j = if ltb j 8 then (if ltb k 9 then SendScratchpad k j else Quiet) else if ltb k 8
+    then SendScratchpad (k + 1) 0 else Quiet
 
 abbrev pub Sends : List ℕ → ℕ → ℕ → Device → Type 0
 Sends pad k j d = (d .stage ≡ sendStage k j) × (d .scratchpad ≡ pad)
@@ -136,7 +144,8 @@ Sends pad k j d = (d .stage ≡ sendStage k j) × (d .scratchpad ≡ pad)
 sends-moves : (k j : ℕ) → onlyMoves (sendStage k j) ≡ true
 sends-moves k j = by-tests (ltb j 8) (ltb k 9) (ltb k 8)
   where
-    by-tests : (t u v : Bool) → onlyMoves (if t then (if u then SendScratchpad k j else Quiet) else if v then SendScratchpad (k + 1) 0 else Quiet) ≡ true
+    by-tests : (t u v : Bool) → onlyMoves (if t then (if u then SendScratchpad k j else Quiet) else if v
+        then SendScratchpad (k + 1) 0 else Quiet) ≡ true
     by-tests true true v = refl
     by-tests true false v = refl
     by-tests false u true = refl
@@ -157,7 +166,8 @@ next-bit k j h l = rw (lt-ltb j 8 l, lt-ltb k 9 h) (by-test (ltb j 7) refl)
 next-byte : (k : ℕ) → sendStage k 8 ≡ sendStage (suc k) 0
 next-byte k = by-test (ltb k 8) refl
   where
-    by-test : (t : Bool) → ltb k 8 ≡ t → (if t then SendScratchpad (k + 1) 0 else Quiet) ≡ (if ltb (suc k) 9 then SendScratchpad (suc k) 0 else Quiet)
+    by-test : (t : Bool) → ltb k 8 ≡ t → (if t then SendScratchpad (k + 1) 0 else Quiet)
+        ≡ (if ltb (suc k) 9 then SendScratchpad (suc k) 0 else Quiet)
     by-test true e = let m = ltb-true k 8 e in let n : suc k < 9 = omega arith in rw (lt-ltb (suc k) 9 n, add-one k)
     by-test false e = let m = ltb-false k 8 e in rw (le-ltb (suc k) 9 (omega arith))
 
@@ -174,7 +184,8 @@ module _ (pad : List ℕ) (long : length pad ≡ 8) where
       let e : d .stage ≡ SendScratchpad k j = s .0 ∙ at-bit k j h l in
       rw e (next-bit k j h l, s .1)
 
-  one-offers : (x : Bool) (k j : ℕ) → ((d : Device) → Sends pad k j d → offerOf d ≡ x) → (ds : List Device) → OneAmong (Sends pad k j) IsQuiet ds → all offerOf ds ≡ x
+  one-offers : (x : Bool) (k j : ℕ) → ((d : Device) → Sends pad k j d → offerOf d ≡ x) → (ds : List Device)
+      → OneAmong (Sends pad k j) IsQuiet ds → all offerOf ds ≡ x
   unfolding all
   one-offers x k j p [] o = absurd o
   one-offers x k j p (d ∷ ds) (inl o) = rw (p d (o .0), quiet-ones ds (o .1)) (and-true x)
@@ -185,8 +196,10 @@ module _ (pad : List ℕ) (long : length pad ≡ 8) where
   sending = record {
     moving = λ k j ds. one-each (λ d s. ap onlyMoves (s .0) ∙ sends-moves k j) quiet-moves ds;
     offers = λ k j ds h l. one-offers (bitAt (getD (nineBytes pad) k 0) j) k j (sent-bit k j h l) ds;
-    hears = λ k j ds h l x. one-mapped (Sends pad k j) IsQuiet (Sends pad k (suc j)) IsQuiet (λ d. hearOf d x) (sent-next k j h l x) (quiet-hears x) ds;
-    turns = λ k ds. subst (λ (s : Stage). OneAmong (λ d. (d .stage ≡ s) × (d .scratchpad ≡ pad)) IsQuiet ds) (next-byte k);
+    hears = λ k j ds h l x. one-mapped (Sends pad k j) IsQuiet (Sends pad k (suc j)) IsQuiet (λ d. hearOf d x)
+        (sent-next k j h l x) (quiet-hears x) ds;
+    turns = λ k ds. subst (λ (s : Stage). OneAmong (λ d. (d .stage ≡ s) × (d .scratchpad ≡ pad)) IsQuiet ds)
+        (next-byte k);
   }
 
 -- ## Nothing but stages changes
@@ -206,24 +219,29 @@ replying-hears l d (silent e) = silent (rw e)
 replying-hears l d (sends k j e) = by-tests (not (ltb k 9 && ltb j 8)) (ltb j 7) (ltb k 8) (rw e)
   where
     by-tests : (t u v : Bool)
-        → hearOf d l .stage ≡ (if t then Quiet else if u then SendScratchpad k (j + 1) else if v then SendScratchpad (k + 1) 0 else Quiet) → Replying (hearOf d l)
+        → hearOf d l .stage ≡ (if t then Quiet else if u then SendScratchpad k (j + 1) else if v
+        then SendScratchpad (k + 1) 0 else Quiet) → Replying (hearOf d l)
     by-tests true u v q = silent q
     by-tests false true v q = sends k (j + 1) q
     by-tests false false true q = sends (k + 1) 0 q
     by-tests false false false q = silent q
 
-heard-kept : (l : Bool) (ds : List Device) → Each Replying ds → map unstaged (map (λ d. hearOf d l) ds) ≡ map unstaged ds
+heard-kept : (l : Bool) (ds : List Device) → Each Replying ds
+    → map unstaged (map (λ d. hearOf d l) ds) ≡ map unstaged ds
 heard-kept l [] r = refl
 heard-kept l (d ∷ ds) r =
     let e : unstaged (hearOf d l) ≡ unstaged d = ap unstaged (hear-only-stage d l (replying-moves d (r .0))) in
     let i = heard-kept l ds (r .1) in
     rw (e, i)
 
-pub slots-kept : (n : ℕ) (c : Bench) → Each Replying (live c) → Free c → map unstaged (live (afterSlots n c)) ≡ map unstaged (live c)
+pub slots-kept : (n : ℕ) (c : Bench) → Each Replying (live c) → Free c
+    → map unstaged (live (afterSlots n c)) ≡ map unstaged (live c)
 unfolding slots
 slots-kept zero c r f = refl
 slots-kept (suc n) c r f =
     let l = lineBit c true in
-    let next : Each Replying (live (heard c l)) = rw (heard-live c l) (each-mapped Replying (λ d. hearOf d l) (replying-hears l) (live c) r) in
+    let next : Each Replying (live (heard c l)) =
+    rw (heard-live c l) (each-mapped Replying (λ d. hearOf d l) (replying-hears l) (live c) r) in
     let g : Free (heard c l) = free-heard c l (each-implies replying-moves (live c) r) ∙ f in
-    ap (λ b. map unstaged (live b)) (after-one n c l f refl) ∙ slots-kept n (heard c l) next g ∙ ap (map unstaged) (heard-live c l) ∙ heard-kept l (live c) r
+    ap (λ b. map unstaged (live b)) (after-one n c l f refl) ∙ slots-kept n (heard c l) next g
+    ∙ ap (map unstaged) (heard-live c l) ∙ heard-kept l (live c) r

@@ -1,12 +1,15 @@
--- What a read at a code shows (the scope, "The master"), and that no read and no write of a bench that calls reach is refused with 6, 11 or 20.
+-- What a read at a code shows (the scope, "The master"), and that no read and no write of a bench that calls reach is
+-- refused with 6, 11 or 20.
 --     shownAt b code        the nine bytes that the line shows in the 72 read slots of a read at the code
 --     ShowsScratchpad       where a device has the code, they are its scratchpad and the CRC of that
 --     ShowsOnes             where no device has it, they are all FFh
 --     AbsentRefused         and then the read is refused with 5
 --     ReadKeeps             a read, refused or not, changes nothing of any device but its stage
---     ReadAnswer            after every history a read at the code of a device, where none holds the wire, is accepted and answers that device's own nine bytes and the
---                           reading in them, with the fine one, and the bench is where the slot rule leaves it
---     FineIsCount           after every history that ends with an accepted finish of a device in half degrees, the fine reading that a read at its code answers is the count of that finish
+--     ReadAnswer            after every history a read at the code of a device, where none holds the wire, is accepted
+--                           and answers that device's own nine bytes and the reading in them, with the fine one, and
+--                           the bench is where the slot rule leaves it
+--     FineIsCount           after every history that ends with an accepted finish of a device in half degrees, the fine
+--                           reading that a read at its code answers is the count of that finish
 --     NeverDamaged          after every history no read and no write is refused with 6, 11 or 20
 -- The nine bytes of a scratchpad are `nineBytes`, as the device sends them.
 use Prim.Native.Nat.{ℕ}
@@ -44,22 +47,28 @@ shownAt b code = bytesShown 9 (addressed code readScratchpad (restarted b))
 
 -- ## On every bench whose codes are 64-bit numbers
 
--- no device holds the wire, no two codes are the same, and the device at place i, whose scratchpad is eight bytes, has the code
+-- no device holds the wire, no two codes are the same, and the device at place i, whose scratchpad is eight bytes, has
+-- the code
 abbrev pub ShowsScratchpad : Type 0
-ShowsScratchpad = (b : Bench) (code i : ℕ) → Below 64 (codesOf b) → Distinct (codesOf b) → free b ≡ true → placeOf b code ≡ At i
-    → length (deviceAt b i .scratchpad) ≡ 8 → Bytes (deviceAt b i .scratchpad) → shownAt b code ≡ nineBytes (deviceAt b i .scratchpad)
+ShowsScratchpad = (b : Bench) (code i : ℕ) → Below 64 (codesOf b) → Distinct (codesOf b) → free b ≡ true
+    → placeOf b code ≡ At i
+    → length (deviceAt b i .scratchpad) ≡ 8 → Bytes (deviceAt b i .scratchpad)
+    → shownAt b code ≡ nineBytes (deviceAt b i .scratchpad)
 
 abbrev pub ShowsOnes : Type 0
-ShowsOnes = (b : Bench) (code : ℕ) → Code64 code → Below 64 (codesOf b) → free b ≡ true → placeOf b code ≡ Nowhere → shownAt b code ≡ replicate 9 0xFF
+ShowsOnes = (b : Bench) (code : ℕ) → Code64 code → Below 64 (codesOf b) → free b ≡ true → placeOf b code ≡ Nowhere
+    → shownAt b code ≡ replicate 9 0xFF
 
 -- the read is admitted, and somebody shows presence
 abbrev pub AbsentRefused : Type 0
-AbsentRefused = (b : Bench) (code : ℕ) → Code64 code → Below 64 (codesOf b) → admission b code ≡ accepted → presenceOf b ≡ true → placeOf b code ≡ Nowhere
+AbsentRefused = (b : Bench) (code : ℕ) → Code64 code → Below 64 (codesOf b) → admission b code ≡ accepted
+    → presenceOf b ≡ true → placeOf b code ≡ Nowhere
     → readAt b code .refusal ≡ wrongCrc
 
 -- whether a device holds the wire or not; `unstaged` is a device without its stage
 abbrev pub ReadKeeps : Type 0
-ReadKeeps = (b : Bench) (code : ℕ) → Code64 code → Below 64 (codesOf b) → map unstaged (live (readAt b code .bench)) ≡ map unstaged (live b)
+ReadKeeps = (b : Bench) (code : ℕ) → Code64 code → Below 64 (codesOf b)
+    → map unstaged (live (readAt b code .bench)) ≡ map unstaged (live b)
 
 -- ## On every bench that calls reach
 
@@ -77,7 +86,8 @@ ReadAnswer = (h : List Call) → Each Typed h → (code i : ℕ) → free (after
 
 -- s sixteenths are 4 s over 64 degrees
 abbrev pub FineIsCount : Type 0
-FineIsCount = (h : List Call) (code : ℕ) (count : Sixteenths) → Each Typed h → Typed (finishConversion code count) → familyRow code .unit ≡ inHalfDegrees
+FineIsCount = (h : List Call) (code : ℕ) (count : Sixteenths) → Each Typed h → Typed (finishConversion code count)
+    → familyRow code .unit ≡ inHalfDegrees
     → conversionFinished (after h) code count .refusal ≡ accepted
     → let b = after (h ++ (finishConversion code count ∷ [])) in
     free b ≡ true → readAt b code .fine ≡ record { numerator = count .0 *ℤ pos 4; denominator = 64 }
@@ -88,4 +98,5 @@ damage = allZero ∷ outOfRange ∷ wrongCounts ∷ []
 
 abbrev pub NeverDamaged : Type 0
 NeverDamaged = (h : List Call) → Each Typed h → (code : ℕ) → Code64 code
-    → Each (λ n. readAt (after h) code .refusal ≢ n) damage × ((s : Settings) → Each (λ n. writeAt (after h) code s .refusal ≢ n) damage)
+    → Each (λ n. readAt (after h) code .refusal ≢ n) damage
+    × ((s : Settings) → Each (λ n. writeAt (after h) code s .refusal ≢ n) damage)

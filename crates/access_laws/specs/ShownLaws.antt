@@ -1,5 +1,6 @@
--- What a read at a code shows: 55h, the code and BEh leave the device with the code about to send, and all others quiet (`picked`), so that the read slots show its nine
--- bytes (`sending`); where no device has the code they show ones (`silence`). None of this changes anything but stages: `read-kept`.
+-- What a read at a code shows: 55h, the code and BEh leave the device with the code about to send, and all others quiet
+-- (`picked`), so that the read slots show its nine bytes (`sending`); where no device has the code they show ones
+-- (`silence`). None of this changes anything but stages: `read-kept`.
 use Prim.Native.Nat.{ℕ, zero, suc, _^_, _<_}
 use mathlib.Core.Bool.{Bool, true, false, not}
 use mathlib.Core.List.{List, [], _∷_, map}
@@ -41,9 +42,11 @@ use Rattle.master_rules.specs.Thermometers.{unstaged}
 use Rattle.master_rules.specs.Access.{refusedAt, addressed, afterSlots, readBack, admission, readAt}
 use Rattle.access_laws.specs.Unrefused.{addressBits}
 use Rattle.access_laws.specs.Course.{Hears, hears-end, Settled, reading, address-heard}
-use Rattle.access_laws.specs.Laws.{Ends, heard-runs, heard-live-all, calls-rule, addressed-run, fetched-bench, admitted-free}
+use Rattle.access_laws.specs.Laws.{Ends, heard-runs, heard-live-all, calls-rule, addressed-run, fetched-bench}
+use Rattle.access_laws.specs.Laws.{admitted-free}
 use Rattle.access_laws.specs.Picked.{picked, read-picks}
-use Rattle.access_laws.specs.Reply.{IsQuiet, Sends, reply-shown, sending, silence, Replying, sends, silent, slots-kept}
+use Rattle.access_laws.specs.Reply.{IsQuiet, Sends, reply-shown, sending, silence, Replying, sends, silent}
+use Rattle.access_laws.specs.Reply.{slots-kept}
 use Rattle.access_laws.specs.Shown.{shownAt, ShowsScratchpad, ShowsOnes, ReadKeeps}
 
 -- ## Lists
@@ -53,7 +56,8 @@ replicate-bytes zero k = lit< tt
 replicate-bytes (suc n) zero = lit< tt
 replicate-bytes (suc n) (suc k) = replicate-bytes n k
 
-pub code-at : (P : ℕ → Type 0) (ds : List Device) (i : ℕ) → i < length ds → Each P (map (λ d. d .code) ds) → P (getD ds i vacant .code)
+pub code-at : (P : ℕ → Type 0) (ds : List Device) (i : ℕ) → i < length ds → Each P (map (λ d. d .code) ds)
+    → P (getD ds i vacant .code)
 code-at P [] i h e = absurd (omega arith)
 code-at P (d ∷ ds) zero h e = e .0
 code-at P (d ∷ ds) (suc i) h e = code-at P ds i (omega arith) (e .1)
@@ -87,23 +91,28 @@ module _ (b : Bench) (code : ℕ) (fit : Below 64 (codesOf b)) (fits : code < 2 
   asked-live : live asked ≡ map (picked code) (live b)
   unfolding asked
   asked-live =
-      heard-live-all Settled (addressBits code readScratchpad) (restarted b) each-hears ∙ rw (restarted-live b) (each-picked (live b) fit)
+      heard-live-all Settled (addressBits code readScratchpad) (restarted b) each-hears
+      ∙ rw (restarted-live b) (each-picked (live b) fit)
     where
       each-picked : (ds : List Device) → Below 64 (map (λ d. d .code) ds)
           → map (λ d. fold hearOf d (addressBits code readScratchpad)) (map resetOf ds) ≡ map (picked code) ds
       each-picked [] h = refl
       each-picked (d ∷ ds) h =
-          let e = hears-end (λ e. e ≡ picked code d) (addressBits code readScratchpad) (resetOf d) (read-picks code d fits (h .0)) in
+          let e = hears-end (λ e. e ≡ picked code d) (addressBits code readScratchpad) (resetOf d)
+          (read-picks code d fits (h .0)) in
           let i = each-picked ds (h .1) in rw (e, i)
 
   -- one device has the code
-  shown-by-one : (pad : List ℕ) → length pad ≡ 8 → Bytes pad → OneAmong (λ d. (d .code ≡ code) × (d .scratchpad ≡ pad)) (λ d. d .code ≢ code) (live b)
+  shown-by-one : (pad : List ℕ) → length pad ≡ 8 → Bytes pad
+      → OneAmong (λ d. (d .code ≡ code) × (d .scratchpad ≡ pad)) (λ d. d .code ≢ code) (live b)
       → shownAt b code ≡ nineBytes pad
   shown-by-one pad long bytes o =
       rw asked-is
-      (reply-shown (nineBytes pad) (λ k j. OneAmong (Sends pad k j) IsQuiet) (sending pad long) (nine-length pad long) nine-bytes asked
+      (reply-shown (nineBytes pad) (λ k j. OneAmong (Sends pad k j) IsQuiet) (sending pad long) (nine-length pad long)
+      nine-bytes asked
       (rw asked-live
-      (one-mapped (λ d. (d .code ≡ code) × (d .scratchpad ≡ pad)) (λ d. d .code ≢ code) (Sends pad 0 0) IsQuiet (picked code) starts stays (live b) o)) asked-free)
+      (one-mapped (λ d. (d .code ≡ code) × (d .scratchpad ≡ pad)) (λ d. d .code ≢ code) (Sends pad 0 0) IsQuiet
+      (picked code) starts stays (live b) o)) asked-free)
     where
       starts : (d : Device) → (d .code ≡ code) × (d .scratchpad ≡ pad) → Sends pad 0 0 (picked code d)
       starts d h = (rw (eq-eqb (d .code) code (h .0)), h .1)
@@ -122,7 +131,8 @@ module _ (b : Bench) (code : ℕ) (fit : Below 64 (codesOf b)) (fits : code < 2 
   shown-by-none : Each (λ d. d .code ≢ code) (live b) → shownAt b code ≡ replicate 9 255
   shown-by-none n =
       rw asked-is
-      (reply-shown (replicate 9 255) (λ k j. Each IsQuiet) silence (length-replicate {A = ℕ} 9 255) (replicate-bytes 9) asked (rw asked-live (all-quiet (live b) n)) asked-free)
+      (reply-shown (replicate 9 255) (λ k j. Each IsQuiet) silence (length-replicate {A = ℕ} 9 255) (replicate-bytes 9)
+      asked (rw asked-live (all-quiet (live b) n)) asked-free)
     where
       all-quiet : (ds : List Device) → Each (λ d. d .code ≢ code) ds → Each IsQuiet (map (picked code) ds)
       all-quiet [] h = tt
@@ -159,7 +169,8 @@ one-at (d ∷ ds) zero h k = inl (refl, others ds (k .0))
     others (e ∷ es) n = ((λ z. n .0 (sym z)), others es (n .1))
 one-at (d ∷ ds) (suc i) h k = let l : i < length ds = omega arith in inr (differs ds i l (k .0), one-at ds i l (k .1))
   where
-    differs : (es : List Device) (j : ℕ) → j < length es → Each (λ c. d .code ≢ c) (map (λ e. e .code) es) → d .code ≢ getD es j vacant .code
+    differs : (es : List Device) (j : ℕ) → j < length es → Each (λ c. d .code ≢ c) (map (λ e. e .code) es)
+        → d .code ≢ getD es j vacant .code
     differs [] j l n = absurd (omega arith)
     differs (e ∷ es) zero l n = n .0
     differs (e ∷ es) (suc j) l n = differs es j (omega arith) (n .1)
@@ -181,7 +192,8 @@ shows-scratchpad b code i fit apart f at long bytes =
 
     one : OneAmong (λ d. (d .code ≡ code) × (d .scratchpad ≡ deviceAt b i .scratchpad)) (λ d. d .code ≢ code) (live b)
     one =
-        one-implies (λ d e. (ap (λ x. x .code) e ∙ has, ap (λ x. x .scratchpad) (e ∙ there))) (λ d n e. n (e ∙ sym has)) (live b)
+        one-implies (λ d e. (ap (λ x. x .code) e ∙ has, ap (λ x. x .scratchpad) (e ∙ there))) (λ d n e. n (e ∙ sym has))
+        (live b)
         (one-at (live b) i (place-live b code i at) apart)
 
 pub shows-ones : ShowsOnes
@@ -191,12 +203,16 @@ pub read-kept : ReadKeeps
 unfolding readAt readBack
 read-kept b code fits fit = by-admission (eqb (admission b code) accepted) refl
   where
-    by-presence : (p : Bool) → presenceOf b ≡ p → admission b code ≡ accepted → map unstaged (live (readBack code b .bench)) ≡ map unstaged (live b)
+    by-presence : (p : Bool) → presenceOf b ≡ p → admission b code ≡ accepted
+        → map unstaged (live (readBack code b .bench)) ≡ map unstaged (live b)
     by-presence true e h =
         let f = admitted-free b code h in
-        rw (reset-accepted b f, e) (ap (λ c. map unstaged (live c)) (fetched-bench code (restarted b)) ∙ asked-kept b code fit fits f)
+        rw (reset-accepted b f, e) (ap (λ c. map unstaged (live c)) (fetched-bench code (restarted b))
+        ∙ asked-kept b code fit fits f)
     by-presence false e h = rw (reset-accepted b (admitted-free b code h), e) (restarted-keeps b)
 
-    by-admission : (t : Bool) → eqb (admission b code) accepted ≡ t → map unstaged (live ((if not t then refusedAt (admission b code) b else readBack code b) .bench)) ≡ map unstaged (live b)
+    by-admission : (t : Bool) → eqb (admission b code) accepted ≡ t
+        → map unstaged (live ((if not t then refusedAt (admission b code) b else readBack code b) .bench))
+        ≡ map unstaged (live b)
     by-admission true e = by-presence (presenceOf b) refl (eqb-true (admission b code) accepted e)
     by-admission false e = refl

@@ -23,10 +23,12 @@ use Rattle.master_rules.specs.Access.{byteShown, afterSlots, bytesShown, addres
 
 slots-then : (m n : ℕ) (b : Bench) → afterSlots n (afterSlots m b) ≡ afterSlots (m + n) b
 slots-then m n b =
-    sym (ap (λ r. r .devices) (slots-append calls (readSlots m) (readSlots n) b)) ∙ ap (λ (l : List Bool). slots calls l b .devices) (replicate-append-replicate m n true)
+    sym (ap (λ r. r .devices) (slots-append calls (readSlots m) (readSlots n) b))
+    ∙ ap (λ (l : List Bool). slots calls l b .devices) (replicate-append-replicate m n true)
 
 pub bytes-bench : (n : ℕ) (b : Bench) → afterSlots 8 (afterSlots (8 * n) b) ≡ afterSlots (8 * (n + 1)) b
-bytes-bench n b = let e : 8 * n + 8 ≡ 8 * (n + 1) = omega arith in slots-then (8 * n) 8 b ∙ ap (λ (k : ℕ). afterSlots k b) e
+bytes-bench n b = let e : 8 * n + 8 ≡ 8 * (n + 1) = omega arith in
+    slots-then (8 * n) 8 b ∙ ap (λ (k : ℕ). afterSlots k b) e
 
 pub shown-length : (n : ℕ) (b : Bench) → length (bytesShown n b) ≡ n
 unfolding bytesShown
@@ -39,7 +41,8 @@ bytes-snoc zero b = refl
 bytes-snoc (suc n) b =
     let e : 8 + 8 * n ≡ 8 * suc n = omega arith in
     ap (λ (l : List ℕ). byteShown b ∷ l) (bytes-snoc n (afterSlots 8 b))
-    ∙ ap (λ (c : Bench). byteShown b ∷ (bytesShown n (afterSlots 8 b) ++ (byteShown c ∷ []))) (slots-then 8 (8 * n) b ∙ ap (λ (k : ℕ). afterSlots k b) e)
+    ∙ ap (λ (c : Bench). byteShown b ∷ (bytesShown n (afterSlots 8 b) ++ (byteShown c ∷ []))) (slots-then 8 (8 * n) b
+    ∙ ap (λ (k : ℕ). afterSlots k b) e)
 
 -- one byte more stored
 pub bytes-more : (n : ℕ) (b : Bench) (pad : List ℕ) → n < length pad
@@ -57,6 +60,7 @@ bytes-all b = refl
 -- ## A read by its reply
 
 pub fetched-by : (code : ℕ) (b : Bench)
-    → let r = replied (addressed code readScratchpad b) in fetched code b ≡ judgedReply (r .pad) (r .bench) (judged (familyOf code) (r .pad))
+    → let r = replied (addressed code readScratchpad b) in
+    fetched code b ≡ judgedReply (r .pad) (r .bench) (judged (familyOf code) (r .pad))
 unfolding fetched replied
 fetched-by code b = refl

@@ -1,7 +1,8 @@
 // Reading and writing at a code.
 ghost use mathlib.Core.Path.{_≡_};
 ghost use Rattle.master_rules.specs.Wire.{sent};
-ghost use Rattle.master_rules.specs.Access.{refusedAt, addressed, fetched, readBack, admission, readAt, settingsSent, asAsked, writtenAndRead, writeAt};
+ghost use Rattle.master_rules.specs.Access.{refusedAt, addressed, fetched, readBack, admission, readAt, settingsSent};
+ghost use Rattle.master_rules.specs.Access.{asAsked, writtenAndRead, writeAt};
 ghost use Rattle.at_code.specs.Replies.{byteReadOf, replied};
 use bench::Bench;
 use device::Settings;

@@ -1,4 +1,5 @@
--- Numbers and their bits: lengths, there and back, one bit more at the end, a bit by its place, one bit replaced, and bits in two parts.
+-- Numbers and their bits: lengths, there and back, one bit more at the end, a bit by its place, one bit replaced, and
+-- bits in two parts.
 use Prim.Native.Nat.{ℕ, zero, suc, _+_, _*_, _/_, _%_, _^_, _<_, _≤_}
 use mathlib.Core.Path.{_≡_, refl, sym, ap, _∙_}
 use mathlib.Core.Bool.{Bool, true, false}
@@ -83,13 +84,17 @@ bits-append zero n x =
     let z : 0 + n ≡ n = omega arith in let e : x / 1 ≡ x = omega arith in rw (z, e)
 bits-append (suc m) n x =
     let s : suc m + n ≡ suc (m + n) = omega arith in
-    rw s (ap (λ (t : List Bool). odd x ∷ t) (bits-append m n (x / 2) ∙ ap (λ (k : ℕ). bitsOf m (x / 2) ++ bitsOf n k) (half-then x m)))
+    rw s (ap (λ (t : List Bool). odd x ∷ t) (bits-append m n (x / 2)
+    ∙ ap (λ (k : ℕ). bitsOf m (x / 2) ++ bitsOf n k) (half-then x m)))
 
 -- what is above the lowest n bits leaves them
 pub bits-block : (n a r : ℕ) → bitsOf n (a * 2 ^ n + r) ≡ bitsOf n r
 unfolding bitsOf
 bits-block zero a r = refl
-bits-block (suc n) a r = rw (block-odd a n r, block-half a n r) (ap (λ (t : List Bool). odd r ∷ t) (bits-block n a (r / 2)))
+bits-block (suc n) a r = rw (
+  block-odd a n r,
+  block-half a n r,
+) (ap (λ (t : List Bool). odd r ∷ t) (bits-block n a (r / 2)))
 
 pub bytes-append : (a b : List ℕ) → bytesBits (a ++ b) ≡ bytesBits a ++ bytesBits b
 unfolding bytesBits
@@ -122,7 +127,8 @@ number-set (a ∷ bs) (suc i) b h =
     omega arith
 
 -- the bits of a byte among those of all bytes
-pub byte-bit : (l : List ℕ) (q j : ℕ) → j < 8 → q < length l → getD (bytesBits l) (8 * q + j) false ≡ bitAt (getD l q 0) j
+pub byte-bit : (l : List ℕ) (q j : ℕ) → j < 8 → q < length l
+    → getD (bytesBits l) (8 * q + j) false ≡ bitAt (getD l q 0) j
 unfolding bytesBits
 byte-bit [] q j h k = absurd (omega arith)
 byte-bit (x ∷ l) zero j h k =

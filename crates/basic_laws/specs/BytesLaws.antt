@@ -1,4 +1,5 @@
--- A list of bytes stays one when a byte is stored, and so do its parts and two of them joined. Bytes are the same where their bits are (`bytes-same`).
+-- A list of bytes stays one when a byte is stored, and so do its parts and two of them joined. Bytes are the same where
+-- their bits are (`bytes-same`).
 use Prim.Native.Nat.{ℕ, zero, suc, _+_, _<_}
 use mathlib.Core.Path.{_≡_, refl, sym, ap, _∙_}
 use mathlib.Core.List.{List, [], _∷_, _++_}
@@ -38,9 +39,11 @@ bytes-same [] (y ∷ b) n h k e = absurd (omega arith)
 bytes-same (x ∷ a) [] n h k e = absurd (omega arith)
 bytes-same (x ∷ a) (y ∷ b) n h k e =
     let first : bitsOf 8 x ≡ bitsOf 8 y
-    = sym (take-at (bitsOf 8 x) (bytesBits a) 8 (bits-length 8 x)) ∙ ap (take 8) e ∙ take-at (bitsOf 8 y) (bytesBits b) 8 (bits-length 8 y) in
+    = sym (take-at (bitsOf 8 x) (bytesBits a) 8 (bits-length 8 x)) ∙ ap (take 8) e
+    ∙ take-at (bitsOf 8 y) (bytesBits b) 8 (bits-length 8 y) in
     let rest : bytesBits a ≡ bytesBits b
-    = sym (drop-at (bitsOf 8 x) (bytesBits a) 8 (bits-length 8 x)) ∙ ap (drop 8) e ∙ drop-at (bitsOf 8 y) (bytesBits b) 8 (bits-length 8 y) in
+    = sym (drop-at (bitsOf 8 x) (bytesBits a) 8 (bits-length 8 x)) ∙ ap (drop 8) e
+    ∙ drop-at (bitsOf 8 y) (bytesBits b) 8 (bits-length 8 y) in
     let one : x ≡ y = sym (number-bits 8 x (h 0)) ∙ ap numberOf first ∙ number-bits 8 y (k 0) in
     let more : a ≡ b = bytes-same a b (omega arith) (λ i. h (suc i)) (λ i. k (suc i)) rest in
     rw (one, more)

@@ -1,6 +1,7 @@
--- Two's complement there and back, by the sign, and after rounding. The code holds a signed number as its bits, so what it computes is read back from bits at each step: the
--- laws named `..-code` say that this changes nothing.
---     read16 n, held16 z      how the code's own numbers of sixteen bits are read and held: law `signed-read` and `bits-held` say that it is as the definitions have it
+-- Two's complement there and back, by the sign, and after rounding. The code holds a signed number as its bits, so what
+-- it computes is read back from bits at each step: the laws named `..-code` say that this changes nothing.
+--     read16 n, held16 z      how the code's own numbers of sixteen bits are read and held: law `signed-read` and
+--                             `bits-held` say that it is as the definitions have it
 use Prim.Native.Nat.{ℕ, zero, suc, _-_, _*_, _^_, _<_, _≤_}
 use mathlib.Core.Path.{_≡_, refl, ap, _∙_}
 use mathlib.Core.Bool.{Bool, true, false, false≢true}
@@ -43,7 +44,8 @@ bits-positive w (negsuc n) e = absurd (false≢true e)
 
 -- ## The definitions and the code's numbers
 
-signed-word : (w : Width) (n : ℕ) → n < 2 ^ bits w → (if ltb n (2 ^ hbits w) then pos n else pos n -ℤ pos (2 ^ bits w)) ≡ toZ w n
+signed-word : (w : Width) (n : ℕ) → n < 2 ^ bits w
+    → (if ltb n (2 ^ hbits w) then pos n else pos n -ℤ pos (2 ^ bits w)) ≡ toZ w n
 signed-word w n h = by-test (ltb n (2 ^ hbits w)) refl
   where
     by-test : (t : Bool) → ltb n (2 ^ hbits w) ≡ t → (if t then pos n else pos n -ℤ pos (2 ^ bits w)) ≡ toZ w n

@@ -1,6 +1,9 @@
--- What holds of each element of a list: kept by a weaker claim, by a permutation, which also keeps the length, by one more at the end or a list behind it, by a function that keeps it,
--- and by one element replaced; distinct elements stay so with a new one at the end; two tests that agree pick the same; and those of two lists are those of the one and then of the other.
-use mathlib.Core.List.{List, [], _∷_, _++_, map, List·Permᴰ, List·Permᴰ·nil, List·Permᴰ·cons, List·Permᴰ·swap, List·Permᴰ·trans}
+-- What holds of each element of a list: kept by a weaker claim, by a permutation, which also keeps the length, by one
+-- more at the end or a list behind it, by a function that keeps it, and by one element replaced; distinct elements stay
+-- so with a new one at the end; two tests that agree pick the same; and those of two lists are those of the one and
+-- then of the other.
+use mathlib.Core.List.{List, [], _∷_, _++_, map, List·Permᴰ, List·Permᴰ·nil, List·Permᴰ·cons, List·Permᴰ·swap}
+use mathlib.Core.List.{List·Permᴰ·trans}
 use Rattle.basic_laws.specs.Choice.{if_then_else_}
 use Rattle.basic_laws.specs.Each.{Each, Distinct, those}
 use mathlib.Core.Bool.{Bool, true, false}
@@ -42,7 +45,8 @@ distinct-snoc [] v d e = (tt, tt)
 distinct-snoc (x ∷ l) v d e = (each-snoc (λ y. x ≢ y) l v (d .0) (e .0), distinct-snoc l v (d .1) (e .1))
 
 -- What a function keeps, one replaced, and one picked.
-pub each-mapped : {A : Type 0} (P : A → Type 0) (f : A → A) → ((x : A) → P x → P (f x)) → (l : List A) → Each P l → Each P (map f l)
+pub each-mapped : {A : Type 0} (P : A → Type 0) (f : A → A) → ((x : A) → P x → P (f x)) → (l : List A) → Each P l
+    → Each P (map f l)
 each-mapped P f h [] e = tt
 each-mapped P f h (x ∷ l) e = (h x (e .0), each-mapped P f h l (e .1))
 
@@ -61,7 +65,8 @@ pub those-same : {A : Type 0} (p q : A → Bool) (l : List A) → Each (λ x. p 
 unfolding those
 those-same p q [] e = refl
 those-same p q (x ∷ l) e =
-    ap (λ (u : Bool). if u then x ∷ those p l else those p l) (e .0) ∙ ap (λ m. if q x then x ∷ m else m) (those-same p q l (e .1))
+    ap (λ (u : Bool). if u then x ∷ those p l else those p l) (e .0)
+    ∙ ap (λ m. if q x then x ∷ m else m) (those-same p q l (e .1))
 
 -- Those of two lists, one behind the other.
 pub those-append : {A : Type 0} (p : A → Bool) (l m : List A) → those p (l ++ m) ≡ those p l ++ those p m

@@ -1,9 +1,12 @@
--- The first element that passes a test, and whether all pass, as a loop with an early return finds it: what is left to look at from place i on.
+-- The first element that passes a test, and whether all pass, as a loop with an early return finds it: what is left to
+-- look at from place i on.
 --     onward i n l                                           what is left to look at from place i, of the first n
 --     first-hit, first-miss, first-skip, first-end           one turn of a loop that looks for the first
---     at-within, at-none, at-there, at-here, at-on, at-end   how many stand before the first that is v, what they are, and one turn of a loop that looks for it
+--     at-within, at-none, at-there, at-here, at-on, at-end   how many stand before the first that is v, what they are,
+--                                                            and one turn of a loop that looks for it
 --     all-onward, all-stopped, all-skip, all-passed          one turn of a loop that returns at the first that fails
---     first-cases, first-none, first-append, first-mapped    where the first stands, or none; of two lists; of what a function makes of each
+--     first-cases, first-none, first-append, first-mapped    where the first stands, or none; of two lists; of what a
+--                                                            function makes of each
 use Prim.Native.Nat.{ℕ, suc, _+_, _<_, _≤_}
 use mathlib.Core.Path.{_≡_, refl, sym, ap, subst, _∙_}
 use mathlib.Core.Bool.{Bool, true, false, not}
@@ -52,7 +55,8 @@ first-skip p f z i n l h =
 -- ## Whether all of the first n pass, as a loop that returns at the first that fails tells it
 
 module _ {A : Type 0} (p : A → Bool) (i n : ℕ) (l : List A) where
-  pub all-onward : (d : A) → i < n → i < length l → p (getD l i d) ≡ true → all p (onward i n l) ≡ all p (onward (i + 1) n l)
+  pub all-onward : (d : A) → i < n → i < length l → p (getD l i d) ≡ true
+      → all p (onward i n l) ≡ all p (onward (i + 1) n l)
   all-onward d h k t =
       let b : i < length (take n l) = simp length-take (omega arith) in
       all-passes p (take n l) i d b (ap p (getD-take n l i d h) ∙ t)
@@ -99,7 +103,8 @@ at-there v [] h = absurd (omega arith)
 at-there v (c ∷ l) h = by-test (eqb c v) refl (at-there v l) h
   where
     by-test : (t : Bool) → eqb c v ≡ t → (firstAt v l < length l → getD l (firstAt v l) 0 ≡ v)
-        → (if t then 0 else suc (firstAt v l)) < suc (length l) → getD (c ∷ l) (if t then 0 else suc (firstAt v l)) 0 ≡ v
+        → (if t then 0 else suc (firstAt v l)) < suc (length l)
+        → getD (c ∷ l) (if t then 0 else suc (firstAt v l)) 0 ≡ v
     by-test true e rest k = eqb-true c v e
     by-test false e rest k = rest (omega arith)
 
@@ -121,7 +126,8 @@ module _ (v : ℕ) (l : List ℕ) (i : ℕ) where
 
 -- What holds of the place of one that passes, and where none passes, holds of the answer.
 pub first-cases : {A R : Type 0} (p : A → Bool) (f : ℕ → R) (z : R) (k : ℕ) (l : List A) (P : R → Type 0)
-    → ((i : ℕ) → i < length l → ((d : A) → p (getD l i d) ≡ true) → P (f (k + i))) → (Each (λ x. p x ≡ false) l → P z) → P (firstWith p f z k l)
+    → ((i : ℕ) → i < length l → ((d : A) → p (getD l i d) ≡ true) → P (f (k + i))) → (Each (λ x. p x ≡ false) l → P z)
+    → P (firstWith p f z k l)
 unfolding firstWith
 first-cases p f z k [] P hit miss = miss tt
 first-cases p f z k (x ∷ l) P hit miss =
@@ -129,11 +135,13 @@ first-cases p f z k (x ∷ l) P hit miss =
     (λ i h t. subst (λ (n : ℕ). P (f n)) (omega arith) (hit (suc i) (omega arith) t))
     (λ rest. miss (e, rest)))
   where
-    by-test : (t : Bool) → p x ≡ t → (p x ≡ false → P (firstWith p f z (suc k) l)) → P (if t then f k else firstWith p f z (suc k) l)
+    by-test : (t : Bool) → p x ≡ t → (p x ≡ false → P (firstWith p f z (suc k) l))
+        → P (if t then f k else firstWith p f z (suc k) l)
     by-test true e later = subst (λ (n : ℕ). P (f n)) (omega arith) (hit 0 (omega arith) (λ d. e))
     by-test false e later = later e
 
-pub first-none : {A R : Type 0} (p : A → Bool) (f : ℕ → R) (z : R) (k : ℕ) (l : List A) → Each (λ x. p x ≡ false) l → firstWith p f z k l ≡ z
+pub first-none : {A R : Type 0} (p : A → Bool) (f : ℕ → R) (z : R) (k : ℕ) (l : List A) → Each (λ x. p x ≡ false) l
+    → firstWith p f z k l ≡ z
 unfolding firstWith
 first-none p f z k [] e = refl
 first-none p f z k (x ∷ l) e = rw (e .0) (first-none p f z (suc k) l (e .1))
@@ -144,7 +152,8 @@ pub first-append : {A R : Type 0} (p : A → Bool) (f : ℕ → R) (z : R) (k : 
 unfolding firstWith
 first-append p f z k [] m = ap (λ (n : ℕ). firstWith p f z n m) (omega arith)
 first-append p f z k (x ∷ l) m =
-    ap (λ r. if p x then f k else r) (first-append p f z (suc k) l m ∙ ap (λ (n : ℕ). firstWith p f (firstWith p f z n m) (suc k) l) (omega arith))
+    ap (λ r. if p x then f k else r) (first-append p f z (suc k) l m
+    ∙ ap (λ (n : ℕ). firstWith p f (firstWith p f z n m) (suc k) l) (omega arith))
 
 -- of what a function makes of each
 pub first-mapped : {A B R : Type 0} (g : A → B) (q : B → Bool) (f : ℕ → R) (z : R) (k : ℕ) (l : List A)

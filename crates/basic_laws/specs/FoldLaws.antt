@@ -37,10 +37,12 @@ module _ {A B : Type 0} (op : B → A → B) where
       let e : min i n ≡ i = omega arith in let e' : min (i + 1) n ≡ i + 1 = omega arith in
       rw (e, e') (fold-step b i l d k)
 
-  pub fold-upto-skip : (b : B) (i n : ℕ) (l : List A) → n ≤ i → fold op b (take (min i n) l) ≡ fold op b (take (min (i + 1) n) l)
+  pub fold-upto-skip : (b : B) (i n : ℕ) (l : List A) → n ≤ i
+      → fold op b (take (min i n) l) ≡ fold op b (take (min (i + 1) n) l)
   fold-upto-skip b i n l h = let e : min i n ≡ min (i + 1) n = omega arith in rw e
 
-  pub fold-upto-end : (b : B) (i n : ℕ) (l : List A) → length l ≤ i → fold op b (take (min i n) l) ≡ fold op b (take n l)
+  pub fold-upto-end : (b : B) (i n : ℕ) (l : List A) → length l ≤ i
+      → fold op b (take (min i n) l) ≡ fold op b (take n l)
   fold-upto-end b i n l h = by-test (leb n i) refl
     where
       by-test : (t : Bool) → leb n i ≡ t → fold op b (take (min i n) l) ≡ fold op b (take n l)
@@ -96,7 +98,8 @@ module _ {A : Type 0} (p : A → Bool) where
   all-at (x ∷ l) d (suc i) h t = all-at l d i (omega arith) (and-right (p x) (all p l) t)
 
   -- what is left to look at from place i
-  pub all-from : (l : List A) (d : A) (i : ℕ) → i < length l → all p (drop i l) ≡ (p (getD l i d) && all p (drop (i + 1) l))
+  pub all-from : (l : List A) (d : A) (i : ℕ) → i < length l
+      → all p (drop i l) ≡ (p (getD l i d) && all p (drop (i + 1) l))
   unfolding all
   all-from l d i h = rw (drop-cons l i d h, add-one i)
 

@@ -1,5 +1,5 @@
--- The changed front of a list, as a loop of stores makes it. The laws named `upto-` serve a loop that runs over the whole array and tests `i < n` inside, so that n may be
--- any number.
+-- The changed front of a list, as a loop of stores makes it. The laws named `upto-` serve a loop that runs over the
+-- whole array and tests `i < n` inside, so that n may be any number.
 use Prim.Native.Nat.{ℕ, zero, suc, _+_, _<_, _≤_, min}
 use mathlib.Core.Path.{_≡_, refl, sym, ap, _∙_}
 use mathlib.Core.Bool.{Bool, true, false}
@@ -37,7 +37,8 @@ module _ {A : Type 0} (f : A → A) where
   front-grown (suc n) (x ∷ l) d = ap (λ (t : List A). f x ∷ t) (front-grown n l d)
 
   -- one turn: the next element is read, changed and stored; past the end nothing changes
-  pub front-more : (n : ℕ) (l : List A) (d : A) → set (mapFront f n l) n (f (getD (mapFront f n l) n d)) ≡ mapFront f (n + 1) l
+  pub front-more : (n : ℕ) (l : List A) (d : A)
+      → set (mapFront f n l) n (f (getD (mapFront f n l) n d)) ≡ mapFront f (n + 1) l
   front-more n l d = rw (front-next n l d, add-one n) (front-grown n l d)
 
   -- all of a list

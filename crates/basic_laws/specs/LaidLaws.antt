@@ -1,4 +1,5 @@
--- A list laid over another: nothing laid, one part after another, one element after another, and what is laid read back.
+-- A list laid over another: nothing laid, one part after another, one element after another, and what is laid read
+-- back.
 use Prim.Native.Nat.{ℕ, _+_, _<_, _≤_}
 use mathlib.Core.Path.{_≡_, sym, ap, _∙_}
 use mathlib.Core.List.{List, [], _∷_, _++_, append-assoc, append-nil}
@@ -32,7 +33,8 @@ module _ {A : Type 0} (d : List A) (at : ℕ) where
       let l : length p ≡ at + length x = simp (length-append, length-take) (omega arith) in
       let before : take (at + length x) (p ++ q) ≡ p = take-at p q (at + length x) l in
       let after : drop (at + length x + length y) (p ++ q) ≡ drop (at + length x + length y) d =
-      ap (λ (k : ℕ). drop (k + length y) (p ++ q)) (sym l) ∙ drop-append-add p q (length y) ∙ drop-drop (length y) (at + length x) d in
+      ap (λ (k : ℕ). drop (k + length y) (p ++ q)) (sym l) ∙ drop-append-add p q (length y)
+      ∙ drop-drop (length y) (at + length x) d in
       let whole : at + length x + length y ≡ at + length (x ++ y) = rw (length-append x y) (omega arith) in
       rw (before, after, whole, append-assoc (take at d) x y)
 
@@ -53,7 +55,8 @@ laid-store d at x v n e h =
 
 -- ## A list laid element by element
 
-pub laid-next : {A : Type 0} (d : List A) (at : ℕ) (x : List A) (i n : ℕ) (z v : A) → at + i ≡ n → i < length x → n < length d
+pub laid-next : {A : Type 0} (d : List A) (at : ℕ) (x : List A) (i n : ℕ) (z v : A) → at + i ≡ n → i < length x
+    → n < length d
     → v ≡ getD x i z → set (laid d at (take i x)) n v ≡ laid d at (take (i + 1) x)
 laid-next d at x i n z v e h k same =
     let l : at + length (take i x) ≡ n = rw (length-take-le i x (le-of-lt h)) e in

@@ -1,4 +1,5 @@
--- Places of a list: what stands at one within it, what stands from one on, a store past the front, and the rest of a list of one value.
+-- Places of a list: what stands at one within it, what stands from one on, a store past the front, and the rest of a
+-- list of one value.
 use Prim.Native.Nat.{ℕ, zero, suc, _<_, _≤_, _+_, _-_}
 use mathlib.Core.Path.{_≡_, refl}
 use mathlib.Core.List.{List, [], _∷_, _++_}
@@ -13,7 +14,8 @@ getD-within (x ∷ l) (suc i) d e h = getD-within l i d e (omega arith)
 
 -- what stands from a place on, as code writes a part of a slice
 pub part-all : {A : Type 0} (l : List A) (n : ℕ) → take (length l - n) (drop n l) ≡ drop n l
-part-all l n = let s = length-drop n l in let h : length (drop n l) ≤ length l - n = omega arith in take-all (length l - n) (drop n l) h
+part-all l n = let s = length-drop n l in let h : length (drop n l) ≤ length l - n = omega arith in
+    take-all (length l - n) (drop n l) h
 
 -- ## A store past the front
 

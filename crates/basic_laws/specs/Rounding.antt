@@ -1,4 +1,5 @@
--- Whole numbers with a sign, rounded down, at any step from 1 on. A number is `pos n`, which is n, or `negsuc n`, which is -(n + 1).
+-- Whole numbers with a sign, rounded down, at any step from 1 on. A number is `pos n`, which is n, or `negsuc n`, which
+-- is -(n + 1).
 --     floorDiv z s      z divided by s, rounded down: -1 divided by 8 is -1
 --     floorTo s z       the greatest multiple of s that is not above z
 use Prim.Native.Nat.{ℕ, _/_}

@@ -1,12 +1,14 @@
--- Rounding down at any step from 1 on. `floor-below` and `floor-near` say that floorTo is the greatest multiple not above z: at most z, and less than a step below it. The
--- laws on nested steps (`div-div`, `floor-div`) say that a first rounding loses nothing for a second one by a multiple of its step.
--- A law goes by the two cases `pos n`, which is n, and `negsuc n`, which is -(n + 1): inside a case all is of natural numbers.
--- Orders are tests that compute: `leZ a b` is a ≤ b, `ltZ a b` is a < b.
+-- Rounding down at any step from 1 on. `floor-below` and `floor-near` say that floorTo is the greatest multiple not
+-- above z: at most z, and less than a step below it. The laws on nested steps (`div-div`, `floor-div`) say that a first
+-- rounding loses nothing for a second one by a multiple of its step. A law goes by the two cases `pos n`, which is n,
+-- and `negsuc n`, which is -(n + 1): inside a case all is of natural numbers. Orders are tests that compute: `leZ a b`
+-- is a ≤ b, `ltZ a b` is a < b.
 use Prim.Native.Nat.{ℕ, zero, suc, _+_, _-_, _*_, _/_, _<_, _≤_}
 use mathlib.Core.Path.{_≡_, refl, sym, ap, _∙_}
 use mathlib.Core.Bool.{Bool, true, false, false≢true}
 use native.Mathlib.Omega.{arith}
-use native.Mathlib.Nat.{div-add-mod', mod-lt, suc-mul, mul-comm, div-div-eq-div-mul, mul-div-cancel, mul-le-mul-right, div-lt-iff-lt-mul}
+use native.Mathlib.Nat.{div-add-mod', mod-lt, suc-mul, mul-comm, div-div-eq-div-mul, mul-div-cancel, mul-le-mul-right}
+use native.Mathlib.Nat.{div-lt-iff-lt-mul}
 use borrow.Author.Tests.{lt-ltb, le-ltb, le-leb, leb-true, leb-false, ltb-true, ltb-false}
 use lib.Arith.{digits-div}
 use lib.Dec.{ltb}
@@ -107,7 +109,8 @@ floor-again s z h = ap (λ q. q *ℤ pos s) (mul-div (floorDiv z s) s h)
 pub floor-div : (z : ℤ) (s t : ℕ) → 0 < s → floorDiv (floorTo s z) (s * t) ≡ floorDiv z (s * t)
 unfolding floorTo
 floor-div z s t h =
-    sym (div-div (floorDiv z s *ℤ pos s) s t) ∙ ap (λ (y : ℤ). floorDiv y t) (mul-div (floorDiv z s) s h) ∙ div-div z s t
+    sym (div-div (floorDiv z s *ℤ pos s) s t) ∙ ap (λ (y : ℤ). floorDiv y t) (mul-div (floorDiv z s) s h)
+    ∙ div-div z s t
 
 -- ## Rounding keeps the order
 
@@ -126,7 +129,8 @@ div-mono (negsuc a) (negsuc b) s h l = le-leb _ _ (quotients b a s (leb-true b a
 pub floor-mono : (a b : ℤ) (s : ℕ) → 0 < s → leZ a b ≡ true → leZ (floorTo s a) (floorTo s b) ≡ true
 floor-mono a b zero h l = absurd (omega arith)
 floor-mono (pos a) (pos b) (suc s) h l =
-    rw (floor-pos (suc s) a, floor-pos (suc s) b) (le-leb _ _ (mul-le-mul-right (suc s) (quotients a b (suc s) (leb-true a b l) h)))
+    rw (floor-pos (suc s) a, floor-pos (suc s) b)
+    (le-leb _ _ (mul-le-mul-right (suc s) (quotients a b (suc s) (leb-true a b l) h)))
 floor-mono (pos a) (negsuc b) (suc s) h l = absurd (false≢true l)
 floor-mono (negsuc a) (pos b) (suc s) h l = rw (floor-neg, floor-pos)
 floor-mono (negsuc a) (negsuc b) (suc s) h l =

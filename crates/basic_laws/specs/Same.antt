@@ -1,6 +1,7 @@
 -- Two lists side by side: whether they are the same, and how far they go alike.
 --     same v w             whether two lists of numbers are the same, element by element
---     alike p l m          how many elements from the front go alike by the test p, up to the first two that do not, or to the end of either list
+--     alike p l m          how many elements from the front go alike by the test p, up to the first two that do not, or
+--                          to the end of either list
 use Prim.Native.Nat.{ℕ, suc}
 use mathlib.Core.Bool.{Bool, true, false, _&&_}
 use mathlib.Core.List.{List, [], _∷_}

@@ -1,6 +1,7 @@
 -- Two lists compared as a loop compares them, and what follows where they are the same or go alike.
 --     same-equal, same-itself                 the test of sameness is equality
---     alike-within, alike-front, alike-parts  as many as go alike are in both lists, are the same, and the next two are not
+--     alike-within, alike-front, alike-parts  as many as go alike are in both lists, are the same, and the next two are
+--                                             not
 use Prim.Native.Nat.{ℕ, suc, _+_, _<_, _≤_}
 use mathlib.Core.Path.{_≡_, refl, sym, ap, _∙_}
 use mathlib.Core.Bool.{Bool, true, false, _&&_, false≢true}
@@ -83,7 +84,8 @@ module _ {A : Type 0} (p : A → A → Bool) where
   alike-within (x ∷ l) (y ∷ m) = by-test (p x y) (alike-within l m)
     where
       by-test : (t : Bool) → (alike p l m ≤ length l) × (alike p l m ≤ length m)
-          → ((if t then suc (alike p l m) else 0) ≤ suc (length l)) × ((if t then suc (alike p l m) else 0) ≤ suc (length m))
+          → ((if t then suc (alike p l m) else 0) ≤ suc (length l))
+          × ((if t then suc (alike p l m) else 0) ≤ suc (length m))
       by-test true h = let a = h .0 in let b = h .1 in (omega arith, omega arith)
       by-test false h = (omega arith, omega arith)
 
@@ -105,10 +107,12 @@ module _ {A : Type 0} (p : A → A → Bool) where
   unfolding alike
   alike-parts passes [] m x y l' m' d e same-two = let z : _≡_ {A = ℕ} 0 1 = cc in omega arith
   alike-parts passes (a ∷ l) [] x y l' m' d e same-two = let z : _≡_ {A = ℕ} 0 1 = cc in omega arith
-  alike-parts passes (a ∷ l) (b ∷ m) x y l' m' d e same-two = by-test (p a b) refl (λ d e. alike-parts passes l m x y l' m' d e same-two) d e
+  alike-parts passes (a ∷ l) (b ∷ m) x y l' m' d e same-two =
+      by-test (p a b) refl (λ d e. alike-parts passes l m x y l' m' d e same-two) d e
     where
       by-test : (t : Bool) → p a b ≡ t → (drop (alike p l m) l ≡ x ∷ l' → drop (alike p l m) m ≡ y ∷ m' → ⊥)
-          → drop (if t then suc (alike p l m) else 0) (a ∷ l) ≡ x ∷ l' → drop (if t then suc (alike p l m) else 0) (b ∷ m) ≡ y ∷ m' → ⊥
+          → drop (if t then suc (alike p l m) else 0) (a ∷ l) ≡ x ∷ l'
+          → drop (if t then suc (alike p l m) else 0) (b ∷ m) ≡ y ∷ m' → ⊥
       by-test true s later d e = later d e
       by-test false s later d e =
           let heads : a ≡ b = cc in

@@ -70,7 +70,8 @@ same-if-none (a ∷ l) [] h n = absurd (omega arith)
 same-if-none (true ∷ l) (true ∷ m) h n = ap (λ (t : List Bool). true ∷ t) (same-if-none l m (omega arith) (omega arith))
 same-if-none (true ∷ l) (false ∷ m) h n = absurd (omega arith)
 same-if-none (false ∷ l) (true ∷ m) h n = absurd (omega arith)
-same-if-none (false ∷ l) (false ∷ m) h n = ap (λ (t : List Bool). false ∷ t) (same-if-none l m (omega arith) (omega arith))
+same-if-none (false ∷ l) (false ∷ m) h n = ap (λ (t : List Bool). false ∷ t)
+    (same-if-none l m (omega arith) (omega arith))
 
 -- ## Ones
 

@@ -27,7 +27,8 @@ differ-parity (suc zero) (suc (suc y)) h k = absurd (omega arith)
 
 split : (a b : ℕ) → bitXor a b ≡ bitXor (a / 2) (b / 2) * 2 + (a + b) % 2
 split a b =
-    let d : differ (a % 2) (b % 2) ≡ (a % 2 + b % 2) % 2 = differ-parity (a % 2) (b % 2) (mod-lt a (lit< tt)) (mod-lt b (lit< tt)) in
+    let d : differ (a % 2) (b % 2) ≡ (a % 2 + b % 2) % 2 =
+    differ-parity (a % 2) (b % 2) (mod-lt a (lit< tt)) (mod-lt b (lit< tt)) in
     let s : bitXor a b ≡ bitXor (a / 2) (b / 2) * 2 + differ (a % 2) (b % 2) = xor-step a b in
     omega arith
 
@@ -72,11 +73,13 @@ xor-swap =
     (λ b c. rw (xor-zero-l b, xor-zero-l c) (xor-comm b c))
     (λ a ih b c.
     let m : (a + b + c) % 2 ≡ (a + c + b) % 2 = omega arith in
-    same-by-halves _ _ (half-of-three a b c ∙ ih (b / 2) (c / 2) ∙ sym (half-of-three a c b)) (low-of-three a b c ∙ m ∙ sym (low-of-three a c b)))
+    same-by-halves _ _ (half-of-three a b c ∙ ih (b / 2) (c / 2) ∙ sym (half-of-three a c b)) (low-of-three a b c ∙ m
+    ∙ sym (low-of-three a c b)))
 
 pub xor-assoc : (a b c : ℕ) → bitXor (bitXor a b) c ≡ bitXor a (bitXor b c)
 xor-assoc a b c = ap (λ (x : ℕ). bitXor x c) (xor-comm a b) ∙ xor-swap b a c ∙ xor-comm (bitXor b c) a
 
 pub xor-none : (a b : ℕ) → bitXor a b ≡ 0 → a ≡ b
 xor-none a b e =
-    sym (xor-zero-r a) ∙ ap (bitXor a) (sym (xor-self b)) ∙ sym (xor-assoc a b b) ∙ ap (λ (x : ℕ). bitXor x b) e ∙ xor-zero-l b
+    sym (xor-zero-r a) ∙ ap (bitXor a) (sym (xor-self b)) ∙ sym (xor-assoc a b b) ∙ ap (λ (x : ℕ). bitXor x b) e
+    ∙ xor-zero-l b

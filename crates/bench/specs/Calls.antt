@@ -1,7 +1,9 @@
--- The other calls on a bench: adding, the end of a conversion or a copy, and a power cycle. None of them looks at the wire, so that a device that
--- holds it stops none of them. A refusal leaves the bench as it was.
---     addedTo b new                  5 or 7 for the code, 8 for a code that is there, 9 for a 33rd device, 17 for pins over 15 where its family has pins; else the new device after the others
---     conversionFinished b code n    12 for a code that is not there, 13 unless it is converting, 11 for a count out of range; else its conversion is done
+-- The other calls on a bench: adding, the end of a conversion or a copy, and a power cycle. None of them looks at the
+-- wire, so that a device that holds it stops none of them. A refusal leaves the bench as it was.
+--     addedTo b new                  5 or 7 for the code, 8 for a code that is there, 9 for a 33rd device, 17 for pins
+--                                    over 15 where its family has pins; else the new device after the others
+--     conversionFinished b code n    12 for a code that is not there, 13 unless it is converting, 11 for a count out of
+--                                    range; else its conversion is done
 --     copyFinished b code            12 for a code that is not there, 13 unless it is copying; else its copy is done
 --     powerCycled b code             12 for a code that is not there; else the device is powered up again
 -- These name one device, the first with the code; no other changes.

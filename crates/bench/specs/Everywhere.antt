@@ -1,4 +1,5 @@
--- What no slot, reset, power cycle or finish takes from a device holds of each device of a bench after every call, if it held before: laws `..-each`.
+-- What no slot, reset, power cycle or finish takes from a device holds of each device of a bench after every call, if
+-- it held before: laws `..-each`.
 --     Invariant P      nothing that can happen to a device takes P from it
 use Prim.Native.Nat.{ℕ}
 use mathlib.Core.Path.{_≡_}
@@ -31,7 +32,13 @@ pub record Invariant (P : Device → Type 0) : Type 0 where
   pub by-copy : (d : Device) (s : Settings) → d .activity ≡ Copying s → P d → P (copyDone d s)
 
 pub sound-invariant : Invariant Sound
-sound-invariant = record { by-slot = hear-sound; by-reset = reset-sound; by-power = power-up-sound; by-conversion = conversion-sound; by-copy = copy-sound }
+sound-invariant = record {
+  by-slot = hear-sound;
+  by-reset = reset-sound;
+  by-power = power-up-sound;
+  by-conversion = conversion-sound;
+  by-copy = copy-sound;
+}
 
 -- ## The calls
 
@@ -50,11 +57,14 @@ module _ (P : Device → Type 0) (I : Invariant P) (b : Bench) (e : Each P (live
 
   pub conversion-each : (code : ℕ) (n : Sixteenths) → Each P (live (conversionFinished b code n .bench))
   conversion-each code n =
-      conversion-cases b code (λ c. Each P (live (c .bench))) (λ r z. e) n (λ range after o. one-each code (λ d. conversionDone d n) after o (I .by-conversion _ n range))
+      conversion-cases b code (λ c. Each P (live (c .bench))) (λ r z. e) n
+      (λ range after o. one-each code (λ d. conversionDone d n) after o (I .by-conversion _ n range))
 
   pub copy-each : (code : ℕ) → Each P (live (copyFinished b code .bench))
   copy-each code =
-      copy-cases b code (λ c. Each P (live (c .bench))) (λ r z. e) (λ s after o held. one-each code (λ d. copyDone d s) after o (I .by-copy _ s held))
+      copy-cases b code (λ c. Each P (live (c .bench))) (λ r z. e)
+      (λ s after o held. one-each code (λ d. copyDone d s) after o (I .by-copy _ s held))
 
   pub cycle-each : (code : ℕ) → Each P (live (powerCycled b code .bench))
-  cycle-each code = cycle-cases b code (λ c. Each P (live (c .bench))) (λ r z. e) (λ after o. one-each code powerUp after o (I .by-power _))
+  cycle-each code = cycle-cases b code (λ c. Each P (live (c .bench))) (λ r z. e)
+      (λ after o. one-each code powerUp after o (I .by-power _))

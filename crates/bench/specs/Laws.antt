@@ -1,5 +1,6 @@
--- What each call leaves of the devices on the wire (the scope, "One slot"): a slot and a reset go to every device alike, adding puts the new one
--- after the others, and a call that names a code changes the device with that code and no other. A refused call changes nothing.
+-- What each call leaves of the devices on the wire (the scope, "One slot"): a slot and a reset go to every device
+-- alike, adding puts the new one after the others, and a call that names a code changes the device with that code and
+-- no other. A refused call changes nothing.
 --     slot-cases, reset-cases, added-cases, conversion-cases, copy-cases, cycle-cases
 --                                  what holds of a refusal and of what else a call does holds of the call
 --     Added b new after            the new device stands after the others, which are as they were
@@ -47,7 +48,9 @@ use Rattle.bench.specs.declared.Slotted.{Slotted}
 use Rattle.device.specs.Record.{familyRow, holdsWire}
 use Rattle.bench.specs.Bench.{live, vacant, placeOf, free}
 use Rattle.bench.specs.Slot.{lineBit, heard, slotted, presenceOf, restarted, resetDone}
-use Rattle.bench.specs.Calls.{changed, refused, withNew, putLast, isThere, addedTo, deviceAt, withDevice, putBack, conversionFinishedAt, conversionFinished, copyFinishedAt, copyFinished, powerCycledAt, powerCycled}
+use Rattle.bench.specs.Calls.{changed, refused, withNew, putLast, isThere, addedTo, deviceAt, withDevice, putBack}
+use Rattle.bench.specs.Calls.{conversionFinishedAt, conversionFinished, copyFinishedAt, copyFinished}
+use Rattle.bench.specs.Calls.{powerCycledAt, powerCycled}
 
 -- ## A slot and a reset
 
@@ -100,7 +103,8 @@ unfolding slotted
 slot-cases b m P taken held = by-test (free b) refl
   where
     by-test : (t : Bool) → free b ≡ t
-        → P (if t then record { refusal = accepted; line = lineBit b m; bench = heard b (lineBit b m) } else record { refusal = wireBusy; line = false; bench = b })
+        → P (if t then record { refusal = accepted; line = lineBit b m; bench = heard b (lineBit b m) }
+        else record { refusal = wireBusy; line = false; bench = b })
     by-test true e = taken e
     by-test false e = held e
 
@@ -111,7 +115,8 @@ unfolding resetDone
 reset-cases b P taken held = by-test (free b) refl
   where
     by-test : (t : Bool) → free b ≡ t
-        → P (if t then record { refusal = accepted; presence = presenceOf b; bench = restarted b } else record { refusal = wireBusy; presence = false; bench = b })
+        → P (if t then record { refusal = accepted; presence = presenceOf b; bench = restarted b }
+        else record { refusal = wireBusy; presence = false; bench = b })
     by-test true e = taken e
     by-test false e = held e
 
@@ -121,11 +126,13 @@ slot-refused b m = slot-cases b m (λ r. r .refusal ≢ accepted → r .bench �
 pub reset-refused : (b : Bench) → resetDone b .refusal ≢ accepted → resetDone b .bench ≡ b
 reset-refused b = reset-cases b (λ r. r .refusal ≢ accepted → r .bench ≡ b) (λ f n. absurd (n refl)) (λ f n. refl)
 
-pub slot-accepted : (b : Bench) (m : Bool) → free b ≡ true → slotted b m ≡ record { refusal = accepted; line = lineBit b m; bench = heard b (lineBit b m) }
+pub slot-accepted : (b : Bench) (m : Bool) → free b ≡ true
+    → slotted b m ≡ record { refusal = accepted; line = lineBit b m; bench = heard b (lineBit b m) }
 unfolding slotted
 slot-accepted b m e = rw e
 
-pub reset-accepted : (b : Bench) → free b ≡ true → resetDone b ≡ record { refusal = accepted; presence = presenceOf b; bench = restarted b }
+pub reset-accepted : (b : Bench) → free b ≡ true
+    → resetDone b ≡ record { refusal = accepted; presence = presenceOf b; bench = restarted b }
 unfolding resetDone
 reset-accepted b e = rw e
 
@@ -176,7 +183,8 @@ pub added-cases : (b : Bench) (new : Joining) (P : Changed → Type 0) → lengt
 unfolding addedTo
 added-cases b new P long refusal adding = by-code (eqb (codeRefusal (new .code)) accepted) refl
   where
-    by-pins : (t : Bool) → pinsWrong (familyRow (new .code)) (new .pins) ≡ t → b .count < 32 → sound (new .code) ≡ true → placeOf b (new .code) ≡ Nowhere
+    by-pins : (t : Bool) → pinsWrong (familyRow (new .code)) (new .pins) ≡ t → b .count < 32 → sound (new .code) ≡ true
+        → placeOf b (new .code) ≡ Nowhere
         → P (if t then refused wrongPins b else changed (withNew b (joined new)))
     by-pins true r h s n = refusal wrongPins (λ e. omega arith)
     by-pins false r h s n =
@@ -193,7 +201,8 @@ added-cases b new P long refusal adding = by-code (eqb (codeRefusal (new .code))
         })
 
     by-room : (t : Bool) → ltb (b .count) 32 ≡ t → sound (new .code) ≡ true → placeOf b (new .code) ≡ Nowhere
-        → P (if not t then refused benchFull b else if pinsWrong (familyRow (new .code)) (new .pins) then refused wrongPins b else changed (withNew b (joined new)))
+        → P (if not t then refused benchFull b else if pinsWrong (familyRow (new .code)) (new .pins)
+        then refused wrongPins b else changed (withNew b (joined new)))
     by-room true r s n = by-pins (pinsWrong (familyRow (new .code)) (new .pins)) refl (ltb-true (b .count) 32 r) s n
     by-room false r s n = refusal benchFull (λ e. omega arith)
 
@@ -203,12 +212,15 @@ added-cases b new P long refusal adding = by-code (eqb (codeRefusal (new .code))
     by-place Nowhere e s = by-room (ltb (b .count) 32) refl s e
 
     by-code : (t : Bool) → sound (new .code) ≡ t
-        → P (if not t then refused (codeRefusal (new .code)) b else if isThere (placeOf b (new .code)) then refused duplicate b else putLast b new)
+        → P (if not t then refused (codeRefusal (new .code)) b else if isThere (placeOf b (new .code))
+        then refused duplicate b else putLast b new)
     by-code true s = by-place (placeOf b (new .code)) refl s
     by-code false s = refusal (codeRefusal (new .code)) (eqb-false (codeRefusal (new .code)) accepted s)
 
-pub added-refused : (b : Bench) (new : Joining) → length (b .devices) ≡ 32 → addedTo b new .refusal ≢ accepted → addedTo b new .bench ≡ b
-added-refused b new long = added-cases b new (λ c. c .refusal ≢ accepted → c .bench ≡ b) long (λ n r e. refl) (λ after a e. absurd (e refl))
+pub added-refused : (b : Bench) (new : Joining) → length (b .devices) ≡ 32 → addedTo b new .refusal ≢ accepted
+    → addedTo b new .bench ≡ b
+added-refused b new long = added-cases b new (λ c. c .refusal ≢ accepted
+    → c .bench ≡ b) long (λ n r e. refl) (λ after a e. absurd (e refl))
 
 -- ## One device
 
@@ -248,7 +260,8 @@ module _ (b : Bench) (code : ℕ) (P : Changed → Type 0) (refusal : (n : ℕ) 
   put-refused i n h = rw (ne-eqb n accepted h) (refusal n h)
 
   -- the end of a conversion: only of a device that converts, with a count in range
-  pub conversion-cases : (n : Sixteenths) → (inRange (InSixteenths n) ≡ true → (after : Bench) → OneChanged b code (λ d. conversionDone d n) after → P (changed after))
+  pub conversion-cases : (n : Sixteenths) → (inRange (InSixteenths n) ≡ true → (after : Bench)
+      → OneChanged b code (λ d. conversionDone d n) after → P (changed after))
       → P (conversionFinished b code n)
   unfolding conversionFinished
   conversion-cases n done = by-place (placeOf b code) refl
@@ -256,11 +269,13 @@ module _ (b : Bench) (code : ℕ) (P : Changed → Type 0) (refusal : (n : ℕ) 
       by-place : (p : Place) → placeOf b code ≡ p → P (conversionFinishedAt b n p)
       by-place (At i) e =
           conversion-ended-cases (deviceAt b i) n (λ x. P (putBack b i x)) (put-refused i)
-          (λ range. done range (withDevice b i (conversionDone (deviceAt b i) n)) (one-changed b code i e (λ d. conversionDone d n)))
+          (λ range. done range (withDevice b i (conversionDone (deviceAt b i) n))
+          (one-changed b code i e (λ d. conversionDone d n)))
       by-place Nowhere e = refusal notFound (λ z. omega arith)
 
   -- the end of a copy: of the settings that the device holds for it
-  pub copy-cases : ((s : Settings) (after : Bench) → (o : OneChanged b code (λ d. copyDone d s) after) → getD (live b) (o .place) vacant .activity ≡ Copying s → P (changed after))
+  pub copy-cases : ((s : Settings) (after : Bench) → (o : OneChanged b code (λ d. copyDone d s) after)
+      → getD (live b) (o .place) vacant .activity ≡ Copying s → P (changed after))
       → P (copyFinished b code)
   unfolding copyFinished one-changed
   copy-cases done = by-place (placeOf b code) refl
@@ -268,7 +283,8 @@ module _ (b : Bench) (code : ℕ) (P : Changed → Type 0) (refusal : (n : ℕ) 
       by-place : (p : Place) → placeOf b code ≡ p → P (copyFinishedAt b p)
       by-place (At i) e =
           copy-ended-cases (deviceAt b i) (λ x. P (putBack b i x)) (put-refused i) (λ s f.
-          done s (withDevice b i (copyDone (deviceAt b i) s)) (one-changed b code i e (λ d. copyDone d s)) (ap (λ d. d .activity) (device-live b code i e) ∙ f))
+          done s (withDevice b i (copyDone (deviceAt b i) s)) (one-changed b code i e (λ d. copyDone d s))
+          (ap (λ d. d .activity) (device-live b code i e) ∙ f))
       by-place Nowhere e = refusal notFound (λ z. omega arith)
 
   pub cycle-cases : ((after : Bench) → OneChanged b code powerUp after → P (changed after)) → P (powerCycled b code)
@@ -280,11 +296,15 @@ module _ (b : Bench) (code : ℕ) (P : Changed → Type 0) (refusal : (n : ℕ) 
       by-place Nowhere e = refusal notFound (λ z. omega arith)
 
 module _ (b : Bench) (code : ℕ) where
-  pub conversion-refused : (n : Sixteenths) → conversionFinished b code n .refusal ≢ accepted → conversionFinished b code n .bench ≡ b
-  conversion-refused n = conversion-cases b code (λ c. c .refusal ≢ accepted → c .bench ≡ b) (λ r z e. refl) n (λ range after o e. absurd (e refl))
+  pub conversion-refused : (n : Sixteenths) → conversionFinished b code n .refusal ≢ accepted
+      → conversionFinished b code n .bench ≡ b
+  conversion-refused n = conversion-cases b code (λ c. c .refusal ≢ accepted
+      → c .bench ≡ b) (λ r z e. refl) n (λ range after o e. absurd (e refl))
 
   pub copy-refused : copyFinished b code .refusal ≢ accepted → copyFinished b code .bench ≡ b
-  copy-refused = copy-cases b code (λ c. c .refusal ≢ accepted → c .bench ≡ b) (λ r z e. refl) (λ s after o held e. absurd (e refl))
+  copy-refused = copy-cases b code (λ c. c .refusal ≢ accepted
+      → c .bench ≡ b) (λ r z e. refl) (λ s after o held e. absurd (e refl))
 
   pub cycle-refused : powerCycled b code .refusal ≢ accepted → powerCycled b code .bench ≡ b
-  cycle-refused = cycle-cases b code (λ c. c .refusal ≢ accepted → c .bench ≡ b) (λ r z e. refl) (λ after o e. absurd (e refl))
+  cycle-refused = cycle-cases b code (λ c. c .refusal ≢ accepted
+      → c .bench ≡ b) (λ r z e. refl) (λ after o e. absurd (e refl))

@@ -1,4 +1,5 @@
--- Resets and slots (the scope, "One slot"). Both are refused with 10 while a line-powered device is busy, and then nothing changes.
+-- Resets and slots (the scope, "One slot"). Both are refused with 10 while a line-powered device is busy, and then
+-- nothing changes.
 --     lineBit b m     what the line shows: the AND of the master's bit and every live device's offer
 --     heard b l       every live device after a slot in which the line showed l
 --     slotted b m     one slot: the line's bit, and the bench after it; on the empty bench the line is the master's bit

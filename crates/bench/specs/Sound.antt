@@ -1,5 +1,6 @@
--- What holds of every bench that the calls reach (the scope, "One slot"): at most 32 devices, each with a sound code that no other has, each as
--- every device is that the calls reach: a configuration in its stored form, a reading in range, a flag that is the verdict on the page.
+-- What holds of every bench that the calls reach (the scope, "One slot"): at most 32 devices, each with a sound code
+-- that no other has, each as every device is that the calls reach: a configuration in its stored form, a reading in
+-- range, a flag that is the verdict on the page.
 --     codesOf b          the codes of the devices on the wire, in their order
 --     BenchSound b       the claim
 -- Laws: `empty-sound`, and one for each call, refused or not.

@@ -27,21 +27,27 @@ use Rattle.bench.specs.declared.Place.the-variants.{At, Nowhere}
 use Rattle.bench.specs.Bench.{live, vacant, emptyBench, placeOf}
 use Rattle.bench.specs.Slot.{lineBit, heard, slotted, restarted, resetDone}
 use Rattle.bench.specs.Calls.{addedTo, conversionFinished, copyFinished, powerCycled}
-use Rattle.bench.specs.Everywhere.{sound-invariant, heard-each, restarted-each, conversion-each, copy-each, cycle-each}
-use Rattle.bench.specs.Laws.{slot-cases, reset-cases, heard-live, heard-count, heard-places, restarted-live, restarted-count, restarted-places, Added, added-cases, OneChanged, conversion-cases, copy-cases, cycle-cases}
+use Rattle.bench.specs.Everywhere.{sound-invariant, heard-each, restarted-each, conversion-each, copy-each}
+use Rattle.bench.specs.Everywhere.{cycle-each}
+use Rattle.bench.specs.Laws.{slot-cases, reset-cases, heard-live, heard-count, heard-places, restarted-live}
+use Rattle.bench.specs.Laws.{restarted-count, restarted-places, Added, added-cases, OneChanged, conversion-cases}
+use Rattle.bench.specs.Laws.{copy-cases, cycle-cases}
 use Rattle.bench.specs.Sound.{codesOf, BenchSound}
 
 -- ## Lists
 
-codes-mapped : (f : Device → Device) → ((d : Device) → f d .code ≡ d .code) → (l : List Device) → map (λ d. d .code) (map f l) ≡ map (λ d. d .code) l
+codes-mapped : (f : Device → Device) → ((d : Device) → f d .code ≡ d .code) → (l : List Device)
+    → map (λ d. d .code) (map f l) ≡ map (λ d. d .code) l
 codes-mapped f h [] = refl
 codes-mapped f h (d ∷ l) = let i = codes-mapped f h l in rw (h d, i)
 
-codes-snoc : (l : List Device) (d : Device) → map (λ e. e .code) (l ++ (d ∷ [])) ≡ map (λ e. e .code) l ++ (d .code ∷ [])
+codes-snoc : (l : List Device) (d : Device)
+    → map (λ e. e .code) (l ++ (d ∷ [])) ≡ map (λ e. e .code) l ++ (d .code ∷ [])
 codes-snoc [] d = refl
 codes-snoc (x ∷ l) d = let i = codes-snoc l d in rw i
 
-pub codes-new : (l : List Device) (code : ℕ) → Each (λ d. d .code ≢ code) l → Each (λ c. c ≢ code) (map (λ d. d .code) l)
+pub codes-new : (l : List Device) (code : ℕ) → Each (λ d. d .code ≢ code) l
+    → Each (λ c. c ≢ code) (map (λ d. d .code) l)
 codes-new [] code e = tt
 codes-new (d ∷ l) code e = (e .0, codes-new l code (e .1))
 
@@ -59,12 +65,14 @@ first-at k (suc i) (x ∷ l) d h =
     let z : suc k + i ≡ k + suc i = omega arith in
     rw (e, ← z) (first-at (suc k) i l (d .1) i')
   where
-    absent : (l : List Device) (i c : ℕ) → i < length l → Each (λ y. c ≢ y) (map (λ d. d .code) l) → c ≢ getD l i vacant .code
+    absent : (l : List Device) (i c : ℕ) → i < length l → Each (λ y. c ≢ y) (map (λ d. d .code) l)
+        → c ≢ getD l i vacant .code
     absent [] i c h e = absurd (omega arith)
     absent (y ∷ l) zero c h e = e .0
     absent (y ∷ l) (suc i) c h e = absent l i c (omega arith) (e .1)
 
-pub place-is : (b : Bench) (i : ℕ) → Distinct (codesOf b) → i < length (live b) → placeOf b (getD (live b) i vacant .code) ≡ At i
+pub place-is : (b : Bench) (i : ℕ) → Distinct (codesOf b) → i < length (live b)
+    → placeOf b (getD (live b) i vacant .code) ≡ At i
 unfolding placeOf
 place-is b i d h = let z : 0 + i ≡ i = omega arith in rw z at (first-at 0 i (live b) d h)
 
@@ -76,10 +84,12 @@ heard-codes b l = rw (heard-live b l) (codes-mapped (λ d. hearOf d l) (λ d. he
 pub restarted-codes : (b : Bench) → codesOf (restarted b) ≡ codesOf b
 restarted-codes b = rw (restarted-live b) (codes-mapped resetOf (λ d. refl) (live b))
 
-pub added-codes : (b : Bench) (new : Joining) (after : Bench) → Added b new after → codesOf after ≡ codesOf b ++ (new .code ∷ [])
+pub added-codes : (b : Bench) (new : Joining) (after : Bench) → Added b new after
+    → codesOf after ≡ codesOf b ++ (new .code ∷ [])
 added-codes b new after a = rw (a .live-is) (codes-snoc (live b) (joined new) ∙ rw (joined-fresh new .code-is))
 
-pub one-changed-codes : (b : Bench) (code : ℕ) (f : Device → Device) → ((d : Device) → f d .code ≡ d .code) → (after : Bench) → OneChanged b code f after
+pub one-changed-codes : (b : Bench) (code : ℕ) (f : Device → Device) → ((d : Device) → f d .code ≡ d .code)
+    → (after : Bench) → OneChanged b code f after
     → codesOf after ≡ codesOf b
 one-changed-codes b code f h after o =
     rw (o .live-is) (map-set-same (λ d. d .code) (live b) (o .place) (f (getD (live b) (o .place) vacant)) vacant (h _))
@@ -123,13 +133,16 @@ added-sound b new s =
     record {
       places = a .places-are ∙ s .places;
       few = omega (arith, a .room, a .count-is);
-      codes-sound = rw (added-codes b new after a) (each-snoc (λ c. sound c ≡ true) (codesOf b) (new .code) (s .codes-sound) (a .code-sound));
-      codes-distinct = rw (added-codes b new after a) (distinct-snoc (codesOf b) (new .code) (s .codes-distinct) (codes-new (live b) (new .code) (a .code-new)));
+      codes-sound = rw (added-codes b new after a)
+          (each-snoc (λ c. sound c ≡ true) (codesOf b) (new .code) (s .codes-sound) (a .code-sound));
+      codes-distinct = rw (added-codes b new after a)
+          (distinct-snoc (codesOf b) (new .code) (s .codes-distinct) (codes-new (live b) (new .code) (a .code-new)));
       devices-sound = rw (a .live-is) (each-snoc Sound (live b) (joined new) (s .devices-sound) (joined-sound new));
     })
 
 -- a call that changes one device and no code
-one-changed-sound : (b : Bench) (code : ℕ) (f : Device → Device) → ((d : Device) → f d .code ≡ d .code) → (after : Bench) → OneChanged b code f after
+one-changed-sound : (b : Bench) (code : ℕ) (f : Device → Device) → ((d : Device) → f d .code ≡ d .code)
+    → (after : Bench) → OneChanged b code f after
     → Each Sound (live after) → BenchSound b → BenchSound after
 one-changed-sound b code f same after o each s = record {
   places = o .places-are ∙ s .places;
@@ -139,7 +152,8 @@ one-changed-sound b code f same after o each s = record {
   devices-sound = each;
 }
 
-pub conversion-finished-sound : (b : Bench) (code : ℕ) (n : Sixteenths) → BenchSound b → BenchSound (conversionFinished b code n .bench)
+pub conversion-finished-sound : (b : Bench) (code : ℕ) (n : Sixteenths) → BenchSound b
+    → BenchSound (conversionFinished b code n .bench)
 conversion-finished-sound b code n s =
     conversion-cases b code (λ c. Each Sound (live (c .bench)) → BenchSound (c .bench)) (λ r z e. s) n
     (λ range after o e. one-changed-sound b code (λ d. conversionDone d n) (λ d. conversion-code d n) after o e s)
@@ -148,7 +162,8 @@ conversion-finished-sound b code n s =
 pub copy-finished-sound : (b : Bench) (code : ℕ) → BenchSound b → BenchSound (copyFinished b code .bench)
 copy-finished-sound b code s =
     copy-cases b code (λ c. Each Sound (live (c .bench)) → BenchSound (c .bench)) (λ r z e. s)
-    (λ latched after o held e. one-changed-sound b code (λ d. copyDone d latched) (λ d. ap (λ e. e .code) (copy-only d latched)) after o e s)
+    (λ latched after o held e. one-changed-sound b code (λ d. copyDone d latched)
+    (λ d. ap (λ e. e .code) (copy-only d latched)) after o e s)
     (copy-each Sound sound-invariant b (s .devices-sound) code)
 
 pub power-cycled-sound : (b : Bench) (code : ℕ) → BenchSound b → BenchSound (powerCycled b code .bench)

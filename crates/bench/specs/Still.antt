@@ -2,7 +2,8 @@
 --     stillAt s        whether stage s is one
 use mathlib.Core.Bool.{Bool, true, false}
 use Rattle.device.specs.declared.Stage.{Stage}
-use Rattle.device.specs.declared.Stage.the-variants.{AwaitRom, SendRom, Match, Search, AwaitFunction, TakeSettings, SendScratchpad, SendStatus, SendPower, Quiet}
+use Rattle.device.specs.declared.Stage.the-variants.{AwaitRom, SendRom, Match, Search, AwaitFunction, TakeSettings}
+use Rattle.device.specs.declared.Stage.the-variants.{SendScratchpad, SendStatus, SendPower, Quiet}
 
 abbrev pub stillAt : Stage → Bool
 stillAt (AwaitRom s n) = false

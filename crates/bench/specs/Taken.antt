@@ -1,4 +1,5 @@
--- A count past the places of a table counts all of them, so that a loop may end at the smaller of the two; and a device that a slot leaves as it is need not be stored.
+-- A count past the places of a table counts all of them, so that a loop may end at the smaller of the two; and a device
+-- that a slot leaves as it is need not be stored.
 --     taken-most, front-most      the front of a table, and the front changed, by either number
 --     front-kept                  a place whose element is as it is to be
 use Prim.Native.Nat.{ℕ, zero, suc, _+_, _<_, _≤_, min}
@@ -34,12 +35,14 @@ module _ {A : Type 0} (n m : ℕ) (l : List A) (long : length l ≡ m) where
           front-past f (min n m) l (omega arith) ∙ sym (front-past f n l (omega arith))
 
 module _ {A : Type 0} (f : A → A) where
-  kept-at : (n : ℕ) (l : List A) (d : A) → n < length l → f (getD (mapFront f n l) n d) ≡ getD (mapFront f n l) n d → mapFront f n l ≡ mapFront f (suc n) l
+  kept-at : (n : ℕ) (l : List A) (d : A) → n < length l → f (getD (mapFront f n l) n d) ≡ getD (mapFront f n l) n d
+      → mapFront f n l ≡ mapFront f (suc n) l
   unfolding mapFront
   kept-at zero [] d h e = refl
   kept-at zero (x ∷ l) d h e = ap (λ (y : A). y ∷ l) (sym e)
   kept-at (suc n) [] d h e = refl
   kept-at (suc n) (x ∷ l) d h e = ap (λ (t : List A). f x ∷ t) (kept-at n l d (omega arith) e)
 
-  pub front-kept : (n : ℕ) (l m : List A) (d : A) → m ≡ mapFront f n l → n < length l → f (getD m n d) ≡ getD m n d → m ≡ mapFront f (n + 1) l
+  pub front-kept : (n : ℕ) (l m : List A) (d : A) → m ≡ mapFront f n l → n < length l → f (getD m n d) ≡ getD m n d
+      → m ≡ mapFront f (n + 1) l
   front-kept n l m d is h e = is ∙ kept-at n l d h (rw (← is) e) ∙ ap (λ (k : ℕ). mapFront f k l) (sym (add-one n))

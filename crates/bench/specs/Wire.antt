@@ -1,7 +1,9 @@
--- The wire of a bench (the scope, "One slot"): what the devices on it do together. A bench has a table of places, of which the first `count` are taken.
+-- The wire of a bench (the scope, "One slot"): what the devices on it do together. A bench has a table of places, of
+-- which the first `count` are taken.
 --     freeWire l                  whether no device of l holds the wire: a busy device that is powered from it
 --     lineShown l m               what the line shows: the AND of the master's bit and every device's offer
---     allHeard count table l      the table after a slot in which the line showed l: every device that is there takes the bit
+--     allHeard count table l      the table after a slot in which the line showed l: every device that is there takes
+--                                 the bit
 --     allRestarted count table    the table after a reset: every device that is there listens for a ROM command
 use Prim.Native.Nat.{ℕ}
 use mathlib.Core.Bool.{Bool, not, _&&_}

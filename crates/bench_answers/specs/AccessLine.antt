@@ -1,5 +1,5 @@
--- The line that answers a read or a write at a code: REFUSAL PAD READING FINE. PAD is the nine bytes as they were sent, READING the four digits of the reading, FINE the fine reading as a fraction, 0/0 where
--- there is none.
+-- The line that answers a read or a write at a code: REFUSAL PAD READING FINE. PAD is the nine bytes as they were sent,
+-- READING the four digits of the reading, FINE the fine reading as a fraction, 0/0 where there is none.
 --     readingDigits r        the digits of a reading, byte 1 of its register first
 --     over n d               a number with a sign over another
 --     accessFields           the four fields, as they are put

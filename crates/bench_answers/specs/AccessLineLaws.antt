@@ -13,7 +13,8 @@ use Rattle.text.specs.FieldsLaws.{byte-digits, word-digits, signed-digits}
 use Rattle.temperature.specs.declared.Reading.{Reading}
 use Rattle.bench_answers.specs.AccessLine.{readingDigits, accessFields}
 
-pub access-short : (refusal : ℕ) (pad : List ℕ) (reading : Reading) (n : ℤ) (d : ℕ) → refusal < 256 → length pad ≡ 9 → SFits w32 n → d < 65536
+pub access-short : (refusal : ℕ) (pad : List ℕ) (reading : Reading) (n : ℤ) (d : ℕ) → refusal < 256 → length pad ≡ 9
+    → SFits w32 n → d < 65536
     → length (accessFields refusal pad reading n d) ≤ lineRoom
 unfolding accessFields
 access-short refusal pad reading n d h k f g =
@@ -25,5 +26,6 @@ access-short refusal pad reading n d h k f g =
     simp length-append (omega arith)
 
 -- the mark behind a fraction stands behind its denominator
-pub mark-behind : (numerator denominator : List ℕ) (c : ℕ) → numerator ++ 0x2F ∷ (denominator ++ c ∷ []) ≡ (numerator ++ 0x2F ∷ denominator) ++ c ∷ []
+pub mark-behind : (numerator denominator : List ℕ) (c : ℕ)
+    → numerator ++ 0x2F ∷ (denominator ++ c ∷ []) ≡ (numerator ++ 0x2F ∷ denominator) ++ c ∷ []
 mark-behind numerator denominator c = rw (append-assoc numerator (0x2F ∷ denominator) (c ∷ []))

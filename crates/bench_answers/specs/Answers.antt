@@ -1,4 +1,5 @@
--- The lines that answer the calls. Numbers are in plain decimal, one space stands between fields, a truth value is 0 or 1.
+-- The lines that answer the calls. Numbers are in plain decimal, one space stands between fields, a truth value is 0 or
+-- 1.
 --     badLine                ?, to a line that matches no call
 --     refusalLine            REFUSAL, of an adding, a finish or a power cycle
 --     bitLine                REFUSAL PRESENCE of a reset, REFUSAL LINE of a slot
@@ -31,7 +32,8 @@ unfoldable pub bitLine : ℕ → Bool → List ℕ
 bitLine r b = line (decimal r ∷ flag b ∷ [])
 
 unfoldable pub searchLine : ℕ → ℕ → ℕ → ℕ → ℕ → List ℕ
-searchLine r codes passes slots bytes = line (decimal r ∷ decimal codes ∷ decimal passes ∷ decimal slots ∷ decimal bytes ∷ [])
+searchLine r codes passes slots bytes = line
+    (decimal r ∷ decimal codes ∷ decimal passes ∷ decimal slots ∷ decimal bytes ∷ [])
 
 unfoldable pub codeLine : ℕ → List ℕ
 codeLine code = line (codeDigits code ∷ [])
@@ -52,7 +54,8 @@ busyDigit (Copying s) = ascii "2"
 
 -- what is shown of a device
 unfoldable pub recordLine : ℕ → List ℕ → Settings → Bool → Activity → List ℕ
-recordLine r pad eeprom alarm activity = line (decimal r ∷ hexOf pad ∷ settingsDigits eeprom ∷ flag alarm ∷ busyDigit activity ∷ [])
+recordLine r pad eeprom alarm activity = line
+    (decimal r ∷ hexOf pad ∷ settingsDigits eeprom ∷ flag alarm ∷ busyDigit activity ∷ [])
 
 -- a device, or the refusal and zeros
 unfoldable pub showLine : Looked → List ℕ

@@ -15,7 +15,8 @@ use Rattle.text.specs.DigitsLaws.{digits-length, hex-length}
 use Rattle.device.specs.declared.Activity.{Activity}
 use Rattle.device.specs.declared.Activity.the-variants.{Idle, Converting, Copying}
 use Rattle.device.specs.declared.Settings.{Settings}
-use Rattle.bench_answers.specs.Answers.{badLine, refusalLine, bitLine, searchLine, codeLine, codeLines, settingsDigits, busyDigit, recordLine, showLine}
+use Rattle.bench_answers.specs.Answers.{badLine, refusalLine, bitLine, searchLine, codeLine, codeLines}
+use Rattle.bench_answers.specs.Answers.{settingsDigits, busyDigit, recordLine, showLine}
 use Rattle.text.specs.Putting.{lineRoom}
 use Rattle.text.specs.FieldsLaws.{byte-digits, word-digits, flag-length}
 
@@ -39,7 +40,8 @@ pub bit-short : (r : ℕ) (b : Bool) → r < 256 → length (bitLine r b) ≤ li
 unfolding bitLine
 bit-short r b h = let l = byte-digits r h in let f = flag-length b in simp length-append (omega arith)
 
-pub search-short : (r codes passes slots bytes : ℕ) → r < 256 → codes < 256 → passes < 256 → slots < 65536 → bytes < 65536
+pub search-short : (r codes passes slots bytes : ℕ) → r < 256 → codes < 256 → passes < 256 → slots < 65536
+    → bytes < 65536
     → length (searchLine r codes passes slots bytes) ≤ lineRoom
 unfolding searchLine
 search-short r codes passes slots bytes p q s t u =
@@ -57,7 +59,8 @@ code-length code = let l = digits-length 16 16 code in simp length-append (omega
 pub code-short : (code : ℕ) → length (codeLine code) ≤ lineRoom
 code-short code = let l = code-length code in omega arith
 
-pub record-short : (r : ℕ) (pad : List ℕ) (eeprom : Settings) (alarm : Bool) (activity : Activity) → r < 256 → length pad ≡ 8
+pub record-short : (r : ℕ) (pad : List ℕ) (eeprom : Settings) (alarm : Bool) (activity : Activity) → r < 256
+    → length pad ≡ 8
     → length (recordLine r pad eeprom alarm activity) ≤ lineRoom
 unfolding recordLine
 record-short r pad eeprom alarm activity h k =
@@ -81,10 +84,12 @@ code-lines-length (c ∷ cs) =
 pub codes-append : (a b : List ℕ) → codeLines (a ++ b) ≡ codeLines a ++ codeLines b
 unfolding codeLines
 codes-append [] b = refl
-codes-append (c ∷ a) b = ap (λ (x : List ℕ). codeLine c ++ x) (codes-append a b) ∙ sym (append-assoc (codeLine c) (codeLines a) (codeLines b))
+codes-append (c ∷ a) b = ap (λ (x : List ℕ). codeLine c ++ x) (codes-append a b)
+    ∙ sym (append-assoc (codeLine c) (codeLines a) (codeLines b))
 
 -- one code more
-pub codes-next : (cs : List ℕ) (i : ℕ) → i < length cs → codeLines (take (i + 1) cs) ≡ codeLines (take i cs) ++ codeLine (getD cs i 0)
+pub codes-next : (cs : List ℕ) (i : ℕ) → i < length cs
+    → codeLines (take (i + 1) cs) ≡ codeLines (take i cs) ++ codeLine (getD cs i 0)
 unfolding codeLines
 codes-next cs i h =
     rw (add-one i, take-suc cs i 0 h, codes-append (take i cs) (getD cs i 0 ∷ []), append-nil (codeLine (getD cs i 0)))
@@ -94,7 +99,11 @@ unfolding showLine
 show-short l h k = by-test (eqb (l .refusal) accepted)
   where
     by-test : (t : Bool)
-        → length (if t then recordLine accepted (l .device .scratchpad) (l .device .eeprom) (l .device .alarm) (l .device .activity)
-        else recordLine (l .refusal) (replicate 8 0) (record { high = 0; low = 0; configuration = 0 }) false Idle) ≤ lineRoom
-    by-test true = record-short accepted (l .device .scratchpad) (l .device .eeprom) (l .device .alarm) (l .device .activity) (omega arith) k
-    by-test false = record-short (l .refusal) (replicate 8 0) (record { high = 0; low = 0; configuration = 0 }) false Idle h (omega arith)
+        → length (if t then recordLine accepted (l .device .scratchpad) (l .device .eeprom) (l .device .alarm)
+        (l .device .activity)
+        else recordLine (l .refusal) (replicate 8 0) (record { high = 0; low = 0; configuration = 0 }) false Idle)
+        ≤ lineRoom
+    by-test true = record-short accepted (l .device .scratchpad) (l .device .eeprom) (l .device .alarm)
+        (l .device .activity) (omega arith) k
+    by-test false = record-short (l .refusal) (replicate 8 0) (record { high = 0; low = 0; configuration = 0 }) false
+        Idle h (omega arith)

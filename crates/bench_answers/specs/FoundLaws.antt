@@ -16,7 +16,8 @@ use Rattle.text.specs.LayingLaws.{lay-fits}
 use Rattle.text.specs.declared.laying.Written.{Written}
 use Rattle.frame.specs.Recording.{writeAll}
 use Rattle.bench.specs.declared.Bench.{Bench}
-use Rattle.master_rules.specs.Search.{fewestPlaces, fewestBytes, Outcome, searchOutcome, answerOf, listAfter, recordingAfter}
+use Rattle.master_rules.specs.Search.{fewestPlaces, fewestBytes, Outcome, searchOutcome, answerOf, listAfter}
+use Rattle.master_rules.specs.Search.{recordingAfter}
 use Rattle.master_rules.specs.declared.Searched.{Searched}
 use Rattle.search.specs.Sweep.{search-bounded}
 use Rattle.bench_answers.specs.Answers.{searchLine, codeLine, codeLines}
@@ -28,7 +29,8 @@ use Rattle.bench_answers.specs.Whole.{room, Says}
 use Rattle.bench_answers.specs.Found.{ofSearch}
 
 -- a line at a place with room for it
-module _ (d : List ℕ) (at : ℕ) (x d' : List ℕ) (w : Written) (answer : w ≡ lineAnswer d at x) (leaves : d' ≡ lineLeaves d at x) where
+module _ (d : List ℕ) (at : ℕ) (x d' : List ℕ) (w : Written) (answer : w ≡ lineAnswer d at x) (leaves : d'
+    ≡ lineLeaves d at x) where
   pub line-laid : at + lineRoom ≤ length d → (w .next ≡ at + length x) × (d' ≡ laid d at x)
   line-laid h =
       let e = le-leb (at + lineRoom) (length d) h in
@@ -47,18 +49,25 @@ module _ (d head codes frames d₁ d₂ d₃ : List ℕ) (first last : Written) 
       let behind : first .next ≡ length head = one .0 ∙ omega arith in
       let size-one : length d₁ ≡ length d = ap length (one .1) ∙ laid-length d 0 head (omega arith) in
       let two : d₂ ≡ laid d 0 (head ++ codes) =
-      two-leaves ∙ ap (λ (e : List ℕ). laid e (first .next) codes) (one .1) ∙ laid-then d 0 head codes (first .next) (sym (one .0)) (omega arith) in
+      two-leaves ∙ ap (λ (e : List ℕ). laid e (first .next) codes) (one .1)
+      ∙ laid-then d 0 head codes (first .next) (sym (one .0)) (omega arith) in
       let both = length-append head codes in
       let size-two : length d₂ ≡ length d = ap length two ∙ laid-length d 0 (head ++ codes) (omega arith) in
       let three = lay-fits d₂ n frames (omega arith) in
       let place : 0 + length (head ++ codes) ≡ n = omega arith in
       let all : d₃ ≡ laid d 0 (head ++ (codes ++ frames)) =
-      three-leaves ∙ three .1 ∙ ap (λ (e : List ℕ). laid e n frames) two ∙ laid-then d 0 (head ++ codes) frames n place (omega arith)
+      three-leaves ∙ three .1 ∙ ap (λ (e : List ℕ). laid e n frames) two
+      ∙ laid-then d 0 (head ++ codes) frames n place (omega arith)
       ∙ ap (laid d 0) (append-assoc head codes frames) in
       let rest = length-append codes frames in
       let whole = length-append head (codes ++ frames) in
-      let count : last .next ≡ length (head ++ (codes ++ frames)) = ap (λ (w : Written). w .next) (three-is ∙ three .0) ∙ omega arith in
-      record { said = ap (λ (m : ℕ). record { refusal = accepted; count = m; bench = b }) count; laid-is = all; fits = omega arith }
+      let count : last .next ≡ length (head ++ (codes ++ frames)) =
+      ap (λ (w : Written). w .next) (three-is ∙ three .0) ∙ omega arith in
+      record {
+        said = ap (λ (m : ℕ). record { refusal = accepted; count = m; bench = b }) count;
+        laid-is = all;
+        fits = omega arith;
+      }
 
 pub codes-few : (cs : List ℕ) → length cs ≤ 32 → length (codeLines cs) ≤ 544
 codes-few cs h = let l = code-lines-length cs in omega arith
@@ -70,12 +79,14 @@ unfolding codeLines
 codes-begun out at cs = laid-none out at
 
 module _ (out₀ : List ℕ) (at : ℕ) (cs : List ℕ) (fits : at + 17 * length cs + lineRoom ≤ length out₀) where
-  pub codes-turn : (i to : ℕ) (out out' : List ℕ) (w : Written) → i < length cs → to ≡ at + 17 * i → out ≡ laid out₀ at (codeLines (take i cs))
+  pub codes-turn : (i to : ℕ) (out out' : List ℕ) (w : Written) → i < length cs → to ≡ at + 17 * i
+      → out ≡ laid out₀ at (codeLines (take i cs))
       → w ≡ lineAnswer out to (codeLine (getD cs i 0)) → out' ≡ lineLeaves out to (codeLine (getD cs i 0))
       → (w .next ≡ at + 17 * (i + 1)) × (out' ≡ laid out₀ at (codeLines (take (i + 1) cs)))
   codes-turn i to out out' w within place so answer leaves =
       let front : length (take i cs) ≡ i = length-take-le i cs (omega arith) in
-      let long : length (codeLines (take i cs)) ≡ 17 * i = code-lines-length (take i cs) ∙ ap (λ (n : ℕ). 17 * n) front in
+      let long : length (codeLines (take i cs)) ≡ 17 * i =
+      code-lines-length (take i cs) ∙ ap (λ (n : ℕ). 17 * n) front in
       let size : length out ≡ length out₀ = ap length so ∙ laid-length out₀ at (codeLines (take i cs)) (omega arith) in
       let done = line-laid out to (codeLine (getD cs i 0)) out' w answer leaves (omega arith) in
       let one = code-length (getD cs i 0) in
@@ -87,39 +98,55 @@ module _ (out₀ : List ℕ) (at : ℕ) (cs : List ℕ) (fits : at + 17 * length
             ∙ ap (laid out₀ at) (sym (codes-next cs i within)),
       )
 
-  pub codes-size : (i : ℕ) (out : List ℕ) → i ≤ length cs → out ≡ laid out₀ at (codeLines (take i cs)) → length out ≡ length out₀
+  pub codes-size : (i : ℕ) (out : List ℕ) → i ≤ length cs → out ≡ laid out₀ at (codeLines (take i cs))
+      → length out ≡ length out₀
   codes-size i out h so =
-      let long : length (codeLines (take i cs)) ≡ 17 * i = code-lines-length (take i cs) ∙ ap (λ (n : ℕ). 17 * n) (length-take-le i cs h) in
+      let long : length (codeLines (take i cs)) ≡ 17 * i =
+      code-lines-length (take i cs) ∙ ap (λ (n : ℕ). 17 * n) (length-take-le i cs h) in
       ap length so ∙ laid-length out₀ at (codeLines (take i cs)) (omega arith)
 
-  pub codes-end : (i to : ℕ) (out : List ℕ) → length cs ≤ i → i ≤ length cs → to ≡ at + 17 * i → out ≡ laid out₀ at (codeLines (take i cs))
+  pub codes-end : (i to : ℕ) (out : List ℕ) → length cs ≤ i → i ≤ length cs → to ≡ at + 17 * i
+      → out ≡ laid out₀ at (codeLines (take i cs))
       → (to ≡ at + 17 * length cs) × (out ≡ laid out₀ at (codeLines cs))
-  codes-end i to out h k place so = (omega arith, so ∙ ap (λ (x : List ℕ). laid out₀ at (codeLines x)) (take-all i cs h))
+  codes-end i to out h k place so = (
+    omega arith,
+    so ∙ ap (λ (x : List ℕ). laid out₀ at (codeLines x)) (take-all i cs h),
+  )
 
 -- ## What a search left in what it was lent
 
 -- the front of a list that was laid over
-module _ (command : ℕ) (b : Bench) (list recording list' recording' : List ℕ) (r : Searched) (is : r ≡ answerOf (searchOutcome command b (length list) (length recording))) where
+module _ (command : ℕ) (b : Bench) (list recording list' recording' : List ℕ) (r : Searched) (is : r
+    ≡ answerOf (searchOutcome command b (length list) (length recording))) where
   pub codes-part : list' ≡ listAfter list (searchOutcome command b (length list) (length recording))
-      → (r .codes ≤ length list') × (take (r .codes) list' ≡ searchOutcome command b (length list) (length recording) .listed) × (r .codes ≡ length (take (r .codes) list'))
+      → (r .codes ≤ length list') × (take (r .codes) list'
+      ≡ searchOutcome command b (length list) (length recording) .listed)
+      × (r .codes ≡ length (take (r .codes) list'))
   codes-part so =
-      laid-front list (searchOutcome command b (length list) (length recording) .listed) list' (r .codes) (ap (λ (q : Searched). q .codes) is) so
+      laid-front list (searchOutcome command b (length list) (length recording) .listed) list' (r .codes)
+      (ap (λ (q : Searched). q .codes) is) so
       (search-bounded command b (length list) (length recording) .codes-lent)
 
   pub bytes-part : recording' ≡ recordingAfter recording (searchOutcome command b (length list) (length recording))
-      → (r .bytes ≤ length recording') × (take (r .bytes) recording' ≡ writeAll (searchOutcome command b (length list) (length recording) .frames))
+      → (r .bytes ≤ length recording') × (take (r .bytes) recording'
+      ≡ writeAll (searchOutcome command b (length list) (length recording) .frames))
       × (r .bytes ≡ length (take (r .bytes) recording'))
   bytes-part so =
-      laid-front recording (writeAll (searchOutcome command b (length list) (length recording) .frames)) recording' (r .bytes) (ap (λ (q : Searched). q .bytes) is) so
+      laid-front recording (writeAll (searchOutcome command b (length list) (length recording) .frames)) recording'
+      (r .bytes) (ap (λ (q : Searched). q .bytes) is) so
       (search-bounded command b (length list) (length recording) .bytes-lent)
 
 module _ (d : List ℕ) (o : Outcome) (r : Searched) (cs fs d' : List ℕ) (s : Said) where
   pub says-outcome : r ≡ answerOf o → cs ≡ o .listed → fs ≡ writeAll (o .frames)
-      → Says d (says (searchLine (r .refusal) (length cs) (r .passes) (r .slots) (length fs) ++ (codeLines cs ++ fs)) (r .bench)) d' s → Says d (ofSearch o) d' s
+      → Says d (says (searchLine (r .refusal) (length cs) (r .passes) (r .slots) (length fs)
+      ++ (codeLines cs ++ fs)) (r .bench)) d' s → Says d (ofSearch o) d' s
   says-outcome e f g k =
-      subst (λ (q : Searched). Says d (says (searchLine (q .refusal) (length (o .listed)) (q .passes) (q .slots) (length (writeAll (o .frames))) ++ (codeLines (o .listed) ++ writeAll (o .frames))) (q .bench)) d' s) e
-      (subst (λ (c : List ℕ). Says d (says (searchLine (r .refusal) (length c) (r .passes) (r .slots) (length (writeAll (o .frames))) ++ (codeLines c ++ writeAll (o .frames))) (r .bench)) d' s) f
-      (subst (λ (h : List ℕ). Says d (says (searchLine (r .refusal) (length cs) (r .passes) (r .slots) (length h) ++ (codeLines cs ++ h)) (r .bench)) d' s) g k))
+      subst (λ (q : Searched). Says d (says (searchLine (q .refusal) (length (o .listed)) (q .passes) (q .slots)
+      (length (writeAll (o .frames))) ++ (codeLines (o .listed) ++ writeAll (o .frames))) (q .bench)) d' s) e
+      (subst (λ (c : List ℕ). Says d (says (searchLine (r .refusal) (length c) (r .passes) (r .slots)
+      (length (writeAll (o .frames))) ++ (codeLines c ++ writeAll (o .frames))) (r .bench)) d' s) f
+      (subst (λ (h : List ℕ). Says d (says (searchLine (r .refusal) (length cs) (r .passes) (r .slots) (length h)
+      ++ (codeLines cs ++ h)) (r .bench)) d' s) g k))
 
 -- ## What is lent
 

@@ -1,5 +1,7 @@
--- The answer to the call for address pins, part by part. A probe's line is at most 21 bytes, so that 32 of them and the counts are within the room.
---     Put                       what the loop over the probes has put: the lines of the first i, and the place behind them
+-- The answer to the call for address pins, part by part. A probe's line is at most 21 bytes, so that 32 of them and the
+-- counts are within the room.
+--     Put                       what the loop over the probes has put: the lines of the first i, and the place behind
+--                               them
 --     says-pins                 the counts and the lines behind them are one answer
 --     codes-front, pins-front   the codes and pins found are the front of the list lent and of the pins answered
 --     says-asked                so that what is said of those is said of what the call came to
@@ -41,11 +43,13 @@ unfolding sharedFrom
 shared-digits zero p pins h = lit≤ tt
 shared-digits (suc n) p pins h = by-test (ltb 1 (havePin pins p)) (shared-digits n (p + 1) pins (omega (arith, h)))
   where
-    by-test : (t : Bool) → length (sharedText (sharedFrom n (p + 1) pins)) ≤ 3 → length (sharedText (if t then Pin p else sharedFrom n (p + 1) pins)) ≤ 3
+    by-test : (t : Bool) → length (sharedText (sharedFrom n (p + 1) pins)) ≤ 3
+        → length (sharedText (if t then Pin p else sharedFrom n (p + 1) pins)) ≤ 3
     by-test true i = byte-digits p (omega (arith, h))
     by-test false i = i
 
-pub counts-short : (refusal codes : ℕ) (pins : List ℕ) → refusal < 256 → codes < 256 → length (pinsLine refusal codes (sharedPin pins)) ≤ lineRoom
+pub counts-short : (refusal codes : ℕ) (pins : List ℕ) → refusal < 256 → codes < 256
+    → length (pinsLine refusal codes (sharedPin pins)) ≤ lineRoom
 unfolding pinsLine
 counts-short refusal codes pins h k =
     let a = byte-digits refusal h in
@@ -63,14 +67,16 @@ pins-refusal-short refusal h =
 -- ## Probe by probe
 
 pub pins-next : (i : ℕ) (cs ps : List ℕ) → i < length cs → i < length ps
-    → pinLines (take (suc i) cs) (take (suc i) ps) ≡ pinLines (take i cs) (take i ps) ++ pinLine (getD cs i 0) (getD ps i 0)
+    → pinLines (take (suc i) cs) (take (suc i) ps)
+    ≡ pinLines (take i cs) (take i ps) ++ pinLine (getD cs i 0) (getD ps i 0)
 unfolding pinLines
 pins-next i [] ps h k = absurd (omega (arith, h))
 pins-next i (c ∷ cs) [] h k = absurd (omega (arith, k))
 pins-next zero (c ∷ cs) (p ∷ ps) h k = append-nil (pinLine c p)
 pins-next (suc i) (c ∷ cs) (p ∷ ps) h k =
     let more = pins-next i cs ps (omega (arith, h)) (omega (arith, k)) in
-    ap (λ (x : List ℕ). pinLine c p ++ x) more ∙ sym (append-assoc (pinLine c p) (pinLines (take i cs) (take i ps)) (pinLine (getD cs i 0) (getD ps i 0)))
+    ap (λ (x : List ℕ). pinLine c p ++ x) more
+    ∙ sym (append-assoc (pinLine c p) (pinLines (take i cs) (take i ps)) (pinLine (getD cs i 0) (getD ps i 0)))
 
 -- what the loop has put before place i
 pub record Put (out₀ : List ℕ) (at : ℕ) (cs ps : List ℕ) (i to : ℕ) (out : List ℕ) : Type 0 where
@@ -78,35 +84,42 @@ pub record Put (out₀ : List ℕ) (at : ℕ) (cs ps : List ℕ) (i to : ℕ) (o
   pub short : length (pinLines (take i cs) (take i ps)) ≤ 21 * i
   pub laid-so : out ≡ laid out₀ at (pinLines (take i cs) (take i ps))
 
-module _ (out₀ : List ℕ) (at : ℕ) (cs ps : List ℕ) (same : length cs ≡ length ps) (fits : at + 21 * length cs ≤ length out₀) where
+module _ (out₀ : List ℕ) (at : ℕ) (cs ps : List ℕ) (same : length cs
+    ≡ length ps) (fits : at + 21 * length cs ≤ length out₀) where
   pub put-none : Put out₀ at cs ps 0 at out₀
   unfolding pinLines
   put-none = record { place = omega arith; short = lit≤ tt; laid-so = laid-none out₀ at }
 
   pub put-size : (i to : ℕ) (out : List ℕ) → i ≤ length cs → Put out₀ at cs ps i to out → length out ≡ length out₀
-  put-size i to out h p = let s = p .short in ap length (p .laid-so) ∙ laid-length out₀ at (pinLines (take i cs) (take i ps)) (omega arith)
+  put-size i to out h p = let s = p .short in
+      ap length (p .laid-so) ∙ laid-length out₀ at (pinLines (take i cs) (take i ps)) (omega arith)
 
   pub put-more : (i to : ℕ) (out out' : List ℕ) (r : ℕ) → i < length cs → Put out₀ at cs ps i to out
-      → Puts out to (pinLine (getD cs i 0) (getD ps i 0)) out' r → length (pinLine (getD cs i 0) (getD ps i 0)) ≤ 21 → Put out₀ at cs ps (i + 1) r out'
+      → Puts out to (pinLine (getD cs i 0) (getD ps i 0)) out' r → length (pinLine (getD cs i 0) (getD ps i 0)) ≤ 21
+      → Put out₀ at cs ps (i + 1) r out'
   put-more i to out out' r h p done few =
       let one = pinLine (getD cs i 0) (getD ps i 0) in
       let before = pinLines (take i cs) (take i ps) in
       let size = put-size i to out (omega (arith, h)) p in
       let place = p .place in
       let short = p .short in
-      let next : pinLines (take (i + 1) cs) (take (i + 1) ps) ≡ before ++ one = rw (add-one i) (pins-next i cs ps h (omega (arith, h, same))) in
+      let next : pinLines (take (i + 1) cs) (take (i + 1) ps) ≡ before ++ one =
+      rw (add-one i) (pins-next i cs ps h (omega (arith, h, same))) in
       let both = length-append before one in
       let so = done .puts (omega arith) in
       let behind = so .1 in
-      let long : length (pinLines (take (i + 1) cs) (take (i + 1) ps)) ≡ length before + length one = ap length next ∙ both in
+      let long : length (pinLines (take (i + 1) cs) (take (i + 1) ps)) ≡ length before + length one =
+      ap length next ∙ both in
       record {
         place = omega arith;
         short = omega arith;
-        laid-so = so .0 ∙ ap (λ (d : List ℕ). laid d to one) (p .laid-so) ∙ laid-then out₀ at before one to (sym place) (omega arith) ∙ ap (laid out₀ at) (sym next);
+        laid-so = so .0 ∙ ap (λ (d : List ℕ). laid d to one) (p .laid-so)
+            ∙ laid-then out₀ at before one to (sym place) (omega arith) ∙ ap (laid out₀ at) (sym next);
       }
 
   pub put-all : (i to : ℕ) (out : List ℕ) → length cs ≤ i → i ≤ length cs → Put out₀ at cs ps i to out
-      → (to ≡ at + length (pinLines cs ps)) × (out ≡ laid out₀ at (pinLines cs ps)) × (length (pinLines cs ps) ≤ 21 * length cs)
+      → (to ≡ at + length (pinLines cs ps)) × (out ≡ laid out₀ at (pinLines cs ps))
+      × (length (pinLines cs ps) ≤ 21 * length cs)
   put-all i to out h k p =
       let front : take i cs ≡ cs = take-all i cs h in
       let front-pins : take i ps ≡ ps = take-all i ps (omega (arith, h, same)) in
@@ -130,44 +143,68 @@ module _ (d x d₁ : List ℕ) (n : ℕ) (wide : room ≤ length d) (few : lengt
       let place = c .0 in
       let both = length-append x y in
       let sum : m ≡ length (x ++ y) = omega arith in
-      let all : d₂ ≡ laid d 0 (x ++ y) = so ∙ ap (λ (e : List ℕ). laid e n y) (c .1) ∙ laid-then d 0 x y n (omega arith) (omega arith) in
-      record { said = ap (λ (k : ℕ). record { refusal = accepted; count = k; bench = b }) sum; laid-is = all; fits = omega arith }
+      let all : d₂ ≡ laid d 0 (x ++ y) = so ∙ ap (λ (e : List ℕ). laid e n y) (c .1)
+      ∙ laid-then d 0 x y n (omega arith) (omega arith) in
+      record {
+        said = ap (λ (k : ℕ). record { refusal = accepted; count = k; bench = b }) sum;
+        laid-is = all;
+        fits = omega arith;
+      }
 
 -- ## What the call came to
 
 -- the codes and the pins are the front of what was lent and answered
-module _ (b : Bench) (list list' : List ℕ) (r : Pinned) (is : r ≡ pinnedOf (pinsOutcome b (length list))) (so : list' ≡ pinsListAfter list (pinsOutcome b (length list))) where
+module _ (b : Bench) (list list' : List ℕ) (r : Pinned) (is : r ≡ pinnedOf (pinsOutcome b (length list))) (so : list'
+    ≡ pinsListAfter list (pinsOutcome b (length list))) where
   count-is : r .codes ≡ length (pinsOutcome b (length list) .found .codes)
   count-is = ap (λ (q : Pinned). q .codes) is
 
   pub codes-front : take (r .codes) list' ≡ pinsOutcome b (length list) .found .codes
-  codes-front = ap (λ (n : ℕ). take n list') count-is ∙ ap (take (length (pinsOutcome b (length list) .found .codes))) so ∙ laid-read list 0 (pinsOutcome b (length list) .found .codes) (omega arith)
+  codes-front = ap (λ (n : ℕ). take n list') count-is
+      ∙ ap (take (length (pinsOutcome b (length list) .found .codes))) so
+      ∙ laid-read list 0 (pinsOutcome b (length list) .found .codes) (omega arith)
 
   pub pins-front : take (r .codes) (r .pins) ≡ pinsOutcome b (length list) .found .pins
   pins-front =
       let f = pinsOutcome b (length list) .found in
-      ap (λ (n : ℕ). take n (r .pins)) (count-is ∙ sym (found-few b (length list) .as-many)) ∙ ap (λ (q : Pinned). take (length (f .pins)) (q .pins)) is ∙ laid-read (replicate 32 0) 0 (f .pins) (omega arith)
+      ap (λ (n : ℕ). take n (r .pins)) (count-is ∙ sym (found-few b (length list) .as-many))
+      ∙ ap (λ (q : Pinned). take (length (f .pins)) (q .pins)) is
+      ∙ laid-read (replicate 32 0) 0 (f .pins) (omega arith)
 
   pub codes-within : r .codes ≤ length list'
   codes-within = omega (arith, length-take (r .codes) list', ap length codes-front, count-is)
 
   pub pins-within : r .codes ≤ length (r .pins)
-  pins-within = omega (arith, length-take (r .codes) (r .pins), ap length pins-front, found-few b (length list) .as-many, count-is)
+  pins-within = omega (
+    arith,
+    length-take (r .codes) (r .pins),
+    ap length pins-front,
+    found-few b (length list) .as-many,
+    count-is,
+  )
 
-  pub asked-few : (length (take (r .codes) list') ≤ 32) × (length (take (r .codes) list') ≡ length (take (r .codes) (r .pins)))
-  asked-few = (omega (arith, ap length codes-front, found-few b (length list) .most), ap length codes-front ∙ sym (found-few b (length list) .as-many) ∙ sym (ap length pins-front))
+  pub asked-few : (length (take (r .codes) list') ≤ 32)
+      × (length (take (r .codes) list') ≡ length (take (r .codes) (r .pins)))
+  asked-few = (
+    omega (arith, ap length codes-front, found-few b (length list) .most),
+    ap length codes-front ∙ sym (found-few b (length list) .as-many) ∙ sym (ap length pins-front),
+  )
 
-  pub asked-short : r .refusal < 256 → length (pinsLine (r .refusal) (length (take (r .codes) list')) (r .shared)) ≤ lineRoom
+  pub asked-short : r .refusal < 256 → length (pinsLine (r .refusal) (length (take (r .codes) list')) (r .shared))
+      ≤ lineRoom
   asked-short h =
       let few = asked-few .0 in
-      rw (ap (λ (q : Pinned). q .shared) is) (counts-short (r .refusal) (length (take (r .codes) list')) (pinsOutcome b (length list) .found .pins) h (omega (arith, few)))
+      rw (ap (λ (q : Pinned). q .shared) is) (counts-short (r .refusal) (length (take (r .codes) list'))
+      (pinsOutcome b (length list) .found .pins) h (omega (arith, few)))
 
   pub says-asked : (d d' : List ℕ) (s : Said)
-      → Says d (says (pinsLine (r .refusal) (length (take (r .codes) list')) (r .shared) ++ pinLines (take (r .codes) list') (take (r .codes) (r .pins))) (r .bench)) d' s
+      → Says d (says (pinsLine (r .refusal) (length (take (r .codes) list')) (r .shared)
+      ++ pinLines (take (r .codes) list') (take (r .codes) (r .pins))) (r .bench)) d' s
       → Says d (ofPins (pinsOutcome b (length list))) d' s
   says-asked d d' s h =
       let o = pinsOutcome b (length list) in
-      subst (λ (q : Pinned). Says d (says (pinsLine (q .refusal) (length (o .found .codes)) (q .shared) ++ pinLines (o .found .codes) (o .found .pins)) (q .bench)) d' s) is
+      subst (λ (q : Pinned). Says d (says (pinsLine (q .refusal) (length (o .found .codes)) (q .shared)
+      ++ pinLines (o .found .codes) (o .found .pins)) (q .bench)) d' s) is
       (rw (codes-front, pins-front) at h)
 
 -- a list of 32 places is as good as a longer one

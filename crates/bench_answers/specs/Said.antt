@@ -1,7 +1,8 @@
 -- What the answer to a call is, a text and a bench, and how it is said: the text at the front of what is lent.
 --     Answered, says                       a text, and a bench
 --     ofChange, ofReset, ofSlot, ofAccess  the answer to what a call came to
---     lineSaid a out                       what saying an answer of one line comes to: the bytes of its text and the bench, or refusal 1 where less than a line's room is lent
+--     lineSaid a out                       what saying an answer of one line comes to: the bytes of its text and the
+--                                          bench, or refusal 1 where less than a line's room is lent
 --     lineLeft a out                       the lent bytes after it: the text from byte 0 on, or as they were
 use Prim.Native.Nat.{ℕ}
 use mathlib.Core.List.{List}

@@ -7,7 +7,8 @@ use Rattle.text.specs.Putting.{lineRoom}
 use Rattle.text.specs.FieldsLaws.{byte-digits, word-digits}
 use Rattle.bench_answers.specs.SettingsLines.{settingsFields, changeLine}
 
-pub settings-fields-short : (refusal high low configuration version : ℕ) → refusal < 256 → version < 65536 → length (settingsFields refusal high low configuration version) ≤ lineRoom
+pub settings-fields-short : (refusal high low configuration version : ℕ) → refusal < 256 → version < 65536
+    → length (settingsFields refusal high low configuration version) ≤ lineRoom
 unfolding settingsFields
 settings-fields-short refusal high low configuration version p q =
     let a = byte-digits refusal p in
@@ -17,7 +18,8 @@ settings-fields-short refusal high low configuration version p q =
     let c = digits-length 16 2 configuration in
     simp length-append (omega arith)
 
-pub change-short : (refusal version : ℕ) → refusal < 256 → version < 65536 → length (changeLine refusal version) ≤ lineRoom
+pub change-short : (refusal version : ℕ) → refusal < 256 → version < 65536
+    → length (changeLine refusal version) ≤ lineRoom
 unfolding changeLine
 change-short refusal version p q =
     let a = byte-digits refusal p in

@@ -1,8 +1,10 @@
 -- An answer of any number of lines, said at the front of what is lent.
 --     room                   the bytes that an answer is lent: more than any answer needs
---     wholeSaid b a out      what saying the answer a comes to: how many bytes of text there are and the bench, or refusal 1 and the bench b where less is lent
+--     wholeSaid b a out      what saying the answer a comes to: how many bytes of text there are and the bench, or
+--                            refusal 1 and the bench b where less is lent
 --     wholeLeft a out        the lent bytes after it: the text from byte 0 on, or as they were
---     Says d a d' r          what a part of a call has come to: the answer a, its text at the front of what is lent and within the room
+--     Says d a d' r          what a part of a call has come to: the answer a, its text at the front of what is lent and
+--                            within the room
 use Prim.Native.Nat.{ℕ, _≤_}
 use mathlib.Core.Path.{_≡_}
 use mathlib.Core.List.{List}

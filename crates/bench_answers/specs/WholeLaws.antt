@@ -21,7 +21,8 @@ module _ (b : Bench) (a : Answered) (out : List ℕ) where
       let few = k .fits in
       rw t (k .said, k .laid-is, omega arith)
 
-  pub whole-refused : length out < room → (record { refusal = noRoom; count = 0; bench = b } ≡ wholeSaid b a out) × (out ≡ wholeLeft a out) × (0 ≤ room)
+  pub whole-refused : length out < room → (record { refusal = noRoom; count = 0; bench = b } ≡ wholeSaid b a out)
+      × (out ≡ wholeLeft a out) × (0 ≤ room)
   whole-refused h = rw (lt-leb room (length out) h) (refl, refl, omega arith)
 
 -- an answer that was said with room for it
@@ -41,4 +42,8 @@ module _ (out : List ℕ) (h : room ≤ length out) (a : Answered) (out' : List 
       let told = rw t at answer in
       let count : r .count ≡ 0 + length (a .text) = ap (λ (s : Said). s .count) told in
       let same : 0 + length (a .text) ≡ length (a .text) = omega arith in
-      record { said = told ∙ ap (λ (n : ℕ). record { refusal = 0; count = n; bench = a .bench }) same; laid-is = laid-so; fits = omega arith }
+      record {
+        said = told ∙ ap (λ (n : ℕ). record { refusal = 0; count = n; bench = a .bench }) same;
+        laid-is = laid-so;
+        fits = omega arith;
+      }

@@ -13,7 +13,8 @@ use Rattle.text.specs.Putting.{lineRoom}
 use Rattle.text.specs.FieldsLaws.{byte-digits, signed-digits, flag-length}
 use Rattle.bench_answers.specs.WhyLine.{whyFields}
 
-pub why-fields-short : (refusal reason : ℕ) (count high low : ℤ) (differs : Bool) → refusal < 256 → reason < 256 → Fits16 count → Fits16 high → Fits16 low
+pub why-fields-short : (refusal reason : ℕ) (count high low : ℤ) (differs : Bool) → refusal < 256 → reason < 256
+    → Fits16 count → Fits16 high → Fits16 low
     → length (whyFields refusal reason count high low differs) ≤ lineRoom
 unfolding whyFields
 why-fields-short refusal reason count high low differs p q f g h =

@@ -26,7 +26,8 @@ fn put_access(
     numerator: i32,
     denominator: u16,
 ) -> usize
-    ensures { λ r. ⌜ Puts (now (out .entry)) at (accessFields refusal pad reading numerator denominator) (now (out .exit)) r ⌝ }
+    ensures { λ r. ⌜ Puts (now (out .entry)) at (accessFields refusal pad reading numerator denominator)
+        (now (out .exit)) r ⌝ }
 {
     let bytes = pad;
     let register = temperature::register_of(reading);
@@ -47,7 +48,8 @@ pub fn access_line(
     fine: FineDegrees,
 ) -> Written
     ensures answer { λ r. ⌜ r ≡ lineAnswer (now (out .entry)) at (accessLine refusal pad reading fine) ⌝ }
-    ensures written { λ r. ⌜ now (out .exit) ≡ lineLeaves (now (out .entry)) at (accessLine refusal pad reading fine) ⌝ }
+    ensures written { λ r. ⌜ now (out .exit) ≡ lineLeaves (now (out .entry)) at
+        (accessLine refusal pad reading fine) ⌝ }
     ensures fits { λ r. ⌜ r .next ≤ at + lineRoom ⌝ }
 {
     let room = laying::has_room(out, at, LINE_ROOM);

@@ -7,7 +7,8 @@ pub mod settings_answers;
 pub mod why_answers;
 
 ghost use mathlib.Core.Path.{_≡_};
-ghost use Rattle.bench_answers.specs.Answers.{badLine, refusalLine, bitLine, searchLine, codeLine, recordLine, showLine};
+ghost use Rattle.bench_answers.specs.Answers.{badLine, refusalLine, bitLine, searchLine, codeLine, recordLine};
+ghost use Rattle.bench_answers.specs.Answers.{showLine};
 ghost use Rattle.bench_answers.specs.Answers.{busyDigit};
 ghost use Rattle.text.specs.Putting.{Puts, fieldNext, fieldLeaves, lineAnswer, lineLeaves};
 ghost use mathlib.Core.List.{[], _∷_};
@@ -109,7 +110,8 @@ pub fn search_line(
     bytes: u16,
 ) -> Written
     ensures answer { λ r. ⌜ r ≡ lineAnswer (now (out .entry)) at (searchLine refusal codes passes slots bytes) ⌝ }
-    ensures written { λ r. ⌜ now (out .exit) ≡ lineLeaves (now (out .entry)) at (searchLine refusal codes passes slots bytes) ⌝ }
+    ensures written { λ r. ⌜ now (out .exit) ≡ lineLeaves (now (out .entry)) at
+        (searchLine refusal codes passes slots bytes) ⌝ }
 {
     let room = laying::has_room(out, at, LINE_ROOM);
     if !room {
@@ -178,7 +180,8 @@ fn record_line(
     activity: Activity,
 ) -> Written
     ensures answer { λ r. ⌜ r ≡ lineAnswer (now (out .entry)) at (recordLine refusal pad eeprom alarm activity) ⌝ }
-    ensures written { λ r. ⌜ now (out .exit) ≡ lineLeaves (now (out .entry)) at (recordLine refusal pad eeprom alarm activity) ⌝ }
+    ensures written { λ r. ⌜ now (out .exit) ≡ lineLeaves (now (out .entry)) at
+        (recordLine refusal pad eeprom alarm activity) ⌝ }
 {
     let room = laying::has_room(out, at, LINE_ROOM);
     if !room {

@@ -61,7 +61,8 @@ pub fn refusal_line(out: &mut [u8], at: usize, refusal: u8) -> Written
 
 // The line of a probe.
 fn put_pin(out: &mut [u8], at: usize, code: u64, pin: u8) -> usize
-    ensures { λ r. ⌜ Puts (now (out .entry)) at (pinLine code pin) (now (out .exit)) r × (length (pinLine code pin) ≤ 21) ⌝ }
+    ensures { λ r. ⌜ Puts (now (out .entry)) at (pinLine code pin) (now (out .exit)) r
+        × (length (pinLine code pin) ≤ 21) ⌝ }
 {
     let behind_code = putting::put_digits(out, at, 16, code, SPACE);
     putting::put_number(out, behind_code, pin as u64, LINE_FEED)
@@ -70,7 +71,9 @@ fn put_pin(out: &mut [u8], at: usize, code: u64, pin: u8) -> usize
 // The lines of all probes, one behind the other.
 fn put_pins(out: &mut [u8], at: usize, codes: &[u64], pins: &[u8]) -> usize
     requires { ⌜ (length (now codes) ≡ length (now pins)) × (at + 21 * length (now codes) ≤ length (now out)) ⌝ }
-    ensures { λ r. ⌜ (r ≡ at + length (pinLines (now (codes .entry)) (now (pins .entry)))) × (now (out .exit) ≡ laid (now (out .entry)) at (pinLines (now (codes .entry)) (now (pins .entry)))) × (length (pinLines (now (codes .entry)) (now (pins .entry))) ≤ 21 * length (now (codes .entry))) ⌝ }
+    ensures { λ r. ⌜ (r ≡ at + length (pinLines (now (codes .entry)) (now (pins .entry))))
+        × (now (out .exit) ≡ laid (now (out .entry)) at (pinLines (now (codes .entry)) (now (pins .entry))))
+        × (length (pinLines (now (codes .entry)) (now (pins .entry))) ≤ 21 * length (now (codes .entry))) ⌝ }
 {
     let mut to = at;
     let mut i: usize = 0;
@@ -90,8 +93,10 @@ fn say(
     pins: &[u8],
     out: &mut [u8],
 ) -> Said
-    requires { ⌜ (length (now codes) ≤ 32) × (length (now codes) ≡ length (now pins)) × (length (pinsLine refusal (length (now codes)) shared) ≤ lineRoom) × (room ≤ length (now out)) ⌝ }
-    ensures { λ r. ⌜ Says (now (out .entry)) (says (pinsLine refusal (length (now (codes .entry))) shared ++ pinLines (now (codes .entry)) (now (pins .entry))) bench) (now (out .exit)) r ⌝ }
+    requires { ⌜ (length (now codes) ≤ 32) × (length (now codes) ≡ length (now pins))
+        × (length (pinsLine refusal (length (now codes)) shared) ≤ lineRoom) × (room ≤ length (now out)) ⌝ }
+    ensures { λ r. ⌜ Says (now (out .entry)) (says (pinsLine refusal (length (now (codes .entry))) shared
+        ++ pinLines (now (codes .entry)) (now (pins .entry))) bench) (now (out .exit)) r ⌝ }
 {
     let behind_counts = put_counts(out, 0, refusal, codes.len() as u8, shared);
     let end = put_pins(out, behind_counts, codes, pins);
@@ -105,7 +110,8 @@ fn say(
 // The call with a list lent to it.
 fn ask(bench: Bench, list: &mut [u64], out: &mut [u8]) -> Said
     requires { ⌜ room ≤ length (now out) ⌝ }
-    ensures { λ r. ⌜ Says (now (out .entry)) (ofPins (pinsOutcome bench (length (now (list .entry))))) (now (out .exit)) r ⌝ }
+    ensures { λ r. ⌜ Says (now (out .entry)) (ofPins (pinsOutcome bench (length (now (list .entry)))))
+        (now (out .exit)) r ⌝ }
 {
     let answer = pins::read_pins(bench, list);
     let after = answer.bench;

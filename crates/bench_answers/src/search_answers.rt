@@ -46,7 +46,9 @@ fn say_found(
     out: &mut [u8],
 ) -> Said
     requires { ⌜ (length (now codes) ≤ 32) × (length (now recording) ≤ 1824) × (room ≤ length (now out)) ⌝ }
-    ensures { λ r. ⌜ Says (now (out .entry)) (says (searchLine refusal (length (now (codes .entry))) passes slots (length (now (recording .entry))) ++ (codeLines (now (codes .entry)) ++ now (recording .entry))) bench) (now (out .exit)) r ⌝ }
+    ensures { λ r. ⌜ Says (now (out .entry)) (says
+        (searchLine refusal (length (now (codes .entry))) passes slots (length (now (recording .entry)))
+        ++ (codeLines (now (codes .entry)) ++ now (recording .entry))) bench) (now (out .exit)) r ⌝ }
 {
     let count = codes.len() as u8;
     let bytes = recording.len() as u16;
@@ -62,9 +64,13 @@ fn say_found(
 
 // The search for all devices, or for those with the alarm flag.
 fn run(bench: Bench, alarms: bool, list: &mut [u64], recording: &mut [u8]) -> Searched
-    ensures answer { λ r. ⌜ r ≡ answerOf (searchOutcome (commandFor alarms) bench (length (now (list .entry))) (length (now (recording .entry)))) ⌝ }
-    ensures listed { λ r. ⌜ now (list .exit) ≡ listAfter (now (list .entry)) (searchOutcome (commandFor alarms) bench (length (now (list .entry))) (length (now (recording .entry)))) ⌝ }
-    ensures written { λ r. ⌜ now (recording .exit) ≡ recordingAfter (now (recording .entry)) (searchOutcome (commandFor alarms) bench (length (now (list .entry))) (length (now (recording .entry)))) ⌝ }
+    ensures answer { λ r. ⌜ r ≡ answerOf (searchOutcome (commandFor alarms) bench (length (now (list .entry)))
+        (length (now (recording .entry)))) ⌝ }
+    ensures listed { λ r. ⌜ now (list .exit) ≡ listAfter (now (list .entry))
+        (searchOutcome (commandFor alarms) bench (length (now (list .entry))) (length (now (recording .entry)))) ⌝ }
+    ensures written { λ r. ⌜ now (recording .exit)
+        ≡ recordingAfter (now (recording .entry))
+        (searchOutcome (commandFor alarms) bench (length (now (list .entry))) (length (now (recording .entry)))) ⌝ }
 {
     if alarms {
         return search::alarm_search(bench, list, recording);
@@ -80,7 +86,9 @@ fn found_in(
     out: &mut [u8],
 ) -> Said
     requires { ⌜ room ≤ length (now out) ⌝ }
-    ensures { λ r. ⌜ Says (now (out .entry)) (ofSearch (searchOutcome (commandFor alarms) bench (length (now (list .entry))) (length (now (recording .entry))))) (now (out .exit)) r ⌝ }
+    ensures { λ r. ⌜ Says (now (out .entry)) (ofSearch
+        (searchOutcome (commandFor alarms) bench (length (now (list .entry))) (length (now (recording .entry)))))
+        (now (out .exit)) r ⌝ }
 {
     let r = run(bench, alarms, list, recording);
     let after = r.bench;
@@ -114,7 +122,8 @@ fn lend(
     out: &mut [u8],
 ) -> Said
     requires { ⌜ (length (now list) ≡ 32) × (length (now recording) ≡ 1824) × (room ≤ length (now out)) ⌝ }
-    ensures { λ r. ⌜ Says (now (out .entry)) (ofSearch (searchOutcome (commandFor alarms) bench places bytes)) (now (out .exit)) r ⌝ }
+    ensures { λ r. ⌜ Says (now (out .entry)) (ofSearch (searchOutcome (commandFor alarms) bench places bytes))
+        (now (out .exit)) r ⌝ }
 {
     let lent_places = least(places, FEWEST_PLACES);
     let lent_bytes = least(bytes, FEWEST_BYTES);
@@ -129,7 +138,8 @@ fn lend(
 
 fn search(bench: Bench, alarms: bool, places: usize, bytes: usize, out: &mut [u8]) -> Said
     requires { ⌜ room ≤ length (now out) ⌝ }
-    ensures { λ r. ⌜ Says (now (out .entry)) (ofSearch (searchOutcome (commandFor alarms) bench places bytes)) (now (out .exit)) r ⌝ }
+    ensures { λ r. ⌜ Says (now (out .entry)) (ofSearch (searchOutcome (commandFor alarms) bench places bytes))
+        (now (out .exit)) r ⌝ }
 {
     let mut list = [0u64; FEWEST_PLACES];
     let mut recording = [0u8; FEWEST_BYTES];
@@ -138,8 +148,10 @@ fn search(bench: Bench, alarms: bool, places: usize, bytes: usize, out: &mut [u8
 
 // The search and its answer at the front of what is lent. Refused with 1 where less than the room is lent.
 pub fn found(bench: Bench, alarms: bool, places: usize, bytes: usize, out: &mut [u8]) -> Said
-    ensures answer { λ r. ⌜ r ≡ wholeSaid bench (ofSearch (searchOutcome (commandFor alarms) bench places bytes)) (now (out .entry)) ⌝ }
-    ensures written { λ r. ⌜ now (out .exit) ≡ wholeLeft (ofSearch (searchOutcome (commandFor alarms) bench places bytes)) (now (out .entry)) ⌝ }
+    ensures answer { λ r. ⌜ r ≡ wholeSaid bench (ofSearch (searchOutcome (commandFor alarms) bench places bytes))
+        (now (out .entry)) ⌝ }
+    ensures written { λ r. ⌜ now (out .exit) ≡ wholeLeft
+        (ofSearch (searchOutcome (commandFor alarms) bench places bytes)) (now (out .entry)) ⌝ }
     ensures fits { λ r. ⌜ r .count ≤ room ⌝ }
 {
     if out.len() < ROOM {

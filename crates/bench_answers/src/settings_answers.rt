@@ -22,7 +22,8 @@ fn put_current(
     configuration: u8,
     version: u16,
 ) -> usize
-    ensures { λ r. ⌜ Puts (now (out .entry)) at (settingsFields refusal high low configuration version) (now (out .exit)) r × (length (settingsFields refusal high low configuration version) ≤ lineRoom) ⌝ }
+    ensures { λ r. ⌜ Puts (now (out .entry)) at (settingsFields refusal high low configuration version)
+        (now (out .exit)) r × (length (settingsFields refusal high low configuration version) ≤ lineRoom) ⌝ }
 {
     let behind_refusal = putting::put_number(out, at, refusal as u64, SPACE);
     let behind_high = putting::put_digits(out, behind_refusal, 2, high as u64, SPACE);
@@ -54,7 +55,8 @@ pub fn current_line(out: &mut [u8], at: usize, current: Current) -> Written
 }
 
 fn put_change(out: &mut [u8], at: usize, refusal: u8, version: u16) -> usize
-    ensures { λ r. ⌜ Puts (now (out .entry)) at (changeLine refusal version) (now (out .exit)) r × (length (changeLine refusal version) ≤ lineRoom) ⌝ }
+    ensures { λ r. ⌜ Puts (now (out .entry)) at (changeLine refusal version) (now (out .exit)) r
+        × (length (changeLine refusal version) ≤ lineRoom) ⌝ }
 {
     let behind_refusal = putting::put_number(out, at, refusal as u64, SPACE);
     putting::put_number(out, behind_refusal, version as u64, LINE_FEED)

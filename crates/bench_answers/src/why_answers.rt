@@ -23,7 +23,8 @@ fn put_fields(
     low: i16,
     differs: bool,
 ) -> usize
-    ensures { λ r. ⌜ Puts (now (out .entry)) at (whyFields refusal reason count high low differs) (now (out .exit)) r × (length (whyFields refusal reason count high low differs) ≤ lineRoom) ⌝ }
+    ensures { λ r. ⌜ Puts (now (out .entry)) at (whyFields refusal reason count high low differs) (now (out .exit)) r
+        × (length (whyFields refusal reason count high low differs) ≤ lineRoom) ⌝ }
 {
     let behind_refusal = putting::put_number(out, at, refusal as u64, SPACE);
     let behind_reason = putting::put_number(out, behind_refusal, reason as u64, SPACE);

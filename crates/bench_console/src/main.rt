@@ -1,5 +1,5 @@
-// Drives a bench and a settings store by lines: one call a line on standard input, its answer on standard
-// output at once. It only moves bytes: `sessions::gathering` says where a line ends, and `bench_session::settings_console` reads
+// Drives a bench and a settings store by lines: one call a line on standard input, its answer on standard output at
+// once. It only moves bytes: `sessions::gathering` says where a line ends, and `bench_session::settings_console` reads
 // it, makes the call and forms the answer.
 ghost use mathlib.Core.Path.{_≡_};
 ghost use Prim.Native.Nat.{_≤_};
@@ -37,8 +37,10 @@ fn write_answer(text: &[u8])
 
 // A line, with its feed or without, answered.
 fn answer_line(bench: Bench, store: Store, line: &[u8], fed: bool, out: &mut [u8]) -> Told
-    requires { ⌜ (room ≤ length (now out)) × Answerable benchConsole nothingYet (benchConsole .says (both bench store) (record { chars = now line; fed = fed })) ⌝ }
-    ensures { λ r. ⌜ both (r .said .bench) (r .store) ≡ benchConsole .next (both bench store) (record { chars = now (line .entry); fed = fed }) ⌝ }
+    requires { ⌜ (room ≤ length (now out)) × Answerable benchConsole nothingYet
+        (benchConsole .says (both bench store) (record { chars = now line; fed = fed })) ⌝ }
+    ensures { λ r. ⌜ both (r .said .bench) (r .store)
+        ≡ benchConsole .next (both bench store) (record { chars = now (line .entry); fed = fed }) ⌝ }
 {
     let told = settings_console::answer(bench, store, line, fed, out);
     let said = told.said;
@@ -56,8 +58,10 @@ fn end_line(
     whole: bool,
     out: &mut [u8],
 ) -> Session
-    requires { ⌜ (held ≤ length (now line)) × (room ≤ length (now out)) × Answerable benchConsole nothingYet (endSaid benchConsole (runAt (both bench store) (now line) held) whole) ⌝ }
-    ensures { λ r. ⌜ (runAt (both (r .bench) (r .store)) (now (line .entry)) (r .held) ≡ heldEnded benchConsole (runAt (both bench store) (now (line .entry)) held) whole) × (r .held ≤ held) ⌝ }
+    requires { ⌜ (held ≤ length (now line)) × (room ≤ length (now out))
+        × Answerable benchConsole nothingYet (endSaid benchConsole (runAt (both bench store) (now line) held) whole) ⌝ }
+    ensures { λ r. ⌜ (runAt (both (r .bench) (r .store)) (now (line .entry)) (r .held)
+        ≡ heldEnded benchConsole (runAt (both bench store) (now (line .entry)) held) whole) × (r .held ≤ held) ⌝ }
 {
     if whole {
         let told = answer_line(bench, store, &line[..held], true, out);
@@ -81,9 +85,13 @@ fn end_line(
 
 // All that was read, line by line.
 fn take(start: Session, line: &mut [u8], chunk: &[u8], out: &mut [u8]) -> Session
-    requires { ⌜ (room ≤ length (now out)) × Standing benchConsole nothingYet (both (start .bench) (start .store)) (now line) (start .held) ⌝ }
-    ensures session { λ r. ⌜ runAt (both (r .bench) (r .store)) (now (line .exit)) (r .held) ≡ runAfter benchConsole (runAt (both (start .bench) (start .store)) (now (line .entry)) (start .held)) (now (chunk .entry)) ⌝ }
-    ensures standing { λ r. ⌜ Standing benchConsole nothingYet (both (r .bench) (r .store)) (now (line .exit)) (r .held) ⌝ }
+    requires { ⌜ (room ≤ length (now out)) × Standing benchConsole nothingYet (both (start .bench) (start .store))
+        (now line) (start .held) ⌝ }
+    ensures session { λ r. ⌜ runAt (both (r .bench) (r .store)) (now (line .exit)) (r .held)
+        ≡ runAfter benchConsole (runAt (both (start .bench) (start .store)) (now (line .entry)) (start .held))
+        (now (chunk .entry)) ⌝ }
+    ensures standing { λ r. ⌜ Standing benchConsole nothingYet (both (r .bench) (r .store)) (now (line .exit))
+        (r .held) ⌝ }
 {
     let mut s = start;
     let mut at: usize = 0;
@@ -98,8 +106,10 @@ fn take(start: Session, line: &mut [u8], chunk: &[u8], out: &mut [u8]) -> Sessio
 }
 
 fn read_some(s: Session, line: &mut [u8], out: &mut [u8]) -> Session
-    requires { ⌜ (room ≤ length (now out)) × Standing benchConsole nothingYet (both (s .bench) (s .store)) (now line) (s .held) ⌝ }
-    ensures standing { λ r. ⌜ Standing benchConsole nothingYet (both (r .bench) (r .store)) (now (line .exit)) (r .held) ⌝ }
+    requires { ⌜ (room ≤ length (now out)) × Standing benchConsole nothingYet (both (s .bench) (s .store)) (now line)
+        (s .held) ⌝ }
+    ensures standing { λ r. ⌜ Standing benchConsole nothingYet (both (r .bench) (r .store)) (now (line .exit))
+        (r .held) ⌝ }
 {
     let mut chunk = io::buffer();
     let got = libc::read(STDIN_FILENO, &mut chunk);
@@ -113,7 +123,8 @@ fn read_some(s: Session, line: &mut [u8], out: &mut [u8]) -> Session
 // A proved loop ends; this one counts down from more reads than any run makes.
 fn run(line: &mut [u8], out: &mut [u8]) -> Session
     requires { ⌜ (room ≤ length (now out)) × (length (now line) ≡ mostHeld) ⌝ }
-    ensures standing { λ r. ⌜ Standing benchConsole nothingYet (both (r .bench) (r .store)) (now (line .exit)) (r .held) ⌝ }
+    ensures standing { λ r. ⌜ Standing benchConsole nothingYet (both (r .bench) (r .store)) (now (line .exit))
+        (r .held) ⌝ }
 {
     let mut s = Session {
         bench: bench::new(),
@@ -134,7 +145,8 @@ fn run(line: &mut [u8], out: &mut [u8]) -> Session
 
 // A last line without a feed.
 fn finish(s: Session, line: &[u8], out: &mut [u8])
-    requires { ⌜ (room ≤ length (now out)) × Standing benchConsole nothingYet (both (s .bench) (s .store)) (now line) (s .held) ⌝ }
+    requires { ⌜ (room ≤ length (now out)) × Standing benchConsole nothingYet (both (s .bench) (s .store)) (now line)
+        (s .held) ⌝ }
 {
     let bench = s.bench;
     let store = s.store;

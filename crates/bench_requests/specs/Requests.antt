@@ -1,4 +1,5 @@
--- What a line asks for: the table of the console's calls, by name, number of fields and request. Whatever matches no row, or has a field that is none, is `Bad`.
+-- What a line asks for: the table of the console's calls, by name, number of fields and request. Whatever matches no
+-- row, or has a field that is none, is `Bad`.
 --     asks name n ws         whether words are this name and n fields
 --     ofBench ws             the calls on the bench
 --     ofMaster ws            the calls of the master
@@ -14,11 +15,13 @@ use Rattle.text.specs.declared.NumberRead.{NumberRead}
 use Rattle.lines.specs.declared.fields.CountRead.{CountRead}
 use Rattle.lines.specs.declared.fields.PowerRead.{PowerRead}
 use Rattle.bench_requests.specs.declared.Request.{Request}
-use Rattle.bench_requests.specs.declared.Request.the-variants.{Bad, Add, Reset, Slot, Converted, Copied, Cycle, Search, Alarm, Read, Write, Show, Why, Pins}
+use Rattle.bench_requests.specs.declared.Request.the-variants.{Bad, Add, Reset, Slot, Converted, Copied, Cycle}
+use Rattle.bench_requests.specs.declared.Request.the-variants.{Search, Alarm, Read, Write, Show, Why, Pins}
 use Rattle.lines.specs.declared.fields.SettingsRead.{SettingsRead}
 use Rattle.basic_laws.specs.Same.{same}
 use Rattle.lines.specs.Words.{wordOf, wordsOf}
-use Rattle.lines.specs.Fields.{codeIn, bitIn, placesIn, bytesIn, pinsIn, countIn, threeBytesIn, powerIn, mostPlaces, mostBytes}
+use Rattle.lines.specs.Fields.{codeIn, bitIn, placesIn, bytesIn, pinsIn, countIn, threeBytesIn, powerIn, mostPlaces}
+use Rattle.lines.specs.Fields.{mostBytes}
 
 -- ## The requests, by what was read of their fields
 
@@ -64,7 +67,8 @@ pinnedAsked code power s pins = if pins .valid then addAsked code power s (pins 
 abbrev pub asks : List ℕ → ℕ → List (List ℕ) → Bool
 asks name n ws = same (wordOf ws 0) name && eqb (length ws - 1) n
 
--- SEARCH and ALARM alone, with all that can be lent, or with PLACES BYTES; READ CODE; WRITE CODE HIGH LOW CONFIGURATION; PINS alone, or with PLACES
+-- SEARCH and ALARM alone, with all that can be lent, or with PLACES BYTES; READ CODE; WRITE CODE HIGH LOW
+-- CONFIGURATION; PINS alone, or with PLACES
 unfoldable pub ofMaster : List (List ℕ) → Request
 ofMaster ws =
     let field = wordOf ws in
@@ -78,12 +82,15 @@ ofMaster ws =
     else if asks (ascii "pins") 1 ws then pinsAsked (placesIn (field 1))
     else Bad
 
--- ADD CODE POWER HIGH LOW CONFIGURATION, or with PINS, else 0; RESET; SLOT BIT; CONVERTED CODE COUNT; COPIED, CYCLE, SHOW, WHY CODE
+-- ADD CODE POWER HIGH LOW CONFIGURATION, or with PINS, else 0; RESET; SLOT BIT; CONVERTED CODE COUNT; COPIED, CYCLE,
+-- SHOW, WHY CODE
 unfoldable pub ofBench : List (List ℕ) → Request
 ofBench ws =
     let field = wordOf ws in
-    if asks (ascii "add") 5 ws then addAsked (codeIn (field 1)) (powerIn (field 2)) (threeBytesIn (field 3) (field 4) (field 5)) 0
-    else if asks (ascii "add") 6 ws then pinnedAsked (codeIn (field 1)) (powerIn (field 2)) (threeBytesIn (field 3) (field 4) (field 5)) (pinsIn (field 6))
+    if asks (ascii "add") 5 ws then addAsked (codeIn (field 1)) (powerIn (field 2))
+    (threeBytesIn (field 3) (field 4) (field 5)) 0
+    else if asks (ascii "add") 6 ws then pinnedAsked (codeIn (field 1)) (powerIn (field 2))
+    (threeBytesIn (field 3) (field 4) (field 5)) (pinsIn (field 6))
     else if asks (ascii "reset") 0 ws then Reset
     else if asks (ascii "slot") 1 ws then slotAsked (bitIn (field 1))
     else if asks (ascii "converted") 2 ws then convertedAsked (codeIn (field 1)) (countIn (field 2))

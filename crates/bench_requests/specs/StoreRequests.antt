@@ -1,9 +1,11 @@
--- What a line asks of the settings store: the table of its calls, by name, number of fields and request. Whatever matches no row, or has a field that is none, is `Other`.
+-- What a line asks of the settings store: the table of its calls, by name, number of fields and request. Whatever
+-- matches no row, or has a field that is none, is `Other`.
 --     versionIn w            a version: a decimal number up to 65,535, of one to five digits
 --     alterIn w              what a change makes of one setting: a byte, or a minus to leave it
 --     asksStore name n ws    whether words are `settings`, this name and its fields, n in all
 --     ofStore ws             what the words of a line ask for
---     storeRequestOf s       what a line, without its feed, asks for; one that is over-long asks for nothing that the store knows
+--     storeRequestOf s       what a line, without its feed, asks for; one that is over-long asks for nothing that the
+--                            store knows
 use Prim.Native.Nat.{ℕ}
 use mathlib.Core.Bool.{Bool, true, _&&_}
 use mathlib.Core.List.{List}
@@ -22,7 +24,8 @@ use Rattle.settings.specs.declared.Alter.the-variants.{Leave, To}
 use Rattle.bench_requests.specs.declared.settings_requests.AlterRead.{AlterRead}
 use Rattle.bench_requests.specs.declared.settings_requests.AlterationsRead.{AlterationsRead}
 use Rattle.bench_requests.specs.declared.settings_requests.StoreRequest.{StoreRequest}
-use Rattle.bench_requests.specs.declared.settings_requests.StoreRequest.the-variants.{Other, Add, Remove, Read, Change, Write}
+use Rattle.bench_requests.specs.declared.settings_requests.StoreRequest.the-variants.{Other, Add, Remove, Read}
+use Rattle.bench_requests.specs.declared.settings_requests.StoreRequest.the-variants.{Change, Write}
 
 -- ## Fields
 
@@ -50,7 +53,8 @@ abbrev pub storeAddAsked : NumberRead → SettingsRead → StoreRequest
 storeAddAsked code s = if code .valid && s .valid then Add (code .number) (s .settings) else Other
 
 abbrev pub storeChangeAsked : NumberRead → NumberRead → AlterationsRead → StoreRequest
-storeChangeAsked code version a = if code .valid && version .valid && a .valid then Change (code .number) (version .number) (a .alterations) else Other
+storeChangeAsked code version a = if code .valid && version .valid && a .valid
+    then Change (code .number) (version .number) (a .alterations) else Other
 
 -- ## The table
 
@@ -64,7 +68,8 @@ ofStore ws =
     if asksStore (ascii "add") 6 ws then storeAddAsked (codeIn (field 2)) (threeBytesIn (field 3) (field 4) (field 5))
     else if asksStore (ascii "remove") 3 ws then storeAtCode Remove (codeIn (field 2))
     else if asksStore (ascii "read") 3 ws then storeAtCode Read (codeIn (field 2))
-    else if asksStore (ascii "change") 7 ws then storeChangeAsked (codeIn (field 2)) (versionIn (field 3)) (alterationsIn (field 4) (field 5) (field 6))
+    else if asksStore (ascii "change") 7 ws then storeChangeAsked (codeIn (field 2)) (versionIn (field 3))
+    (alterationsIn (field 4) (field 5) (field 6))
     else if asksStore (ascii "write") 3 ws then storeAtCode Write (codeIn (field 2))
     else Other
 

@@ -2,8 +2,10 @@
 ghost use mathlib.Core.Path.{_≡_};
 ghost use Rattle.lines.specs.Words.{wordsOf, wordOf};
 ghost use Rattle.lines.specs.Fields.{codeIn, bitIn, placesIn, bytesIn, pinsIn, countIn, threeBytesIn, powerIn};
-ghost use Rattle.bench_requests.specs.declared.Request.the-variants.{Copied, Cycle, Search, Alarm, Read, Show, Why};
-ghost use Rattle.bench_requests.specs.Requests.{asks, slotAsked, convertedAsked, atCode, lent, pinsAsked, writeAsked, addAsked, pinnedAsked, ofMaster, ofBench};
+ghost use Rattle.bench_requests.specs.declared.Request.the-variants.{Copied, Cycle, Search, Alarm, Read, Show};
+ghost use Rattle.bench_requests.specs.declared.Request.the-variants.{Why};
+ghost use Rattle.bench_requests.specs.Requests.{asks, slotAsked, convertedAsked, atCode, lent, pinsAsked};
+ghost use Rattle.bench_requests.specs.Requests.{writeAsked, addAsked, pinnedAsked, ofMaster, ofBench};
 use crate::Request;
 use device::Joining;
 use lines::fields::MOST_BYTES;
@@ -24,7 +26,10 @@ use text::same;
 
 // `add CODE POWER HIGH LOW CONFIGURATION`, with the pins of the device
 fn add(line: &[u8], pins: u8) -> Request
-    ensures { λ r. ⌜ r ≡ addAsked (codeIn (wordOf (wordsOf (now (line .entry))) 1)) (powerIn (wordOf (wordsOf (now (line .entry))) 2)) (threeBytesIn (wordOf (wordsOf (now (line .entry))) 3) (wordOf (wordsOf (now (line .entry))) 4) (wordOf (wordsOf (now (line .entry))) 5)) pins ⌝ }
+    ensures { λ r. ⌜ r ≡ addAsked (codeIn (wordOf (wordsOf (now (line .entry))) 1))
+        (powerIn (wordOf (wordsOf (now (line .entry))) 2))
+        (threeBytesIn (wordOf (wordsOf (now (line .entry))) 3) (wordOf (wordsOf (now (line .entry))) 4)
+        (wordOf (wordsOf (now (line .entry))) 5)) pins ⌝ }
 {
     let code = code_in(word(line, 1));
     let p = power_in(word(line, 2));
@@ -50,7 +55,10 @@ fn add(line: &[u8], pins: u8) -> Request
 
 // `add CODE POWER HIGH LOW CONFIGURATION PINS`
 fn add_pinned(line: &[u8]) -> Request
-    ensures { λ r. ⌜ r ≡ pinnedAsked (codeIn (wordOf (wordsOf (now (line .entry))) 1)) (powerIn (wordOf (wordsOf (now (line .entry))) 2)) (threeBytesIn (wordOf (wordsOf (now (line .entry))) 3) (wordOf (wordsOf (now (line .entry))) 4) (wordOf (wordsOf (now (line .entry))) 5)) (pinsIn (wordOf (wordsOf (now (line .entry))) 6)) ⌝ }
+    ensures { λ r. ⌜ r ≡ pinnedAsked (codeIn (wordOf (wordsOf (now (line .entry))) 1))
+        (powerIn (wordOf (wordsOf (now (line .entry))) 2))
+        (threeBytesIn (wordOf (wordsOf (now (line .entry))) 3) (wordOf (wordsOf (now (line .entry))) 4)
+        (wordOf (wordsOf (now (line .entry))) 5)) (pinsIn (wordOf (wordsOf (now (line .entry))) 6)) ⌝ }
 {
     let pins = pins_in(word(line, 6));
     if pins.valid {
@@ -72,7 +80,8 @@ fn slot(line: &[u8]) -> Request
 
 // `converted CODE COUNT`
 fn converted(line: &[u8]) -> Request
-    ensures { λ r. ⌜ r ≡ convertedAsked (codeIn (wordOf (wordsOf (now (line .entry))) 1)) (countIn (wordOf (wordsOf (now (line .entry))) 2)) ⌝ }
+    ensures { λ r. ⌜ r ≡ convertedAsked (codeIn (wordOf (wordsOf (now (line .entry))) 1))
+        (countIn (wordOf (wordsOf (now (line .entry))) 2)) ⌝ }
 {
     let code = code_in(word(line, 1));
     let read = count_in(word(line, 2));
@@ -145,7 +154,8 @@ fn read(line: &[u8]) -> Request
 
 // `search PLACES BYTES`
 fn search(line: &[u8]) -> Request
-    ensures { λ r. ⌜ r ≡ lent Search (placesIn (wordOf (wordsOf (now (line .entry))) 1)) (bytesIn (wordOf (wordsOf (now (line .entry))) 2)) ⌝ }
+    ensures { λ r. ⌜ r ≡ lent Search (placesIn (wordOf (wordsOf (now (line .entry))) 1))
+        (bytesIn (wordOf (wordsOf (now (line .entry))) 2)) ⌝ }
 {
     let places = places_in(word(line, 1));
     let bytes = bytes_in(word(line, 2));
@@ -162,7 +172,8 @@ fn search(line: &[u8]) -> Request
 
 // `alarm PLACES BYTES`
 fn alarm(line: &[u8]) -> Request
-    ensures { λ r. ⌜ r ≡ lent Alarm (placesIn (wordOf (wordsOf (now (line .entry))) 1)) (bytesIn (wordOf (wordsOf (now (line .entry))) 2)) ⌝ }
+    ensures { λ r. ⌜ r ≡ lent Alarm (placesIn (wordOf (wordsOf (now (line .entry))) 1))
+        (bytesIn (wordOf (wordsOf (now (line .entry))) 2)) ⌝ }
 {
     let places = places_in(word(line, 1));
     let bytes = bytes_in(word(line, 2));
@@ -190,7 +201,9 @@ fn pins(line: &[u8]) -> Request
 
 // `write CODE HIGH LOW CONFIGURATION`
 fn write(line: &[u8]) -> Request
-    ensures { λ r. ⌜ r ≡ writeAsked (codeIn (wordOf (wordsOf (now (line .entry))) 1)) (threeBytesIn (wordOf (wordsOf (now (line .entry))) 2) (wordOf (wordsOf (now (line .entry))) 3) (wordOf (wordsOf (now (line .entry))) 4)) ⌝ }
+    ensures { λ r. ⌜ r ≡ writeAsked (codeIn (wordOf (wordsOf (now (line .entry))) 1))
+        (threeBytesIn (wordOf (wordsOf (now (line .entry))) 2) (wordOf (wordsOf (now (line .entry))) 3)
+        (wordOf (wordsOf (now (line .entry))) 4)) ⌝ }
 {
     let code = code_in(word(line, 1));
     let s = settings_in(word(line, 2), word(line, 3), word(line, 4));

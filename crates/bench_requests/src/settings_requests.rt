@@ -3,7 +3,8 @@ ghost use mathlib.Core.Path.{_≡_};
 ghost use Rattle.lines.specs.Words.{wordsOf, wordOf};
 ghost use Rattle.lines.specs.Fields.{codeIn, threeBytesIn};
 ghost use Rattle.bench_requests.specs.declared.settings_requests.StoreRequest.the-variants.{Remove, Read, Write};
-ghost use Rattle.bench_requests.specs.StoreRequests.{versionIn, alterIn, alterationsIn, asksStore, storeAtCode, storeAddAsked, storeChangeAsked, ofStore, storeRequestOf};
+ghost use Rattle.bench_requests.specs.StoreRequests.{versionIn, alterIn, alterationsIn, asksStore, storeAtCode};
+ghost use Rattle.bench_requests.specs.StoreRequests.{storeAddAsked, storeChangeAsked, ofStore, storeRequestOf};
 use crate::LONGEST;
 use device::Settings;
 use lines::fields::both;
@@ -93,7 +94,9 @@ fn alterations_in(high: &[u8], low: &[u8], configuration: &[u8]) -> AlterationsR
 
 // `settings add CODE HIGH LOW CONFIGURATION`
 fn add(line: &[u8]) -> StoreRequest
-    ensures { λ r. ⌜ r ≡ storeAddAsked (codeIn (wordOf (wordsOf (now (line .entry))) 2)) (threeBytesIn (wordOf (wordsOf (now (line .entry))) 3) (wordOf (wordsOf (now (line .entry))) 4) (wordOf (wordsOf (now (line .entry))) 5)) ⌝ }
+    ensures { λ r. ⌜ r ≡ storeAddAsked (codeIn (wordOf (wordsOf (now (line .entry))) 2))
+        (threeBytesIn (wordOf (wordsOf (now (line .entry))) 3) (wordOf (wordsOf (now (line .entry))) 4)
+        (wordOf (wordsOf (now (line .entry))) 5)) ⌝ }
 {
     let code = code_in(word(line, 2));
     let s = settings_in(word(line, 3), word(line, 4), word(line, 5));
@@ -133,7 +136,10 @@ fn read(line: &[u8]) -> StoreRequest
 
 // `settings change CODE VERSION HIGH LOW CONFIGURATION`
 fn change(line: &[u8]) -> StoreRequest
-    ensures { λ r. ⌜ r ≡ storeChangeAsked (codeIn (wordOf (wordsOf (now (line .entry))) 2)) (versionIn (wordOf (wordsOf (now (line .entry))) 3)) (alterationsIn (wordOf (wordsOf (now (line .entry))) 4) (wordOf (wordsOf (now (line .entry))) 5) (wordOf (wordsOf (now (line .entry))) 6)) ⌝ }
+    ensures { λ r. ⌜ r ≡ storeChangeAsked (codeIn (wordOf (wordsOf (now (line .entry))) 2))
+        (versionIn (wordOf (wordsOf (now (line .entry))) 3))
+        (alterationsIn (wordOf (wordsOf (now (line .entry))) 4) (wordOf (wordsOf (now (line .entry))) 5)
+        (wordOf (wordsOf (now (line .entry))) 6)) ⌝ }
 {
     let code = code_in(word(line, 2));
     let version = version_in(word(line, 3));

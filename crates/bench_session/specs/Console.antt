@@ -1,7 +1,8 @@
 -- The answer to each request on each bench: the text, all its lines with their feeds, and the bench after it.
 --     answered b q           the answer to the request q on the bench b
 --     asked l                what a line asks for; one that has no feed asks for nothing that there is
---     answer b l out         what the call for a line answers: how many bytes of text there are and the bench, or refusal 1 where less than the room is lent
+--     answer b l out         what the call for a line answers: how many bytes of text there are and the bench, or
+--                            refusal 1 where less than the room is lent
 --     benchLeaves b l out    the lent bytes after it: the text from byte 0 on, or as they were
 use Prim.Native.Nat.{ℕ}
 use mathlib.Core.List.{List}
@@ -16,7 +17,8 @@ use Rattle.master_rules.specs.Pins.{pinsOutcome}
 use Rattle.master_rules.specs.Search.{searchOutcome}
 use Rattle.bench_requests.specs.Requests.{requestOf}
 use Rattle.bench_requests.specs.declared.Request.{Request}
-use Rattle.bench_requests.specs.declared.Request.the-variants.{Bad, Add, Reset, Slot, Converted, Copied, Cycle, Search, Alarm, Read, Write, Show, Why, Pins}
+use Rattle.bench_requests.specs.declared.Request.the-variants.{Bad, Add, Reset, Slot, Converted, Copied, Cycle, Search}
+use Rattle.bench_requests.specs.declared.Request.the-variants.{Alarm, Read, Write, Show, Why, Pins}
 use Rattle.bench_answers.specs.Answers.{badLine, showLine}
 use Rattle.why.specs.Why.{whyOf}
 use Rattle.bench_answers.specs.WhyLine.{whyLine}

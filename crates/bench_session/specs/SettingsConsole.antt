@@ -1,8 +1,10 @@
--- The answer to each line on each bench and store: the text and the bench after it, and the store after it. A line that asks nothing of the store is the bench's.
+-- The answer to each line on each bench and store: the text and the bench after it, and the store after it. A line that
+-- asks nothing of the store is the bench's.
 --     responded b s l q      the answer to the line l that asks the request q of the store s
 --     storeLeft s q          the store after it, as `bench_session::settings_calls` defines it
 --     storeAsked l           what a line asks of the store; one that has no feed asks nothing
---     told b s l out         what the call for a line answers: how many bytes of text there are, the bench and the store, or refusal 1 where less than the room is lent
+--     told b s l out         what the call for a line answers: how many bytes of text there are, the bench and the
+--                            store, or refusal 1 where less than the room is lent
 --     leaves b s l out       the lent bytes after it: the text from byte 0 on, or as they were
 use Prim.Native.Nat.{ℕ}
 use mathlib.Core.List.{List}
@@ -26,7 +28,8 @@ use Rattle.bench_session.specs.declared.settings_console.Told.{Told}
 -- ## By the request
 
 unfoldable pub responded : Bench → Store → Line → StoreRequest → Answered
-responded b s l q = byWhose q (answered b (asked l)) (λ code. ofAccess (settingsWritten s b code)) (says (storeSays s q) b)
+responded b s l q = byWhose q (answered b (asked l)) (λ code. ofAccess (settingsWritten s b code))
+    (says (storeSays s q) b)
 
 -- ## By the line
 

@@ -45,7 +45,8 @@ fn respond(bench: Bench, request: Request, out: &mut [u8]) -> Said
 // of the answer is laid at the front of what is lent. No answer is longer than the room.
 pub fn answer(bench: Bench, line: &[u8], fed: bool, out: &mut [u8]) -> Said
     ensures answer { λ r. ⌜ r ≡ answer bench (record { chars = now (line .entry); fed = fed }) (now (out .entry)) ⌝ }
-    ensures written { λ r. ⌜ now (out .exit) ≡ benchLeaves bench (record { chars = now (line .entry); fed = fed }) (now (out .entry)) ⌝ }
+    ensures written { λ r. ⌜ now (out .exit) ≡ benchLeaves bench (record { chars = now (line .entry); fed = fed })
+        (now (out .entry)) ⌝ }
     ensures fits { λ r. ⌜ r .count ≤ room ⌝ }
 {
     if out.len() < ROOM {

@@ -49,7 +49,8 @@ fn tell_current(store: Store, current: Current, out: &mut [u8]) -> Called
 
 // A change.
 fn tell_change(done: ChangeDone, out: &mut [u8]) -> Called
-    ensures { λ r. ⌜ Calls (now (out .entry)) (changeLine (done .refusal) (done .version)) (done .store) (now (out .exit)) r ⌝ }
+    ensures { λ r. ⌜ Calls (now (out .entry)) (changeLine (done .refusal) (done .version)) (done .store)
+        (now (out .exit)) r ⌝ }
 {
     let store = done.store;
     Called {
@@ -74,7 +75,8 @@ fn tell_nothing(store: Store) -> Called
 // The call that a request asks for.
 fn make(store: Store, request: StoreRequest, out: &mut [u8]) -> Called
     requires { ⌜ hasRoom (now out) 0 lineRoom ≡ true ⌝ }
-    ensures { λ r. ⌜ Calls (now (out .entry)) (storeSays store request) (storeLeft store request) (now (out .exit)) r ⌝ }
+    ensures { λ r. ⌜ Calls (now (out .entry)) (storeSays store request) (storeLeft store request)
+        (now (out .exit)) r ⌝ }
 {
     match request {
         StoreRequest::Other => tell_nothing(store),

@@ -32,7 +32,8 @@ fn respond(
     out: &mut [u8],
 ) -> Told
     requires { ⌜ room ≤ length (now out) ⌝ }
-    ensures { λ r. ⌜ Says (now (out .entry)) (responded bench store (record { chars = now (line .entry); fed = fed }) request) (now (out .exit)) (r .said) × (r .store ≡ storeLeft store request) ⌝ }
+    ensures { λ r. ⌜ Says (now (out .entry)) (responded bench store (record { chars = now (line .entry); fed = fed })
+        request) (now (out .exit)) (r .said) × (r .store ≡ storeLeft store request) ⌝ }
 {
     match request {
         StoreRequest::Other => Told {
@@ -58,8 +59,10 @@ fn respond(
 // One line, without its feed, and whether it had one: the call that it asks for is made, and the text
 // of the answer is laid at the front of what is lent. No answer is longer than the room.
 pub fn answer(bench: Bench, store: Store, line: &[u8], fed: bool, out: &mut [u8]) -> Told
-    ensures answer { λ r. ⌜ r ≡ told bench store (record { chars = now (line .entry); fed = fed }) (now (out .entry)) ⌝ }
-    ensures written { λ r. ⌜ now (out .exit) ≡ leaves bench store (record { chars = now (line .entry); fed = fed }) (now (out .entry)) ⌝ }
+    ensures answer { λ r. ⌜ r ≡ told bench store (record { chars = now (line .entry); fed = fed })
+        (now (out .entry)) ⌝ }
+    ensures written { λ r. ⌜ now (out .exit) ≡ leaves bench store (record { chars = now (line .entry); fed = fed })
+        (now (out .entry)) ⌝ }
     ensures fits { λ r. ⌜ r .said .count ≤ room ⌝ }
 {
     if out.len() < ROOM {

@@ -1,6 +1,9 @@
--- What becomes of a capture, line by line, with no reader and no buffer: the lines as text cuts them, the edges by the rule over edges.
---     lineStep w cs          what a line of the characters cs comes to: refusal 2 for another character, then 3 for another length than eight, then the edge
---     EdgeCourse             the frames that were closed, the refusal or 0, where the line stands, and the characters behind the last feed
+-- What becomes of a capture, line by line, with no reader and no buffer: the lines as text cuts them, the edges by the
+-- rule over edges.
+--     lineStep w cs          what a line of the characters cs comes to: refusal 2 for another character, then 3 for
+--                            another length than eight, then the edge
+--     EdgeCourse             the frames that were closed, the refusal or 0, where the line stands, and the characters
+--                            behind the last feed
 --     courseOf w ls          the course of lines from a line w on; it ends at the first refusal
 --     courseOnward w s c     the course of a line that comes to the step s, where c is that of the lines behind it
 --     capture s              the course of a whole capture
@@ -57,7 +60,8 @@ courseOnward w s behind =
 
 unfoldable pub courseOf : Wire → List Line → EdgeCourse
 courseOf w [] = courseStopped w accepted []
-courseOf w (l ∷ ls) = if l .fed then courseOnward w (lineStep w (l .chars)) (courseOf (lineStep w (l .chars) .wire) ls) else courseStopped w accepted (l .chars)
+courseOf w (l ∷ ls) = if l .fed then courseOnward w (lineStep w (l .chars)) (courseOf (lineStep w (l .chars) .wire) ls)
+    else courseStopped w accepted (l .chars)
 
 abbrev pub capture : List ℕ → EdgeCourse
 capture s = courseOf untouched (linesOf s)
@@ -70,11 +74,17 @@ refusedEnd c n = record { frames = c .frames; refusal = n; wire = c .wire; left 
 
 -- an end that closes the open frame
 abbrev pub lastClosed : EdgeCourse → EdgeCourse
-lastClosed c = record { frames = c .frames ++ (c .wire .frame ∷ []); refusal = c .refusal; wire = c .wire; left = c .left }
+lastClosed c = record {
+  frames = c .frames ++ (c .wire .frame ∷ []);
+  refusal = c .refusal;
+  wire = c .wire;
+  left = c .left;
+}
 
 -- an end by where the line stands
 abbrev pub endedAt : EdgeCourse → Ending → EdgeCourse
-endedAt c e = if not (eqb (e .refusal) accepted) then refusedEnd c (e .refusal) else if e .closes then lastClosed c else c
+endedAt c e = if not (eqb (e .refusal) accepted) then refusedEnd c (e .refusal) else if e .closes then lastClosed c
+    else c
 
 -- after a refusal it is that; in a line it is refused with 2; else it goes by where the line stands
 abbrev pub courseEnded : EdgeCourse → EdgeCourse

@@ -1,4 +1,5 @@
--- Some captures and what becomes of them, as one statement: none at all, a reset that nobody answers, one that is answered with a slot of 1 and one of 0 behind it, and a time that comes twice.
+-- Some captures and what becomes of them, as one statement: none at all, a reset that nobody answers, one that is
+-- answered with a slot of 1 and one of 0 behind it, and a time that comes twice.
 use Prim.Native.Nat.{ℕ}
 use mathlib.Core.Path.{_≡_, refl}
 use mathlib.Core.List.{List, [], _∷_, _++_}
@@ -23,7 +24,8 @@ reset = fed (ascii "00000000") ++ fed (ascii "000001E0")
 
 -- presence after 32, a slot of 6 and one of 60
 abbrev answered : List ℕ
-answered = fed (ascii "00000200") ++ fed (ascii "00000260") ++ fed (ascii "00000280") ++ fed (ascii "00000286") ++ fed (ascii "00000290") ++ fed (ascii "000002CC")
+answered = fed (ascii "00000200") ++ fed (ascii "00000260") ++ fed (ascii "00000280") ++ fed (ascii "00000286")
+    ++ fed (ascii "00000290") ++ fed (ascii "000002CC")
 
 -- what an ended capture prints, and its refusal
 abbrev Prints : List ℕ → List ℕ → ℕ → Type 0

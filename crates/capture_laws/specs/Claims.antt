@@ -1,7 +1,9 @@
 -- What is claimed of a reader of captures (the claims themselves are in `Theorem`).
 --     feeds x ss             reader and buffer after pieces fed one after the other
---     Filled n out c x       reader and buffer hold the course c behind n bytes: its frames are laid there, one line behind the other, and all else of the buffer is as it was
---     Closed n out c a l     the answer a of an end and the buffer l hold the course c so, and after an accepted end the reader is fresh
+--     Filled n out c x       reader and buffer hold the course c behind n bytes: its frames are laid there, one line
+--                            behind the other, and all else of the buffer is as it was
+--     Closed n out c a l     the answer a of an end and the buffer l hold the course c so, and after an accepted end
+--                            the reader is fresh
 use Prim.Native.Nat.{ℕ, _+_}
 use mathlib.Core.Path.{_≡_}
 use mathlib.Core.List.{List, [], _∷_}

@@ -26,27 +26,41 @@ use Rattle.captures.specs.declared.edge_lines.Partial.{Partial}
 use Rattle.captures.specs.PartialLaws.{gathered-count}
 use Rattle.captures.specs.declared.edges.Reader.{Reader}
 use Rattle.captures.specs.declared.edges.Answer.{Answer}
-use Rattle.captures.specs.Edges.{refusedWith, frameWritten, closedLeaves, Reading, answersOf, finishedWith, endAnswer, endLeaves}
+use Rattle.captures.specs.Edges.{refusedWith, frameWritten, closedLeaves, Reading, answersOf, finishedWith, endAnswer}
+use Rattle.captures.specs.Edges.{endLeaves}
 use Rattle.captures.specs.EdgesLaws.{last-done, end-again, end-in-line, end-low, end-closes, end-nothing}
 use Rattle.capture_laws.specs.Capture.{EdgeCourse, refusedEnd, lastClosed, endedAt, courseEnded, FrameSound}
 use Rattle.capture_laws.specs.StepLaws.{Kept}
 use Rattle.capture_laws.specs.Claims.{Filled, Closed}
 
-module _ (n : ℕ) (out : List ℕ) (c : EdgeCourse) (x : Reading) (k : Filled n out c x) (sound : FrameSound (c .wire .frame)) where
+module _ (n : ℕ) (out : List ℕ) (c : EdgeCourse) (x : Reading) (k : Filled n out c x)
+    (sound : FrameSound (c .wire .frame)) where
   abbrev at-end : Reader
   at-end = x .reader
 
   abbrev Done : EdgeCourse → Type 0
-  Done d = n + length (writeAll (d .frames)) ≤ length out → Closed n out d (endAnswer at-end (x .out)) (endLeaves at-end (x .out))
+  Done d = n + length (writeAll (d .frames)) ≤ length out
+      → Closed n out d (endAnswer at-end (x .out)) (endLeaves at-end (x .out))
 
   -- the answer is the reader's own, with some refusal
-  own-closed : (m : ℕ) (a : Answer) (l : List ℕ) → (m ≡ accepted → ⊥) → answersOf (refusedWith at-end m) ≡ a → x .out ≡ l → Closed n out (refusedEnd c m) a l
-  own-closed m a l h e f = rw (← e, ← f) record { refusal = refl; written = k .written; laid-out = k .laid-out; restarted = λ z. absurd (h z) }
+  own-closed : (m : ℕ) (a : Answer) (l : List ℕ) → (m ≡ accepted → ⊥) → answersOf (refusedWith at-end m) ≡ a
+      → x .out ≡ l → Closed n out (refusedEnd c m) a l
+  own-closed m a l h e f = rw (← e, ← f) record {
+    refusal = refl;
+    written = k .written;
+    laid-out = k .laid-out;
+    restarted = λ z. absurd (h z);
+  }
 
   refused-before : (c .refusal ≡ accepted → ⊥) → Done c
   refused-before h room =
       let again = end-again at-end (x .out) (rw (k .refusal) h) in
-      rw (← again .0, ← again .1) record { refusal = k .refusal; written = k .written; laid-out = k .laid-out; restarted = λ z. absurd (h z) }
+      rw (← again .0, ← again .1) record {
+        refusal = k .refusal;
+        written = k .written;
+        laid-out = k .laid-out;
+        restarted = λ z. absurd (h z);
+      }
 
   module _ (well : c .refusal ≡ accepted) where
     reader-well : at-end .refusal ≡ accepted
@@ -77,7 +91,12 @@ module _ (n : ℕ) (out : List ℕ) (c : EdgeCourse) (x : Reading) (k : Filled n
       nothing-open : ending .refusal ≡ accepted → ending .closes ≡ false → Done c
       nothing-open h e room =
           let none = end-nothing at-end (x .out) reader-well no-line ending same-ending h e in
-          rw (← none .0, ← none .1) record { refusal = sym well; written = k .written; laid-out = k .laid-out; restarted = λ z. refl }
+          rw (← none .0, ← none .1) record {
+            refusal = sym well;
+            written = k .written;
+            laid-out = k .laid-out;
+            restarted = λ z. refl;
+          }
 
       last-open : ending .refusal ≡ accepted → ending .closes ≡ true → Done (lastClosed c)
       unfolding writeAll
@@ -85,13 +104,15 @@ module _ (n : ℕ) (out : List ℕ) (c : EdgeCourse) (x : Reading) (k : Filled n
           let f = c .wire .frame in
           let before = writeAll (c .frames) in
           let line = fedLine f in
-          let text : writeAll (c .frames ++ (f ∷ [])) ≡ before ++ line = write-append (c .frames) (f ∷ []) ∙ ap (λ (t : List ℕ). before ++ t) (append-nil line) in
+          let text : writeAll (c .frames ++ (f ∷ [])) ≡ before ++ line =
+          write-append (c .frames) (f ∷ []) ∙ ap (λ (t : List ℕ). before ++ t) (append-nil line) in
           let sum = ap length text ∙ length-append before line in
           let fits-before : n + length before ≤ length out = omega arith in
           let size = laid-length out n before fits-before in
           let there : n + length before + length line ≤ length (laid out n before) = omega arith in
           let put = lay-fits (laid out n before) (n + length before) line there in
-          let wrote : frameWritten at-end (x .out) ≡ record { refusal = accepted; next = n + length before + length line } =
+          let wrote : frameWritten at-end (x .out)
+          ≡ record { refusal = accepted; next = n + length before + length line } =
           rw (k .wire, k .written, k .laid-out, sound .carried) (put .0) in
           let last = end-closes at-end (x .out) reader-well no-line ending same-ending h e in
           let done = last-done at-end (x .out) (ap (λ (a : Written). a .refusal) wrote) in
@@ -109,23 +130,27 @@ module _ (n : ℕ) (out : List ℕ) (c : EdgeCourse) (x : Reading) (k : Filled n
       by-ending : Done (endedAt c ending)
       by-ending = by-refusal (eqb (ending .refusal) accepted) refl
         where
-          by-closes : (t : Bool) → ending .closes ≡ t → ending .refusal ≡ accepted → Done (if t then lastClosed c else c)
+          by-closes : (t : Bool) → ending .closes ≡ t → ending .refusal ≡ accepted
+              → Done (if t then lastClosed c else c)
           by-closes true e h = last-open h e
           by-closes false e h = nothing-open h e
 
-          by-refusal : (t : Bool) → eqb (ending .refusal) accepted ≡ t → Done (if not t then refusedEnd c (ending .refusal) else if ending .closes then lastClosed c else c)
+          by-refusal : (t : Bool) → eqb (ending .refusal) accepted ≡ t
+              → Done (if not t then refusedEnd c (ending .refusal) else if ending .closes then lastClosed c else c)
           by-refusal true h = by-closes (ending .closes) refl (eqb-true (ending .refusal) accepted h)
           by-refusal false h = in-low (eqb-false (ending .refusal) accepted h)
 
   pub end-closed : Done (courseEnded c)
   end-closed = by-refusal (eqb (c .refusal) accepted) refl
     where
-      by-line : (t : Bool) → eqb (length (c .left)) 0 ≡ t → c .refusal ≡ accepted → Done (if not t then refusedEnd c notHex else endedAt c (endingAt (c .wire .stage)))
+      by-line : (t : Bool) → eqb (length (c .left)) 0 ≡ t → c .refusal ≡ accepted
+          → Done (if not t then refusedEnd c notHex else endedAt c (endingAt (c .wire .stage)))
       by-line true e h = by-ending h (eqb-true (length (c .left)) 0 e)
       by-line false e h = in-line h (eqb-false (length (c .left)) 0 e)
 
       by-refusal : (t : Bool) → eqb (c .refusal) accepted ≡ t
-          → Done (if not t then c else if not (eqb (length (c .left)) 0) then refusedEnd c notHex else endedAt c (endingAt (c .wire .stage)))
+          → Done (if not t then c else if not (eqb (length (c .left)) 0) then refusedEnd c notHex
+          else endedAt c (endingAt (c .wire .stage)))
       by-refusal true h = by-line (eqb (length (c .left)) 0) refl (eqb-true (c .refusal) accepted h)
       by-refusal false h = refused-before (eqb-false (c .refusal) accepted h)
 
@@ -136,10 +161,12 @@ writable-last none f sound = one (sound .held) (sound .carried) none
 writable-last (one held carried rest) f sound = one held carried (writable-last rest f sound)
 
 pub ended-writable : (c : EdgeCourse) → Kept c → Writable (courseEnded c .frames)
-ended-writable c k = by-test (eqb (c .refusal) accepted) (eqb (length (c .left)) 0) (eqb (endingAt (c .wire .stage) .refusal) accepted) (endingAt (c .wire .stage) .closes)
+ended-writable c k = by-test (eqb (c .refusal) accepted) (eqb (length (c .left)) 0)
+    (eqb (endingAt (c .wire .stage) .refusal) accepted) (endingAt (c .wire .stage) .closes)
   where
     by-test : (t u v x : Bool)
-        → Writable ((if not t then c else if not u then refusedEnd c notHex else if not v then refusedEnd c (endingAt (c .wire .stage) .refusal) else if x then lastClosed c else c) .frames)
+        → Writable ((if not t then c else if not u then refusedEnd c notHex else if not v
+        then refusedEnd c (endingAt (c .wire .stage) .refusal) else if x then lastClosed c else c) .frames)
     by-test false u v x = k .writable
     by-test true false v x = k .writable
     by-test true true false x = k .writable

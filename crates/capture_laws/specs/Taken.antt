@@ -1,4 +1,5 @@
--- A capture of any length, in a buffer of any length: after each piece the host takes the bytes that stand in the buffer, and the next piece is written from its front.
+-- A capture of any length, in a buffer of any length: after each piece the host takes the bytes that stand in the
+-- buffer, and the next piece is written from its front.
 --     Piece                         the bytes of a piece, and the buffer that is lent for it
 --     inOne ps                      the bytes of the pieces, put together
 --     afterPiece r p, handedOf r p  the reader after a piece whose bytes were taken, and those bytes

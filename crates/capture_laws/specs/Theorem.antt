@@ -1,12 +1,14 @@
 -- What a reader of captures finds, whatever the cuts and whatever the buffers:
 --     any-cuts               pieces fed one after the other into a buffer make what one feed of all of them makes
---     capture-found          in a buffer with room for them, the frames, the refusal and the line are those of the course of the capture
+--     capture-found          in a buffer with room for them, the frames, the refusal and the line are those of the
+--                            course of the capture
 --     capture-short          in a buffer without, refusal 1 comes
 --     capture-read           what stands in the buffer reads back to those frames
 --     capture-ended          an end makes of them what the course with its end says
 --     ended-read             what stands in the buffer then reads back to the frames of that
 --     refusal-stays          after a refusal every feed and every end gives it again, and changes nothing
---     taken-whole            bytes taken piece by piece, one after the other, are the text of the frames of the whole capture
+--     taken-whole            bytes taken piece by piece, one after the other, are the text of the frames of the whole
+--                            capture
 --     taken-ample            it is enough for that that each buffer is 143 bytes longer than its piece
 --     taken-one-feed         so they are those of a single feed
 use Prim.Native.Nat.{ℕ, _<_, _≤_}
@@ -30,7 +32,8 @@ use Rattle.frame.specs.RecordingLaws.{read-back, write-append}
 use Rattle.captures.specs.declared.pulses.Wire.{Wire}
 use Rattle.captures.specs.Rule.{untouched}
 use Rattle.captures.specs.declared.edges.Reader.{Reader}
-use Rattle.captures.specs.Edges.{freshReader, takenSoFar, Reading, onByte, fedBytes, answersOf, feedAnswer, feedLeaves, endAnswer, endLeaves}
+use Rattle.captures.specs.Edges.{freshReader, takenSoFar, Reading, onByte, fedBytes, answersOf, feedAnswer, feedLeaves}
+use Rattle.captures.specs.Edges.{endAnswer, endLeaves}
 use Rattle.captures.specs.EdgesLaws.{refused-stays, end-again}
 use Rattle.capture_laws.specs.Capture.{EdgeCourse, courseOf, capture, courseEnded, FrameSound}
 use Rattle.capture_laws.specs.Claims.{feeds, Filled, Closed}
@@ -58,14 +61,17 @@ capture-came : (s out : List ℕ) → Came 0 out (capture s) (fedBytes freshRead
 unfolding fold all
 capture-came s out = piece-came s [] untouched 0 out refl sound-start (omega arith)
 
-pub capture-found : (s out : List ℕ) → length (writeAll (capture s .frames)) ≤ length out → Filled 0 out (capture s) (fedBytes freshReader out s)
+pub capture-found : (s out : List ℕ) → length (writeAll (capture s .frames)) ≤ length out
+    → Filled 0 out (capture s) (fedBytes freshReader out s)
 capture-found s out room = by-case (capture-came s out)
   where
-    by-case : Came 0 out (capture s) (fedBytes freshReader out s) → Filled 0 out (capture s) (fedBytes freshReader out s)
+    by-case : Came 0 out (capture s) (fedBytes freshReader out s)
+        → Filled 0 out (capture s) (fedBytes freshReader out s)
     by-case (fits h k) = k
     by-case (short h e) = absurd (omega arith)
 
-pub capture-short : (s out : List ℕ) → length out < length (writeAll (capture s .frames)) → feedAnswer freshReader out s .refusal ≡ noRoom
+pub capture-short : (s out : List ℕ) → length out < length (writeAll (capture s .frames))
+    → feedAnswer freshReader out s .refusal ≡ noRoom
 capture-short s out none = by-case (capture-came s out)
   where
     by-case : Came 0 out (capture s) (fedBytes freshReader out s) → feedAnswer freshReader out s .refusal ≡ noRoom
@@ -73,39 +79,55 @@ capture-short s out none = by-case (capture-came s out)
     by-case (short h e) = e
 
 -- what a piece left in its buffer
-front-of : (out : List ℕ) (c : EdgeCourse) (x : Reading) → Filled 0 out c x → take (x .reader .written) (x .out) ≡ writeAll (c .frames)
+front-of : (out : List ℕ) (c : EdgeCourse) (x : Reading) → Filled 0 out c x
+    → take (x .reader .written) (x .out) ≡ writeAll (c .frames)
 front-of out c x k =
     let n : x .reader .written ≡ length (writeAll (c .frames)) = k .written ∙ omega arith in
     rw (n, k .laid-out) (laid-read out 0 (writeAll (c .frames)) (omega arith))
 
 pub capture-read : (s out : List ℕ) → length (writeAll (capture s .frames)) ≤ length out
-    → readAll (take (feedAnswer freshReader out s .written) (feedLeaves freshReader out s)) ≡ map carries (capture s .frames)
+    → readAll (take (feedAnswer freshReader out s .written) (feedLeaves freshReader out s))
+    ≡ map carries (capture s .frames)
 capture-read s out room =
-    rw (front-of out (capture s) (fedBytes freshReader out s) (capture-found s out room)) (read-back (course-kept untouched sound-start (linesOf s) .writable))
+    rw (front-of out (capture s) (fedBytes freshReader out s) (capture-found s out room))
+    (read-back (course-kept untouched sound-start (linesOf s) .writable))
 
 -- with an end, in a buffer with room for the last frame too
-pub capture-ended : (s out : List ℕ) → length (writeAll (capture s .frames)) ≤ length out → length (writeAll (courseEnded (capture s) .frames)) ≤ length out
-    → let x = fedBytes freshReader out s in Closed 0 out (courseEnded (capture s)) (endAnswer (x .reader) (x .out)) (endLeaves (x .reader) (x .out))
+pub capture-ended : (s out : List ℕ) → length (writeAll (capture s .frames)) ≤ length out
+    → length (writeAll (courseEnded (capture s) .frames)) ≤ length out
+    → let x = fedBytes freshReader out s in Closed 0 out (courseEnded (capture s)) (endAnswer (x .reader) (x .out))
+    (endLeaves (x .reader) (x .out))
 capture-ended s out room last =
-    end-closed 0 out (capture s) (fedBytes freshReader out s) (capture-found s out room) (course-kept untouched sound-start (linesOf s) .last) (omega arith)
+    end-closed 0 out (capture s) (fedBytes freshReader out s) (capture-found s out room)
+    (course-kept untouched sound-start (linesOf s) .last) (omega arith)
 
-pub ended-read : (s out : List ℕ) → length (writeAll (capture s .frames)) ≤ length out → length (writeAll (courseEnded (capture s) .frames)) ≤ length out
-    → let x = fedBytes freshReader out s in readAll (take (endAnswer (x .reader) (x .out) .written) (endLeaves (x .reader) (x .out))) ≡ map carries (courseEnded (capture s) .frames)
+pub ended-read : (s out : List ℕ) → length (writeAll (capture s .frames)) ≤ length out
+    → length (writeAll (courseEnded (capture s) .frames)) ≤ length out
+    → let x = fedBytes freshReader out s in readAll
+    (take (endAnswer (x .reader) (x .out) .written) (endLeaves (x .reader) (x .out)))
+    ≡ map carries (courseEnded (capture s) .frames)
 ended-read s out room last =
     let k = capture-ended s out room last in
     let text = writeAll (courseEnded (capture s) .frames) in
-    let n : endAnswer (fedBytes freshReader out s .reader) (fedBytes freshReader out s .out) .written ≡ length text = k .written ∙ omega arith in
-    rw (n, k .laid-out, laid-read out 0 text (omega arith)) (read-back (ended-writable (capture s) (course-kept untouched sound-start (linesOf s))))
+    let n : endAnswer (fedBytes freshReader out s .reader) (fedBytes freshReader out s .out) .written ≡ length text =
+    k .written ∙ omega arith in
+    rw (n, k .laid-out, laid-read out 0 text (omega arith))
+    (read-back (ended-writable (capture s) (course-kept untouched sound-start (linesOf s))))
 
 -- ## Refusals stay
 
 pub refusal-stays : (r : Reader) → r .refusal ≢ accepted → (out s : List ℕ)
-    → (feedAnswer r out s ≡ answersOf r) × (feedLeaves r out s ≡ out) × (endAnswer r out ≡ answersOf r) × (endLeaves r out ≡ out)
+    → (feedAnswer r out s ≡ answersOf r) × (feedLeaves r out s ≡ out) × (endAnswer r out ≡ answersOf r)
+    × (endLeaves r out ≡ out)
 refusal-stays r h out s =
     let x : Reading = record { reader = r; out = out } in
     let same = refused-stays x h s in
-    let again = end-again r out h in
-    (ap (λ (y : Reading). answersOf (y .reader)) same, ap (λ (y : Reading). y .out) same, sym (again .0), sym (again .1))
+    let again = end-again r out h in (
+      ap (λ (y : Reading). answersOf (y .reader)) same,
+      ap (λ (y : Reading). y .out) same,
+      sym (again .0),
+      sym (again .1),
+    )
 
 -- ## Bytes taken piece by piece
 
@@ -119,7 +141,8 @@ handed-none r h z (p ∷ ps) =
 
 -- a first piece, where the theorem holds of those behind it
 module _ (p : Piece) (ps : List Piece) (w : Wire) (u : List ℕ) (sound : FrameSound (w .frame))
-    (later : (v : Wire) (x : List ℕ) → all notFeed x ≡ true → FrameSound (v .frame) → Roomy (holding v x 0) ps → handed (holding v x 0) ps ≡ writeAll (courseOf v (linesOf (x ++ inOne ps)) .frames)) where
+    (later : (v : Wire) (x : List ℕ) → all notFeed x ≡ true → FrameSound (v .frame) → Roomy (holding v x 0) ps
+    → handed (holding v x 0) ps ≡ writeAll (courseOf v (linesOf (x ++ inOne ps)) .frames)) where
   abbrev first-course : EdgeCourse
   first-course = courseOf w (linesOf (u ++ p .bytes))
 
@@ -127,7 +150,8 @@ module _ (p : Piece) (ps : List Piece) (w : Wire) (u : List ℕ) (sound : FrameS
   after-first = fedBytes (holding w u 0) (p .buffer) (p .bytes)
 
   abbrev Whole : Type 0
-  Whole = handedOf (holding w u 0) p ++ handed (afterPiece (holding w u 0) p) ps ≡ writeAll (courseOf w (linesOf (u ++ (p .bytes ++ inOne ps))) .frames)
+  Whole = handedOf (holding w u 0) p ++ handed (afterPiece (holding w u 0) p) ps
+      ≡ writeAll (courseOf w (linesOf (u ++ (p .bytes ++ inOne ps))) .frames)
 
   module _ (k : Filled 0 (p .buffer) first-course after-first) where
     first-handed : handedOf (holding w u 0) p ≡ writeAll (first-course .frames)
@@ -136,17 +160,21 @@ module _ (p : Piece) (ps : List Piece) (w : Wire) (u : List ℕ) (sound : FrameS
     taken-on : first-course .refusal ≡ accepted → Roomy (afterPiece (holding w u 0) p) ps → Whole
     taken-on h roomy =
         let at = fill-holds 0 (p .buffer) first-course after-first k h in
-        let next = later (first-course .wire) (first-course .left) (left-plain w (u ++ p .bytes) h) (course-kept w sound (linesOf (u ++ p .bytes)) .last) (rw at at roomy) in
+        let next = later (first-course .wire) (first-course .left) (left-plain w (u ++ p .bytes) h)
+        (course-kept w sound (linesOf (u ++ p .bytes)) .last) (rw at at roomy) in
         let more = courseOf (first-course .wire) (linesOf (first-course .left ++ inOne ps)) in
-        let all-frames : writeAll (courseOf w (linesOf (u ++ (p .bytes ++ inOne ps))) .frames) ≡ writeAll (first-course .frames) ++ writeAll (more .frames) =
+        let all-frames : writeAll (courseOf w (linesOf (u ++ (p .bytes ++ inOne ps))) .frames)
+        ≡ writeAll (first-course .frames) ++ writeAll (more .frames) =
         ap (λ (t : List ℕ). writeAll (courseOf w (linesOf t) .frames)) (sym (append-assoc u (p .bytes) (inOne ps)))
-        ∙ ap (λ (c : EdgeCourse). writeAll (c .frames)) (course-on w (u ++ p .bytes) (inOne ps) h) ∙ write-append (first-course .frames) (more .frames) in
+        ∙ ap (λ (c : EdgeCourse). writeAll (c .frames)) (course-on w (u ++ p .bytes) (inOne ps) h)
+        ∙ write-append (first-course .frames) (more .frames) in
         rw (first-handed, at, next) (sym all-frames)
 
     taken-stop : first-course .refusal ≢ accepted → Whole
     taken-stop h =
         let none = handed-none (afterPiece (holding w u 0) p) (rw (k .refusal) h) refl ps in
-        let all-frames : writeAll (courseOf w (linesOf (u ++ (p .bytes ++ inOne ps))) .frames) ≡ writeAll (first-course .frames) =
+        let all-frames : writeAll (courseOf w (linesOf (u ++ (p .bytes ++ inOne ps))) .frames)
+        ≡ writeAll (first-course .frames) =
         ap (λ (t : List ℕ). writeAll (courseOf w (linesOf t) .frames)) (sym (append-assoc u (p .bytes) (inOne ps)))
         ∙ ap (λ (c : EdgeCourse). writeAll (c .frames)) (course-stop w (u ++ p .bytes) (inOne ps) h) in
         rw (first-handed, none) (append-nil (writeAll (first-course .frames)) ∙ sym all-frames)
@@ -159,13 +187,17 @@ module _ (p : Piece) (ps : List Piece) (w : Wire) (u : List ℕ) (sound : FrameS
       by-test true e = taken-on k (eqb-true (first-course .refusal) accepted e) (roomy .1)
       by-test false e = taken-stop k (eqb-false (first-course .refusal) accepted e)
 
-taken-pieces : (ps : List Piece) (w : Wire) (u : List ℕ) → all notFeed u ≡ true → FrameSound (w .frame) → Roomy (holding w u 0) ps
+taken-pieces : (ps : List Piece) (w : Wire) (u : List ℕ) → all notFeed u ≡ true → FrameSound (w .frame)
+    → Roomy (holding w u 0) ps
     → handed (holding w u 0) ps ≡ writeAll (courseOf w (linesOf (u ++ inOne ps)) .frames)
 unfolding handed inOne writeAll
 taken-pieces [] w u plain sound room = rw (append-nil u, plain-course w u plain) refl
-taken-pieces (p ∷ ps) w u plain sound room = taken-first p ps w u sound (taken-pieces ps) (piece-came (p .bytes) u w 0 (p .buffer) plain sound (omega arith)) room
+taken-pieces (p ∷ ps) w u plain sound room =
+    taken-first p ps w u sound (taken-pieces ps)
+    (piece-came (p .bytes) u w 0 (p .buffer) plain sound (omega arith)) room
 
-pub taken-whole : (ps : List Piece) → Roomy freshReader ps → handed freshReader ps ≡ writeAll (capture (inOne ps) .frames)
+pub taken-whole : (ps : List Piece) → Roomy freshReader ps
+    → handed freshReader ps ≡ writeAll (capture (inOne ps) .frames)
 unfolding fold all
 taken-whole ps room = taken-pieces ps untouched [] refl sound-start room
 
@@ -173,7 +205,10 @@ taken-whole ps room = taken-pieces ps untouched [] refl sound-start room
 pub taken-ample : (ps : List Piece) → Ample ps → handed freshReader ps ≡ writeAll (capture (inOne ps) .frames)
 taken-ample ps room = taken-whole ps (ample-roomy ps room)
 
-pub taken-one-feed : (ps : List Piece) → Roomy freshReader ps → (out : List ℕ) → length (writeAll (capture (inOne ps) .frames)) ≤ length out
-    → handed freshReader ps ≡ take (feedAnswer freshReader out (inOne ps) .written) (feedLeaves freshReader out (inOne ps))
+pub taken-one-feed : (ps : List Piece) → Roomy freshReader ps → (out : List ℕ)
+    → length (writeAll (capture (inOne ps) .frames)) ≤ length out
+    → handed freshReader ps ≡ take (feedAnswer freshReader out (inOne ps) .written)
+    (feedLeaves freshReader out (inOne ps))
 taken-one-feed ps room out wide =
-    taken-whole ps room ∙ sym (front-of out (capture (inOne ps)) (fedBytes freshReader out (inOne ps)) (capture-found (inOne ps) out wide))
+    taken-whole ps room ∙ sym (front-of out (capture (inOne ps)) (fedBytes freshReader out (inOne ps))
+    (capture-found (inOne ps) out wide))

@@ -1,10 +1,13 @@
--- What a program prints that hands on, after each piece and after the end, the bytes that stand in its buffer, and stops at a refusal; and what has to be printed for a capture.
+-- What a program prints that hands on, after each piece and after the end, the bytes that stand in its buffer, and
+-- stops at a refusal; and what has to be printed for a capture.
 --     transcript s           the lines of the frames of a capture with its end, and behind them that of a refusal
---     printedRun r ps out    what is handed on for the pieces ps and, where none of them is refused, for the end, with out lent for it
+--     printedRun r ps out    what is handed on for the pieces ps and, where none of them is refused, for the end, with
+--                            out lent for it
 --     enoughRoom             the bytes that a buffer needs besides those of its piece
 --     Lent ps                each piece has a buffer with so much room
 --     Reached r              the reader of a program after some pieces, none of them refused
---     Handed t               bytes that a program may hand to its output: what is handed on for the next piece, or for the end
+--     Handed t               bytes that a program may hand to its output: what is handed on for the next piece, or for
+--                            the end
 use Prim.Native.Nat.{ℕ, _+_, _≤_}
 use mathlib.Core.Path.{_≡_}
 use mathlib.Core.Bool.{true}
@@ -59,9 +62,11 @@ Lent ps = Each (λ p. enoughRoom + length (p .bytes) ≤ length (p .buffer)) ps
 
 pub data Reached : Reader → Type 0 where
   start : Reached freshReader
-  more : {r : Reader} → Reached r → (p : Piece) → enoughRoom + length (p .bytes) ≤ length (p .buffer) → ofPiece r p .going ≡ true → Reached (ofPiece r p .reader)
+  more : {r : Reader} → Reached r → (p : Piece) → enoughRoom + length (p .bytes) ≤ length (p .buffer)
+      → ofPiece r p .going ≡ true → Reached (ofPiece r p .reader)
 
 pub data Handed (t : List ℕ) : Type 0 where
   of-piece : {r : Reader} → Reached r → (p : Piece) → enoughRoom + length (p .bytes) ≤ length (p .buffer)
       → t ≡ handedOn (feedAnswer r (p .buffer) (p .bytes)) (feedLeaves r (p .buffer) (p .bytes)) → Handed t
-  of-end : {r : Reader} → Reached r → (out : List ℕ) → enoughRoom ≤ length out → t ≡ handedOn (endAnswer r out) (endLeaves r out) → Handed t
+  of-end : {r : Reader} → Reached r → (out : List ℕ) → enoughRoom ≤ length out
+      → t ≡ handedOn (endAnswer r out) (endLeaves r out) → Handed t

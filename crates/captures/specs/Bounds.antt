@@ -1,4 +1,5 @@
--- How long the lows and highs of a capture last, in microseconds: the table of the request for edges. Both ends of a range belong to it.
+-- How long the lows and highs of a capture last, in microseconds: the table of the request for edges. Both ends of a
+-- range belong to it.
 --     lastsBetween a b d     whether a time is in the range from a to b
 --     isOneSlot d, isZero d  the low of a slot that shows 1, and of one that shows 0
 --     isReset d              the low of a reset

@@ -20,7 +20,8 @@ module _ (out : List ℕ) (at n : ℕ) where
       choice-else (eqb (layAnswer out at (refusedLine n) .refusal) accepted) (layAnswer out at (refusedLine n) .next) at
       (ne-eqb (layAnswer out at (refusedLine n) .refusal) accepted h)
 
-  pub refusal-laid : layAnswer out at (refusedLine n) .refusal ≡ accepted → layAnswer out at (refusedLine n) .next ≡ behindRefusal out at n
+  pub refusal-laid : layAnswer out at (refusedLine n) .refusal ≡ accepted
+      → layAnswer out at (refusedLine n) .next ≡ behindRefusal out at n
   refusal-laid h =
       choice-then (eqb (layAnswer out at (refusedLine n) .refusal) accepted) (layAnswer out at (refusedLine n) .next) at
       (eq-eqb (layAnswer out at (refusedLine n) .refusal) accepted h)
@@ -33,14 +34,23 @@ module _ (a : Answer) (out : List ℕ) where
   off = record { reader = takenSoFar (a .reader); written = behindRefusal out (a .written) (a .refusal); going = false }
 
   pub printed-refused : a .refusal ≢ accepted
-      → (record { reader = takenSoFar (a .reader); written = behindRefusal out (a .written) (a .refusal); going = false } ≡ printedFor a out)
+      → (record {
+        reader = takenSoFar (a .reader);
+        written = behindRefusal out (a .written) (a .refusal);
+        going = false;
+      } ≡ printedFor a out)
       × (layLeaves out (a .written) (refusedLine (a .refusal)) ≡ printedLeaves a out)
   printed-refused h =
-      let e = ne-eqb (a .refusal) accepted h in
-      (choice-else (eqb (a .refusal) accepted) on off e, choice-else (eqb (a .refusal) accepted) out (layLeaves out (a .written) (refusedLine (a .refusal))) e)
+      let e = ne-eqb (a .refusal) accepted h in (
+        choice-else (eqb (a .refusal) accepted) on off e,
+        choice-else (eqb (a .refusal) accepted) out (layLeaves out (a .written) (refusedLine (a .refusal))) e,
+      )
 
   pub printed-on : a .refusal ≡ accepted
-      → (record { reader = takenSoFar (a .reader); written = a .written; going = true } ≡ printedFor a out) × (out ≡ printedLeaves a out)
+      → (record { reader = takenSoFar (a .reader); written = a .written; going = true } ≡ printedFor a out)
+      × (out ≡ printedLeaves a out)
   printed-on h =
-      let e = eq-eqb (a .refusal) accepted h in
-      (choice-then (eqb (a .refusal) accepted) on off e, choice-then (eqb (a .refusal) accepted) out (layLeaves out (a .written) (refusedLine (a .refusal))) e)
+      let e = eq-eqb (a .refusal) accepted h in (
+        choice-then (eqb (a .refusal) accepted) on off e,
+        choice-then (eqb (a .refusal) accepted) out (layLeaves out (a .written) (refusedLine (a .refusal))) e,
+      )

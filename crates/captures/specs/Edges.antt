@@ -1,14 +1,17 @@
--- A capture that comes in pieces: each line is eight digits, the time of an edge; each frame that an edge closes is written as a line behind those before it. A line is judged at
--- its feed: another character than a digit is refused with 2, then another length with 3, then the edge by the rule over edges, then a frame without room with 1. A refusal changes
--- nothing else and stays.
+-- A capture that comes in pieces: each line is eight digits, the time of an edge; each frame that an edge closes is
+-- written as a line behind those before it. A line is judged at its feed: another character than a digit is refused
+-- with 2, then another length with 3, then the edge by the rule over edges, then a frame without room with 1. A refusal
+-- changes nothing else and stays.
 --     freshReader                     a reader before the first byte
 --     refusedWith r n                 the reader with a refusal
 --     withLine r l                    the reader with another unfinished line
 --     withWritten r n                 the reader with so many bytes in its buffer
 --     takenSoFar r                    the reader once the bytes in the buffer were taken: it goes on from its front
---     onEdge r s                      what an edge comes to, by its step: the reader after it, and whether the frame that r holds is closed
+--     onEdge r s                      what an edge comes to, by its step: the reader after it, and whether the frame
+--                                     that r holds is closed
 --     lineEnded r                     the same for a line at its feed
---     closedReader r q out, closedLeaves r out       the reader and the buffer once the frame that r holds is closed, where q was to come after it
+--     closedReader r q out, closedLeaves r out       the reader and the buffer once the frame that r holds is closed,
+--                                                    where q was to come after it
 --     fedLineReader r out, fedLineLeaves r out       the two after a feed
 --     Reading, onByte x c             a reader and the buffer that it fills; the two after a byte
 --     fedBytes r out s                the two after a piece
@@ -53,7 +56,10 @@ takenSoFar r = withWritten r 0
 -- an edge: a refusal, or the line after it and no character of the next
 abbrev pub onEdge : Reader → Step → Turn
 onEdge r s =
-    if eqb (s .refusal) accepted then record { closes = s .closes; reader = record { refusal = r .refusal; written = r .written; line = noLine; wire = s .wire } }
+    if eqb (s .refusal) accepted then record {
+      closes = s .closes;
+      reader = record { refusal = r .refusal; written = r .written; line = noLine; wire = s .wire };
+    }
     else record { closes = false; reader = refusedWith r (s .refusal) }
 
 abbrev pub lineEnded : Reader → Turn
@@ -68,7 +74,8 @@ lineEnded r =
 abbrev pub frameWritten : Reader → List ℕ → Written
 frameWritten r out = lineWriteAnswer out (r .written) (r .wire .frame)
 
--- the frame that was open is written, and the reader goes on behind it, or it is refused and nothing has come of the line
+-- the frame that was open is written, and the reader goes on behind it, or it is refused and nothing has come of the
+-- line
 abbrev pub closedReader : Reader → Reader → List ℕ → Reader
 closedReader before after out =
     if eqb (frameWritten before out .refusal) accepted then withWritten after (frameWritten before out .next)
@@ -99,7 +106,10 @@ stopped r = not (eqb (r .refusal) accepted)
 unfoldable pub onByte : Reading → ℕ → Reading
 onByte x c =
     if stopped (x .reader) then x
-    else if eqb c lineFeed then record { reader = fedLineReader (x .reader) (x .out); out = fedLineLeaves (x .reader) (x .out) }
+    else if eqb c lineFeed then record {
+      reader = fedLineReader (x .reader) (x .out);
+      out = fedLineLeaves (x .reader) (x .out);
+    }
     else record { reader = withLine (x .reader) (longerPartial (x .reader .line) c); out = x .out }
 
 -- a piece, byte by byte
@@ -145,4 +155,5 @@ endAnswer r out =
 
 -- the buffer, with the last frame where one is closed
 abbrev pub endLeaves : Reader → List ℕ → List ℕ
-endLeaves r out = if not (stopped r) && eqb (r .line .count) 0 && endingAt (r .wire .stage) .closes then closedLeaves r out else out
+endLeaves r out = if not (stopped r) && eqb (r .line .count) 0 && endingAt (r .wire .stage) .closes
+    then closedLeaves r out else out

@@ -1,4 +1,5 @@
--- A line of a capture, character by character: just what tells, at its feed, whether it is eight digits, and of which number.
+-- A line of a capture, character by character: just what tells, at its feed, whether it is eight digits, and of which
+-- number.
 --     timeDigits             the digits of a time
 --     noLine                 a line without a character
 --     counted n              one character more; nine are already too many, and more are not counted
@@ -27,7 +28,11 @@ abbrev pub counted : ℕ → ℕ
 counted n = if ltb n 9 then n + 1 else n
 
 abbrev pub longerPartial : Partial → ℕ → Partial
-longerPartial l c = record { count = counted (l .count); spelt = l .spelt && isDigit 16 c; number = thenDigit 16 (l .number) c % timeBound }
+longerPartial l c = record {
+  count = counted (l .count);
+  spelt = l .spelt && isDigit 16 c;
+  number = thenDigit 16 (l .number) c % timeBound;
+}
 
 abbrev pub gatheredTime : List ℕ → Partial
 gatheredTime cs = fold longerPartial noLine cs

@@ -1,4 +1,5 @@
--- What is known of a line is what text says of its characters: how many there are up to nine, whether they are digits, and of eight digits the number.
+-- What is known of a line is what text says of its characters: how many there are up to nine, whether they are digits,
+-- and of eight digits the number.
 --     gathered-time          of eight digits the number is known
 --     gathered-more          one character more
 use Prim.Native.Nat.{ℕ, _+_, _*_, _%_, _<_, _≤_, min}
@@ -54,15 +55,18 @@ gathered-spelt cs = spelt-after noLine cs
 digit-within : (x v : ℕ) → (16 * (x % timeBound) + v) % timeBound ≡ (16 * x + v) % timeBound
 digit-within x v = omega arith
 
-digits-within : (cs : List ℕ) (x y : ℕ) → x % timeBound ≡ y % timeBound → fold (thenDigit 16) x cs % timeBound ≡ fold (thenDigit 16) y cs % timeBound
+digits-within : (cs : List ℕ) (x y : ℕ) → x % timeBound ≡ y % timeBound
+    → fold (thenDigit 16) x cs % timeBound ≡ fold (thenDigit 16) y cs % timeBound
 unfolding fold
 digits-within [] x y e = e
 digits-within (c ∷ cs) x y e =
     let v = valueOf c in
-    let same : (16 * x + v) % timeBound ≡ (16 * y + v) % timeBound = sym (digit-within x v) ∙ ap (λ (z : ℕ). (16 * z + v) % timeBound) e ∙ digit-within y v in
+    let same : (16 * x + v) % timeBound ≡ (16 * y + v) % timeBound =
+    sym (digit-within x v) ∙ ap (λ (z : ℕ). (16 * z + v) % timeBound) e ∙ digit-within y v in
     digits-within cs (thenDigit 16 x c) (thenDigit 16 y c) same
 
-number-after : (l : Partial) (cs : List ℕ) → l .number < timeBound → fold longerPartial l cs .number ≡ fold (thenDigit 16) (l .number) cs % timeBound
+number-after : (l : Partial) (cs : List ℕ) → l .number < timeBound
+    → fold longerPartial l cs .number ≡ fold (thenDigit 16) (l .number) cs % timeBound
 unfolding fold
 number-after l [] h = sym (mod-eq-of-lt h)
 number-after l (c ∷ cs) h =
@@ -71,7 +75,8 @@ number-after l (c ∷ cs) h =
     let again : x % timeBound % timeBound ≡ x % timeBound = omega arith in
     number-after (longerPartial l c) cs few ∙ digits-within cs (x % timeBound) x again
 
-pub gathered-time : (cs : List ℕ) → spells 16 cs ≡ true → length cs ≡ timeDigits → gatheredTime cs .number ≡ numberIn 16 cs
+pub gathered-time : (cs : List ℕ) → spells 16 cs ≡ true → length cs ≡ timeDigits
+    → gatheredTime cs .number ≡ numberIn 16 cs
 unfolding numberIn
 gathered-time cs digital size =
     let below : numberIn 16 cs < timeBound = rw size at (number-below 16 cs digital) in

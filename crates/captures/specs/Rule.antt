@@ -1,9 +1,12 @@
--- The rule over edges. The levels alternate from the first fall on, so an edge ends a low or a high, and goes by how long that lasted. A reset opens a frame and closes the
--- one before it, at its rising edge; presence and slots are those of the open frame. A frame stands without presence until presence is seen.
+-- The rule over edges. The levels alternate from the first fall on, so an edge ends a low or a high, and goes by how
+-- long that lasted. A reset opens a frame and closes the one before it, at its rising edge; presence and slots are
+-- those of the open frame. A frame stands without presence until presence is seen.
 --     untouched                    the line before any edge
 --     begun s                      whether there was an edge
---     afterLevel s w t d           what the edge at time t comes to that ends, after d microseconds, the level at stage s
---     edgeStep w t                 what an edge at time t comes to; refusal 16 where it is not later than the one before
+--     afterLevel s w t d           what the edge at time t comes to that ends, after d microseconds, the level at stage
+--                                  s
+--     edgeStep w t                 what an edge at time t comes to; refusal 16 where it is not later than the one
+--                                  before
 --     endingAt s                   what an end comes to at a stage
 -- What an edge comes to is one of these:
 --     goes s t f                   the line is at a stage, with a frame open
@@ -50,11 +53,16 @@ abbrev pub moves : Wire → PulseStage → ℕ → Step
 moves w s t = goes s t (w .frame)
 
 abbrev pub restarts : ℕ → Bool → Step
-restarts t closes = record { refusal = accepted; closes = closes; wire = record { stage = Released; last = t; frame = blankFrame false } }
+restarts t closes = record {
+  refusal = accepted;
+  closes = closes;
+  wire = record { stage = Released; last = t; frame = blankFrame false };
+}
 
 -- one slot more; none is taken without presence, nor behind 512
 abbrev pub takesSlot : Wire → ℕ → Bool → Step
-takesSlot w t b = if w .frame .presence && ltb (w .frame .count) mostSlots then goes High t (pushed (w .frame) b) else refuses w malformed
+takesSlot w t b = if w .frame .presence && ltb (w .frame .count) mostSlots then goes High t (pushed (w .frame) b)
+    else refuses w malformed
 
 -- ## The rule, by the stage of the level that the edge ends
 
@@ -88,7 +96,8 @@ afterLevel Low w t d = afterLow w t (pulseOf d)
 
 -- an edge that is not later than the one before is refused with 16
 abbrev pub edgeStep : Wire → ℕ → Step
-edgeStep w t = if begun (w .stage) && leb t (w .last) then refuses w notLater else afterLevel (w .stage) w t (t - w .last)
+edgeStep w t = if begun (w .stage) && leb t (w .last) then refuses w notLater
+    else afterLevel (w .stage) w t (t - w .last)
 
 -- ## The end
 

@@ -12,7 +12,8 @@ use Rattle.captures.specs.declared.pulses.PulseStage.{PulseStage}
 use Rattle.captures.specs.declared.pulses.PulseStage.the-variants.{Idle, FirstLow, Released, Presence, High, Low}
 use Rattle.captures.specs.declared.pulses.Wire.{Wire}
 use Rattle.captures.specs.BoundsLaws.{between-below, between-within, between-above}
-use Rattle.captures.specs.Rule.{begun, goes, refuses, moves, restarts, takesSlot, afterFirstLow, afterRelease, afterPresence, afterLevel, edgeStep, endingAt}
+use Rattle.captures.specs.Rule.{begun, goes, refuses, moves, restarts, takesSlot, afterFirstLow, afterRelease}
+use Rattle.captures.specs.Rule.{afterPresence, afterLevel, edgeStep, endingAt}
 
 pub first-any : (s : PulseStage) (w : Wire) (t d e : ℕ) → begun s ≡ false → afterLevel s w t d ≡ afterLevel s w t e
 first-any Idle w t d e h = refl
@@ -29,11 +30,13 @@ module _ (w : Wire) (t : ℕ) (some : begun (w .stage) ≡ true) where
 
   pub edge-late : t ≤ w .last → refuses w notLater ≡ edgeStep w t
   edge-late h =
-      choice-then late (refuses w notLater) (afterLevel (w .stage) w t (t - w .last)) (ap (λ (b : Bool). b && leb t (w .last)) some ∙ le-leb t (w .last) h)
+      choice-then late (refuses w notLater) (afterLevel (w .stage) w t (t - w .last))
+      (ap (λ (b : Bool). b && leb t (w .last)) some ∙ le-leb t (w .last) h)
 
   pub edge-later : w .last < t → afterLevel (w .stage) w t (t - w .last) ≡ edgeStep w t
   edge-later h =
-      choice-else late (refuses w notLater) (afterLevel (w .stage) w t (t - w .last)) (ap (λ (b : Bool). b && leb t (w .last)) some ∙ lt-leb t (w .last) h)
+      choice-else late (refuses w notLater) (afterLevel (w .stage) w t (t - w .last))
+      (ap (λ (b : Bool). b && leb t (w .last)) some ∙ lt-leb t (w .last) h)
 
 -- an end that is refused closes no frame
 pub refused-open : (s : PulseStage) → (endingAt s .refusal ≡ accepted → ⊥) → endingAt s .closes ≡ false
@@ -82,10 +85,15 @@ module _ (w : Wire) (t : ℕ) (b : Bool) where
   room = w .frame .presence && ltb (w .frame .count) mostSlots
 
   pub slot-silent : w .frame .presence ≡ false → refuses w malformed ≡ takesSlot w t b
-  slot-silent e = choice-else room (goes High t (pushed (w .frame) b)) (refuses w malformed) (ap (λ (p : Bool). p && ltb (w .frame .count) mostSlots) e)
+  slot-silent e = choice-else room (goes High t (pushed (w .frame) b)) (refuses w malformed)
+      (ap (λ (p : Bool). p && ltb (w .frame .count) mostSlots) e)
 
   pub slot-past : mostSlots ≤ w .frame .count → refuses w malformed ≡ takesSlot w t b
-  slot-past h = choice-else room (goes High t (pushed (w .frame) b)) (refuses w malformed) (ap (λ (u : Bool). w .frame .presence && u) (le-ltb (w .frame .count) mostSlots h) ∙ and-false (w .frame .presence))
+  slot-past h = choice-else room (goes High t (pushed (w .frame) b)) (refuses w malformed)
+      (ap (λ (u : Bool). w .frame .presence && u) (le-ltb (w .frame .count) mostSlots h)
+      ∙ and-false (w .frame .presence))
 
-  pub slot-taken : w .frame .presence ≡ true → w .frame .count < mostSlots → goes High t (pushed (w .frame) b) ≡ takesSlot w t b
-  slot-taken e h = choice-then room (goes High t (pushed (w .frame) b)) (refuses w malformed) (ap (λ (p : Bool). p && ltb (w .frame .count) mostSlots) e ∙ lt-ltb (w .frame .count) mostSlots h)
+  pub slot-taken : w .frame .presence ≡ true → w .frame .count < mostSlots
+      → goes High t (pushed (w .frame) b) ≡ takesSlot w t b
+  slot-taken e h = choice-then room (goes High t (pushed (w .frame) b)) (refuses w malformed)
+      (ap (λ (p : Bool). p && ltb (w .frame .count) mostSlots) e ∙ lt-ltb (w .frame .count) mostSlots h)

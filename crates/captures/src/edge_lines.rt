@@ -35,11 +35,7 @@ pub fn none() -> Partial
 fn count_one(count: u8) -> u8
     ensures { λ r. ⌜ r ≡ counted count ⌝ }
 {
-    if count < MOST_HELD {
-        count + 1
-    } else {
-        count
-    }
+    if count < MOST_HELD { count + 1 } else { count }
 }
 
 // Whether a line is of digits so far, behind a character of some value.

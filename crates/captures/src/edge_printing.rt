@@ -51,8 +51,10 @@ fn print_answer(answer: Answer, out: &mut [u8]) -> Printed
 
 // A piece of the capture.
 pub fn print_piece(reader: Reader, s: &[u8], out: &mut [u8]) -> Printed
-    ensures answer { λ r. ⌜ r ≡ printedFor (feedAnswer reader (now (out .entry)) (now (s .entry))) (feedLeaves reader (now (out .entry)) (now (s .entry))) ⌝ }
-    ensures written { λ r. ⌜ now (out .exit) ≡ printedLeaves (feedAnswer reader (now (out .entry)) (now (s .entry))) (feedLeaves reader (now (out .entry)) (now (s .entry))) ⌝ }
+    ensures answer { λ r. ⌜ r ≡ printedFor (feedAnswer reader (now (out .entry)) (now (s .entry)))
+        (feedLeaves reader (now (out .entry)) (now (s .entry))) ⌝ }
+    ensures written { λ r. ⌜ now (out .exit) ≡ printedLeaves (feedAnswer reader (now (out .entry)) (now (s .entry)))
+        (feedLeaves reader (now (out .entry)) (now (s .entry))) ⌝ }
 {
     let fed = edges::feed(reader, s, out);
     print_answer(fed, out)
@@ -60,8 +62,10 @@ pub fn print_piece(reader: Reader, s: &[u8], out: &mut [u8]) -> Printed
 
 // The end of the capture.
 pub fn print_end(reader: Reader, out: &mut [u8]) -> Printed
-    ensures answer { λ r. ⌜ r ≡ printedFor (endAnswer reader (now (out .entry))) (endLeaves reader (now (out .entry))) ⌝ }
-    ensures written { λ r. ⌜ now (out .exit) ≡ printedLeaves (endAnswer reader (now (out .entry))) (endLeaves reader (now (out .entry))) ⌝ }
+    ensures answer { λ r. ⌜ r ≡ printedFor (endAnswer reader (now (out .entry)))
+        (endLeaves reader (now (out .entry))) ⌝ }
+    ensures written { λ r. ⌜ now (out .exit) ≡ printedLeaves (endAnswer reader (now (out .entry)))
+        (endLeaves reader (now (out .entry))) ⌝ }
 {
     let ended = edges::end(reader, out);
     print_answer(ended, out)

@@ -5,7 +5,9 @@ ghost use Prim.Native.Nat.{_<_, _≤_};
 ghost use lib.ListN.{length, drop};
 ghost use Rattle.basic_laws.specs.Fold.{fold};
 ghost use Rattle.frame.specs.Writing.{lineWriteLeaves};
-ghost use Rattle.captures.specs.Edges.{freshReader, refusedWith, withLine, onEdge, lineEnded, closedReader, fedLineReader, fedLineLeaves, onByte, answersOf, feedAnswer, feedLeaves, finishedWith, endClosed, endAnswer, endLeaves, takenSoFar};
+ghost use Rattle.captures.specs.Edges.{freshReader, refusedWith, withLine, onEdge, lineEnded, closedReader};
+ghost use Rattle.captures.specs.Edges.{fedLineReader, fedLineLeaves, onByte, answersOf, feedAnswer, feedLeaves};
+ghost use Rattle.captures.specs.Edges.{finishedWith, endClosed, endAnswer, endLeaves, takenSoFar};
 use crate::edge_lines;
 use crate::edge_lines::Partial;
 use crate::pulses;
@@ -134,7 +136,8 @@ fn end_line(reader: Reader) -> Turn
 // The frame that was open is written, or refused for want of room.
 fn close(before: Reader, after: Reader, out: &mut [u8]) -> Reader
     ensures answer { λ r. ⌜ r ≡ closedReader before after (now (out .entry)) ⌝ }
-    ensures written { λ r. ⌜ now (out .exit) ≡ lineWriteLeaves (now (out .entry)) (before .written) (before .wire .frame) ⌝ }
+    ensures written { λ r. ⌜ now (out .exit) ≡ lineWriteLeaves (now (out .entry)) (before .written)
+        (before .wire .frame) ⌝ }
 {
     let wire = before.wire;
     let frame = wire.frame;
@@ -164,7 +167,8 @@ fn take_feed(reader: Reader, out: &mut [u8]) -> Reader
 // The characters from a place on up to the next feed, and that feed, or up to the end of the piece.
 fn feed_line(reader: Reader, s: &[u8], at: usize, out: &mut [u8]) -> Progress
     requires { ⌜ at < length (now s) ⌝ }
-    ensures answer { λ r. ⌜ fold onByte record { reader = reader; out = now (out .entry) } (drop at (now (s .entry))) ≡ fold onByte record { reader = r .reader; out = now (out .exit) } (drop (r .next) (now (s .entry))) ⌝ }
+    ensures answer { λ r. ⌜ fold onByte record { reader = reader; out = now (out .entry) } (drop at (now (s .entry)))
+        ≡ fold onByte record { reader = r .reader; out = now (out .exit) } (drop (r .next) (now (s .entry))) ⌝ }
     ensures within { λ r. ⌜ (at < r .next) × (r .next ≤ length (now (s .entry))) ⌝ }
 {
     if reader.refusal != refusals::ACCEPTED {
@@ -217,7 +221,8 @@ fn finish(written: usize) -> Answer
 // An end that closes the last frame.
 fn close_last(reader: Reader, out: &mut [u8]) -> Answer
     ensures answer { λ r. ⌜ r ≡ endClosed reader (now (out .entry)) ⌝ }
-    ensures written { λ r. ⌜ now (out .exit) ≡ lineWriteLeaves (now (out .entry)) (reader .written) (reader .wire .frame) ⌝ }
+    ensures written { λ r. ⌜ now (out .exit) ≡ lineWriteLeaves (now (out .entry)) (reader .written)
+        (reader .wire .frame) ⌝ }
 {
     let wire = reader.wire;
     let frame = wire.frame;

@@ -1,7 +1,8 @@
 // The rule over edges: what the line's lows and highs come to by how long they last, in microseconds.
 ghost use mathlib.Core.Path.{_≡_};
 ghost use Rattle.captures.specs.Bounds.{pulseOf};
-ghost use Rattle.captures.specs.Rule.{untouched, begun, goes, refuses, moves, restarts, takesSlot, afterFirstLow, afterRelease, afterPresence, afterLow, afterLevel, edgeStep, endingAt};
+ghost use Rattle.captures.specs.Rule.{untouched, begun, goes, refuses, moves, restarts, takesSlot, afterFirstLow};
+ghost use Rattle.captures.specs.Rule.{afterRelease, afterPresence, afterLow, afterLevel, edgeStep, endingAt};
 use frame::Frame;
 
 // What a low is by how long it lasts.

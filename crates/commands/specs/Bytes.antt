@@ -1,7 +1,9 @@
--- A byte on the wire (the scope, "One slot"), bit by bit, lowest bit first: as a listener takes it, and as a sender gives it.
---     shiftIn s l            the shift register s with the line's bit l in: eight bits put in make the byte whose lowest bit came first
---     shifted s n l          what is held of a byte after bit l, where its first n bits are in s: so many bits of it, or at the eighth the whole byte; a count above 7,
---                            which no slots reach, leads nowhere
+-- A byte on the wire (the scope, "One slot"), bit by bit, lowest bit first: as a listener takes it, and as a sender
+-- gives it.
+--     shiftIn s l            the shift register s with the line's bit l in: eight bits put in make the byte whose
+--                            lowest bit came first
+--     shifted s n l          what is held of a byte after bit l, where its first n bits are in s: so many bits of it,
+--                            or at the eighth the whole byte; a count above 7, which no slots reach, leads nowhere
 --     byteSlot byte j        bit j of a byte that is sent; 1 past its eighth
 --     bytesSlot bytes k j    bit j of byte k of those that are sent; 1 past the last
 use Prim.Native.Nat.{ℕ, _+_, _/_}

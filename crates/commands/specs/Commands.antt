@@ -1,4 +1,5 @@
--- The command bytes of the scope's "One slot", named once for all definitions. `src/lib.rt` has the same names for the code.
+-- The command bytes of the scope's "One slot", named once for all definitions. `src/lib.rt` has the same names for the
+-- code.
 use Prim.Native.Nat.{ℕ}
 
 -- ## ROM commands, taken after a reset

@@ -19,16 +19,19 @@ module _ (reference other : List ℕ) where
   n = sharedLines reference other
 
   -- the side and the line, by what is left of each
-  on-reference : (ls ms : List Line) (at : ℕ) → 0 < length ls → (partedAt n at ls ms .side ≡ Reference) × (partedAt n at ls ms .line ≡ n + 1)
+  on-reference : (ls ms : List Line) (at : ℕ) → 0 < length ls
+      → (partedAt n at ls ms .side ≡ Reference) × (partedAt n at ls ms .line ≡ n + 1)
   on-reference [] ms at h = absurd (omega arith)
   on-reference (l ∷ ls) ms at h = (refl, refl)
 
-  on-other : (ls ms : List Line) (at : ℕ) → length ls ≡ 0 → 0 < length ms → (partedAt n at ls ms .side ≡ Other) × (partedAt n at ls ms .line ≡ n + 1)
+  on-other : (ls ms : List Line) (at : ℕ) → length ls ≡ 0 → 0 < length ms
+      → (partedAt n at ls ms .side ≡ Other) × (partedAt n at ls ms .line ≡ n + 1)
   on-other [] [] at e h = absurd (omega arith)
   on-other [] (m ∷ ms) at e h = (refl, refl)
   on-other (l ∷ ls) ms at e h = absurd (omega arith)
 
-  on-neither : (ls ms : List Line) (at : ℕ) → length ls ≡ 0 → length ms ≡ 0 → (partedAt n at ls ms .side ≡ Reference) × (partedAt n at ls ms .line ≡ 0)
+  on-neither : (ls ms : List Line) (at : ℕ) → length ls ≡ 0 → length ms ≡ 0
+      → (partedAt n at ls ms .side ≡ Reference) × (partedAt n at ls ms .line ≡ 0)
   on-neither [] [] at e h = (refl, refl)
   on-neither [] (m ∷ ms) at e h = absurd (omega arith)
   on-neither (l ∷ ls) ms at e h = absurd (omega arith)
@@ -44,14 +47,16 @@ module _ (reference other : List ℕ) where
   -- where all lines of both are shared, the recordings are one
   same-recordings : length (linesOf reference) ≡ n → length (linesOf other) ≡ n → reference ≡ other
   same-recordings a b =
-      let whole-reference : take n (linesOf reference) ≡ linesOf reference = take-all n (linesOf reference) (omega arith) in
+      let whole-reference : take n (linesOf reference) ≡ linesOf reference =
+      take-all n (linesOf reference) (omega arith) in
       let whole-other : take n (linesOf other) ≡ linesOf other = take-all n (linesOf other) (omega arith) in
       let lines : linesOf reference ≡ linesOf other = sym whole-reference ∙ front-same reference other ∙ whole-other in
       sym (lines-bytes reference) ∙ ap linesBytes lines ∙ lines-bytes other
 
   -- the bytes of the shared lines and the part, on either side
   put-together : (ls ms : List Line) (at : ℕ) → let side = partedAt n at ls ms .side in
-      linesBytes (take n (linesOf reference)) ++ linesBytes (drop n (linesOf (recordingOf side reference other))) ≡ recordingOf side reference other
+      linesBytes (take n (linesOf reference)) ++ linesBytes (drop n (linesOf (recordingOf side reference other)))
+      ≡ recordingOf side reference other
   put-together [] [] at = sym (bytes-parted reference n)
   put-together [] (m ∷ ms) at = rw (front-same reference other) (sym (bytes-parted other n))
   put-together (l ∷ ls) ms at = sym (bytes-parted reference n)
@@ -81,7 +86,8 @@ parted reference other =
     record {
       within = alike-within sameLine (linesOf reference) (linesOf other);
       before = front-same reference other;
-      next = λ l m ls' ms' d e k. alike-parts sameLine same-line-itself (linesOf reference) (linesOf other) l m ls' ms' d e k;
+      next = λ l m ls' ms' d e k. alike-parts sameLine same-line-itself (linesOf reference) (linesOf other) l m ls' ms'
+          d e k;
       goes-on = λ h. on-reference reference other ls ms at (omega arith);
       ended = λ e h. on-other reference other ls ms at (omega arith) (omega arith);
       equal = all-shared reference other;
@@ -91,5 +97,6 @@ parted reference other =
     }
 
 -- the claim of what is the part
-pub parted-by : (reference other part : List ℕ) → part ≡ partOf reference other → Parted reference other (sharedLines reference other) (departureOf reference other) part
+pub parted-by : (reference other part : List ℕ) → part ≡ partOf reference other
+    → Parted reference other (sharedLines reference other) (departureOf reference other) part
 parted-by reference other part e = rw e (parted reference other)

@@ -1,4 +1,5 @@
--- Two recordings walked line by line, and each way in which the walk can end, as the definition has it; where the part begins.
+-- Two recordings walked line by line, and each way in which the walk can end, as the definition has it; where the part
+-- begins.
 --     Walked ..              the walk's invariant
 use Prim.Native.Nat.{ℕ, suc, _+_, _-_, _<_, _≤_}
 use mathlib.Core.Path.{_≡_, refl, sym, ap, subst, _∙_}
@@ -13,7 +14,8 @@ use Rattle.basic_laws.specs.Places.{part-all}
 use Rattle.basic_laws.specs.Same.{same, alike}
 use Rattle.basic_laws.specs.SameLaws.{alike-more, alike-stop, alike-none, alike-ended, alike-front}
 use Rattle.text.specs.Lines.{Line, linesOf, linesBytes, sameLine, feedAt, firstLine, width}
-use Rattle.text.specs.LinesLaws.{line-by-end, lines-next, lines-done, lines-place, lines-from, lines-within, line-ends, same-line-equal}
+use Rattle.text.specs.LinesLaws.{line-by-end, lines-next, lines-done, lines-place, lines-from, lines-within, line-ends}
+use Rattle.text.specs.LinesLaws.{same-line-equal}
 use Rattle.comparing.specs.declared.Side.{Side}
 use Rattle.comparing.specs.declared.Side.the-variants.{Reference, Other}
 use Rattle.comparing.specs.declared.Departure.{Departure}
@@ -54,15 +56,18 @@ module _ (reference other : List ℕ) (at n : ℕ) (w : Walked reference other a
       rw (all, lines-place reference n at (w .within .0) (w .left), w .left, w .left-other)
 
   -- the other has ended
-  pub walk-other-ended : at < length reference → length other ≤ at → record { side = Reference; place = at; line = n + 1 } ≡ departureOf reference other
+  pub walk-other-ended : at < length reference → length other ≤ at
+      → record { side = Reference; place = at; line = n + 1 } ≡ departureOf reference other
   walk-other-ended before h =
-      let none = ap (alike sameLine (linesOf (drop at reference))) (lines-done other at h) ∙ alike-ended sameLine (linesOf (drop at reference)) in
+      let none = ap (alike sameLine (linesOf (drop at reference))) (lines-done other at h)
+      ∙ alike-ended sameLine (linesOf (drop at reference)) in
       rw (← walk-ends none, lines-next reference at before)
 
   -- the reference has ended, and the other goes on or not
   module _ (h : length reference ≤ at) where
     none-left : alike sameLine (linesOf (drop at reference)) (linesOf (drop at other)) ≡ 0
-    none-left = ap (λ (ls : List Line). alike sameLine ls (linesOf (drop at other))) (lines-done reference at h) ∙ alike-none sameLine (linesOf (drop at other))
+    none-left = ap (λ (ls : List Line). alike sameLine ls (linesOf (drop at other))) (lines-done reference at h)
+        ∙ alike-none sameLine (linesOf (drop at other))
 
     pub walk-ended : at < length other → record { side = Other; place = at; line = n + 1 } ≡ departureOf reference other
     walk-ended before = rw (← walk-ends none-left, lines-done reference at h, lines-next other at before)
@@ -78,7 +83,8 @@ module _ (reference other : List ℕ) (at n : ℕ) (w : Walked reference other a
     line-other = firstLine (drop at other)
 
     -- the next line is the same in both
-    pub walk-on : sameLine line line-other ≡ true → (next : ℕ) → next ≡ at + width line → Walked reference other next (n + 1)
+    pub walk-on : sameLine line line-other ≡ true → (next : ℕ) → next ≡ at + width line
+        → Walked reference other next (n + 1)
     walk-on e next place =
         let same-line : line ≡ line-other = same-line-equal line line-other e in
         let size = line-ends reference at before in
@@ -90,9 +96,12 @@ module _ (reference other : List ℕ) (at n : ℕ) (w : Walked reference other a
         let f = w .few in
         let on = one-less reference at n before (w .left) in
         let on-other = rw (← wide) at (one-less other at n before-other (w .left-other)) in
-        let more = alike-more sameLine line line-other (linesOf (drop (at + width line) reference)) (linesOf (drop (at + width line) other)) e in
+        let more = alike-more sameLine line line-other (linesOf (drop (at + width line) reference))
+        (linesOf (drop (at + width line) other)) e in
         let next-other = ap (λ (k : ℕ). line-other ∷ linesOf (drop (at + k) other)) (sym wide) in
-        let both : alike sameLine (linesOf (drop at reference)) (linesOf (drop at other)) ≡ suc (alike sameLine (linesOf (drop (at + width line) reference)) (linesOf (drop (at + width line) other))) =
+        let both : alike sameLine (linesOf (drop at reference)) (linesOf (drop at other))
+        ≡ suc (alike sameLine (linesOf (drop (at + width line) reference))
+        (linesOf (drop (at + width line) other))) =
         rw (lines-next reference at before, lines-next other at before-other ∙ next-other) more in
         let c = w .count in
         rw place record {
@@ -104,11 +113,13 @@ module _ (reference other : List ℕ) (at n : ℕ) (w : Walked reference other a
         }
 
     -- the next line is another
-    pub walk-differs : sameLine line line-other ≡ false → record { side = Reference; place = at; line = n + 1 } ≡ departureOf reference other
+    pub walk-differs : sameLine line line-other ≡ false
+        → record { side = Reference; place = at; line = n + 1 } ≡ departureOf reference other
     walk-differs e =
         let none : alike sameLine (linesOf (drop at reference)) (linesOf (drop at other)) ≡ 0 =
         rw (lines-next reference at before, lines-next other at before-other)
-        (alike-stop sameLine line line-other (linesOf (drop (at + width line) reference)) (linesOf (drop (at + width line-other) other)) e) in
+        (alike-stop sameLine line line-other (linesOf (drop (at + width line) reference))
+        (linesOf (drop (at + width line-other) other)) e) in
         rw (← walk-ends none, lines-next reference at before)
 
 -- ## Two lines, by where they end
@@ -116,10 +127,12 @@ module _ (reference other : List ℕ) (at n : ℕ) (w : Walked reference other a
 module _ (reference other : List ℕ) (at e e-other : ℕ) (h : at ≤ length reference) (h-other : at ≤ length other)
     (ends : e ≡ at + feedAt (drop at reference)) (ends-other : e-other ≡ at + feedAt (drop at other)) where
   by-ends : sameLine (firstLine (drop at reference)) (firstLine (drop at other))
-      ≡ (Bool·beq (ltb e (length reference)) (ltb e-other (length other)) && same (take (e - at) (drop at reference)) (take (e-other - at) (drop at other)))
+      ≡ (Bool·beq (ltb e (length reference)) (ltb e-other (length other))
+      && same (take (e - at) (drop at reference)) (take (e-other - at) (drop at other)))
   by-ends =
       ap (λ (l : Line). sameLine l (firstLine (drop at other))) (line-by-end reference at e h ends .1)
-      ∙ ap (sameLine record { chars = take (e - at) (drop at reference); fed = ltb e (length reference) }) (line-by-end other at e-other h-other ends-other .1)
+      ∙ ap (sameLine record { chars = take (e - at) (drop at reference); fed = ltb e (length reference) })
+      (line-by-end other at e-other h-other ends-other .1)
 
   -- one has a feed and the other has none
   pub lines-apart : not (Bool·beq (ltb e (length reference)) (ltb e-other (length other))) ≡ true
@@ -128,8 +141,10 @@ module _ (reference other : List ℕ) (at e e-other : ℕ) (h : at ≤ length re
 
   -- both or neither has one: the characters decide
   pub lines-by-characters : not (Bool·beq (ltb e (length reference)) (ltb e-other (length other))) ≡ false → (t : Bool)
-      → t ≡ same (take (e - at) (drop at reference)) (take (e-other - at) (drop at other)) → t ≡ sameLine (firstLine (drop at reference)) (firstLine (drop at other))
-  lines-by-characters d t k = k ∙ sym (by-ends ∙ rw (not-false (Bool·beq (ltb e (length reference)) (ltb e-other (length other))) d))
+      → t ≡ same (take (e - at) (drop at reference)) (take (e-other - at) (drop at other))
+      → t ≡ sameLine (firstLine (drop at reference)) (firstLine (drop at other))
+  lines-by-characters d t k = k ∙ sym (by-ends
+      ∙ rw (not-false (Bool·beq (ltb e (length reference)) (ltb e-other (length other))) d))
 
 -- ## The part
 
@@ -143,12 +158,14 @@ module _ (reference other : List ℕ) where
 
   -- the part is what stands in the recording of its side from its place on
   pub part-from : let d = departureOf reference other in
-      (d .place ≤ length (recordingOf (d .side) reference other)) × (drop (d .place) (recordingOf (d .side) reference other) ≡ partOf reference other)
+      (d .place ≤ length (recordingOf (d .side) reference other))
+      × (drop (d .place) (recordingOf (d .side) reference other) ≡ partOf reference other)
   unfolding departureOf
   part-from = by-left (drop n (linesOf reference)) (drop n (linesOf other))
     where
       of-reference : (length (linesBytes (take n (linesOf reference))) ≤ length reference)
-          × (drop (length (linesBytes (take n (linesOf reference)))) reference ≡ linesBytes (drop n (linesOf reference)))
+          × (drop (length (linesBytes (take n (linesOf reference)))) reference
+          ≡ linesBytes (drop n (linesOf reference)))
       of-reference = (lines-within reference n, lines-from reference n)
 
       of-other : (length (linesBytes (take n (linesOf reference))) ≤ length other)
@@ -157,7 +174,8 @@ module _ (reference other : List ℕ) where
 
       by-left : (ls ms : List Line) → let d = partedAt n (length (linesBytes (take n (linesOf reference)))) ls ms in
           (d .place ≤ length (recordingOf (d .side) reference other))
-          × (drop (d .place) (recordingOf (d .side) reference other) ≡ linesBytes (drop n (linesOf (recordingOf (d .side) reference other))))
+          × (drop (d .place) (recordingOf (d .side) reference other)
+          ≡ linesBytes (drop n (linesOf (recordingOf (d .side) reference other))))
       by-left [] [] = of-reference
       by-left [] (m ∷ ms) = of-other
       by-left (l ∷ ls) ms = of-reference
@@ -172,6 +190,9 @@ module _ (reference other : List ℕ) (d : Departure) (answered : d ≡ departur
       let rest = part-from reference other .1 in
       let there : departureOf reference other .side ≡ side = ap (λ (x : Departure). x .side) (sym answered) ∙ e in
       let place : d .place ≡ departureOf reference other .place = ap (λ (x : Departure). x .place) answered in (
-        rw place (subst (λ (x : Side). departureOf reference other .place ≤ length (recordingOf x reference other)) there within),
-        part-all chosen (d .place) ∙ rw place (subst (λ (x : Side). drop (departureOf reference other .place) (recordingOf x reference other) ≡ partOf reference other) there rest),
+        rw place (subst (λ (x : Side). departureOf reference other .place ≤ length (recordingOf x reference other))
+            there within),
+        part-all chosen (d .place) ∙ rw place (subst
+            (λ (x : Side). drop (departureOf reference other .place) (recordingOf x reference other)
+            ≡ partOf reference other) there rest),
       )

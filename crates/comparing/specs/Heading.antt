@@ -1,7 +1,8 @@
 -- The line in front of the part of two recordings: `reference N`, `other N`, or `equal 0`.
 --     sideWord side n        the word of a side by its number; of equal recordings, whose line is 0, another word
 --     headingOf side n       the line
---     Showable line part     bytes that a program may hand to its output: the line of two recordings, and then their part
+--     Showable line part     bytes that a program may hand to its output: the line of two recordings, and then their
+--                            part
 use Prim.Native.Nat.{ℕ}
 use mathlib.Core.Path.{_≡_}
 use mathlib.Core.List.{List, [], _∷_}
@@ -14,12 +15,14 @@ use Rattle.comparing.specs.Departure.{departureOf, partOf, sideNumber}
 use Rattle.comparing.specs.declared.Side.the-variants.{Other}
 
 abbrev pub sideWord : ℕ → ℕ → List ℕ
-sideWord side n = if eqb n 0 then ascii "equal" else if eqb side (sideNumber Other) then ascii "other" else ascii "reference"
+sideWord side n = if eqb n 0 then ascii "equal" else if eqb side (sideNumber Other) then ascii "other"
+    else ascii "reference"
 
 -- the word, and the number of the line
 unfoldable pub headingOf : ℕ → ℕ → List ℕ
 headingOf side n = line (sideWord side n ∷ decimal n ∷ [])
 
 pub data Showable (heading part : List ℕ) : Type 0 where
-  of-two : (reference other : List ℕ) → heading ≡ headingOf (sideNumber (departureOf reference other .side)) (departureOf reference other .line)
+  of-two : (reference other : List ℕ) → heading
+      ≡ headingOf (sideNumber (departureOf reference other .side)) (departureOf reference other .line)
       → part ≡ partOf reference other → Showable heading part

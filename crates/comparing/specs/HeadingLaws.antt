@@ -39,15 +39,18 @@ heading-short side n h =
     let l = decimal-length n in
     simp length-append (omega arith)
 
-pub heading-puts : (side n : ℕ) {d : List ℕ} {d₁ : List ℕ} {at : ℕ} → Puts d 0 (sideWord side n ++ space ∷ []) d₁ at → {d₂ : List ℕ} {m : ℕ}
+pub heading-puts : (side n : ℕ) {d : List ℕ} {d₁ : List ℕ} {at : ℕ} → Puts d 0 (sideWord side n ++ space ∷ []) d₁ at
+    → {d₂ : List ℕ} {m : ℕ}
     → Puts d₁ at (decimal n ++ lineFeed ∷ []) d₂ m → Puts d 0 (headingOf side n) d₂ m
 unfolding headingOf
 heading-puts side n one two = puts-field (sideWord side n) space one two
 
 -- what a call left at the front of its buffer, so much of it as the call answered, may be handed out with the part
-pub heading-shown : (reference other out : List ℕ) (side n : ℕ) (w : Written) (after part : List ℕ) → hasRoom out 0 lineRoom ≡ true
+pub heading-shown : (reference other out : List ℕ) (side n : ℕ) (w : Written) (after part : List ℕ)
+    → hasRoom out 0 lineRoom ≡ true
     → w ≡ lineAnswer out 0 (headingOf side n) → after ≡ lineLeaves out 0 (headingOf side n)
-    → side ≡ sideNumber (departureOf reference other .side) → n ≡ departureOf reference other .line → part ≡ partOf reference other
+    → side ≡ sideNumber (departureOf reference other .side) → n ≡ departureOf reference other .line
+    → part ≡ partOf reference other
     → Showable (take (w .next) after) part
 heading-shown reference other out side n w after part room answer leaves s l p =
     let x = headingOf side n in

@@ -38,7 +38,8 @@ fn put_side(out: &mut [u8], side: u8, line: usize) -> usize
 }
 
 pub fn heading(out: &mut [u8], side: u8, line: usize) -> Written
-    ensures answer { λ r. ⌜ (r ≡ lineAnswer (now (out .entry)) 0 (headingOf side line)) × (r .next ≤ length (now (out .entry))) ⌝ }
+    ensures answer { λ r. ⌜ (r ≡ lineAnswer (now (out .entry)) 0 (headingOf side line))
+        × (r .next ≤ length (now (out .entry))) ⌝ }
     ensures written { λ r. ⌜ now (out .exit) ≡ lineLeaves (now (out .entry)) 0 (headingOf side line) ⌝ }
 {
     let room = laying::has_room(out, 0, LINE_ROOM);

@@ -28,7 +28,8 @@ pub struct Departure {
 // Whether the lines that start at a place are the same in both.
 fn same_line(reference: &[u8], other: &[u8], at: usize) -> bool
     requires { ⌜ (at ≤ length (now reference)) × (at ≤ length (now other)) ⌝ }
-    ensures { λ r. ⌜ r ≡ sameLine (firstLine (drop at (now (reference .entry)))) (firstLine (drop at (now (other .entry)))) ⌝ }
+    ensures { λ r. ⌜ r ≡ sameLine (firstLine (drop at (now (reference .entry))))
+        (firstLine (drop at (now (other .entry)))) ⌝ }
 {
     let end = text::line_end(reference, at);
     let other_end = text::line_end(other, at);
@@ -97,9 +98,12 @@ pub fn side_number(side: Side) -> u8
 // line go with it.
 pub fn part<'a>(reference: &'a [u8], other: &'a [u8], side: &mut u8, line: &mut usize) -> &'a [u8]
     ensures answer { λ r. ⌜ now r ≡ partOf (now (reference .entry)) (now (other .entry)) ⌝ }
-    ensures side { λ r. ⌜ now (side .exit) ≡ sideNumber (departureOf (now (reference .entry)) (now (other .entry)) .side) ⌝ }
+    ensures side { λ r. ⌜ now (side .exit) ≡ sideNumber
+        (departureOf (now (reference .entry)) (now (other .entry)) .side) ⌝ }
     ensures line { λ r. ⌜ now (line .exit) ≡ departureOf (now (reference .entry)) (now (other .entry)) .line ⌝ }
-    ensures parted { λ r. ⌜ Parted (now (reference .entry)) (now (other .entry)) (sharedLines (now (reference .entry)) (now (other .entry))) (departureOf (now (reference .entry)) (now (other .entry))) (now r) ⌝ }
+    ensures parted { λ r. ⌜ Parted (now (reference .entry)) (now (other .entry))
+        (sharedLines (now (reference .entry)) (now (other .entry)))
+        (departureOf (now (reference .entry)) (now (other .entry))) (now r) ⌝ }
 {
     let found = compare(reference, other);
     let from = found.side;

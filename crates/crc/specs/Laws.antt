@@ -37,23 +37,27 @@ unfolding crcOf
 crc-bytes-append a b = ap (crcBits 0) (bytes-append a b) ∙ crc-append 0 (bytesBits a) (bytesBits b)
 
 -- one byte more
-pub crc-byte-more : (l : List ℕ) (i : ℕ) → i < length l → crcBits (crcOf (take i l)) (bitsOf 8 (getD l i 0)) ≡ crcOf (take (i + 1) l)
+pub crc-byte-more : (l : List ℕ) (i : ℕ) → i < length l
+    → crcBits (crcOf (take i l)) (bitsOf 8 (getD l i 0)) ≡ crcOf (take (i + 1) l)
 unfolding bytesBits
 crc-byte-more l i h =
     rw (add-one i, take-suc l i 0, crc-bytes-append (take i l) (getD l i 0 ∷ []), append-nil (bitsOf 8 (getD l i 0)))
 
 -- ## The bits of a number, one after another, as a loop of halvings takes them
 
-pub crc-turn : (r x n i : ℕ) → i < n → crcBits r (bitsOf (n - i) x) ≡ crcBits (crcBit r (odd x)) (bitsOf (n - (i + 1)) (x / 2))
+pub crc-turn : (r x n i : ℕ) → i < n → crcBits r (bitsOf (n - i) x)
+    ≡ crcBits (crcBit r (odd x)) (bitsOf (n - (i + 1)) (x / 2))
 unfolding bitsOf
-crc-turn r x n i h = let e : n - i ≡ suc (n - (i + 1)) = omega arith in rw e (crc-more r (odd x) (bitsOf (n - (i + 1)) (x / 2)))
+crc-turn r x n i h = let e : n - i ≡ suc (n - (i + 1)) = omega arith in
+    rw e (crc-more r (odd x) (bitsOf (n - (i + 1)) (x / 2)))
 
 pub crc-done : (r x n i : ℕ) → n ≤ i → crcBits r (bitsOf (n - i) x) ≡ r
 unfolding bitsOf
 crc-done r x n i h = let e : n - i ≡ 0 = omega arith in rw e (crc-none r)
 
 -- the same by whole bytes
-pub crc-byte-turn : (r x n : ℕ) → 8 ≤ n → crcBits (crcBits r (bitsOf 8 (x % 256))) (bitsOf (n - 8) (x / 256)) ≡ crcBits r (bitsOf n x)
+pub crc-byte-turn : (r x n : ℕ) → 8 ≤ n → crcBits (crcBits r (bitsOf 8 (x % 256))) (bitsOf (n - 8) (x / 256))
+    ≡ crcBits r (bitsOf n x)
 crc-byte-turn r x n h =
     let parts : x / 256 * 256 + x % 256 ≡ x = omega arith in
     let all : 8 + (n - 8) ≡ n = omega arith in

@@ -1,5 +1,6 @@
--- The CRC is linear: the register over the bitwise sum of two strings of equal length is the exclusive or of their two registers. Step by step: the bit that leaves the sum's
--- register is the sum of the two that leave, so the taps go into both registers, into one, or into none; where they go in twice they cancel.
+-- The CRC is linear: the register over the bitwise sum of two strings of equal length is the exclusive or of their two
+-- registers. Step by step: the bit that leaves the sum's register is the sum of the two that leave, so the taps go into
+-- both registers, into one, or into none; where they go in twice they cancel.
 --     crc-bit-sum                 one bit
 --     crc-sum, crc-sum-zero       two strings, from any two registers, and from zero
 --     crc-merge                   the bits of a number go in as zeros do, from the register with the number added
@@ -57,10 +58,12 @@ pub crc-bit-sum : (r s : ℕ) (a b : Bool) → crcBit (bitXor r s) (plus a b) �
 crc-bit-sum r s a b =
     ap (λ (p : Bool). if Bool·beq p (plus a b) then bitXor r s / 2 else bitXor (bitXor r s / 2) taps) (odd-xor r s)
     ∙ ap (λ (n : ℕ). if Bool·beq (plus (odd r) (odd s)) (plus a b) then n else bitXor n taps) (xor-half r s)
-    ∙ ap (λ (t : Bool). if t then bitXor (r / 2) (s / 2) else bitXor (bitXor (r / 2) (s / 2)) taps) (sums-agree (odd r) (odd s) a b)
+    ∙ ap (λ (t : Bool). if t then bitXor (r / 2) (s / 2)
+    else bitXor (bitXor (r / 2) (s / 2)) taps) (sums-agree (odd r) (odd s) a b)
     ∙ taps-cancel (Bool·beq (odd r) a) (Bool·beq (odd s) b) (r / 2) (s / 2)
 
-pub crc-sum : (r s : ℕ) (a b : List Bool) → length a ≡ length b → crcBits (bitXor r s) (sum a b) ≡ bitXor (crcBits r a) (crcBits s b)
+pub crc-sum : (r s : ℕ) (a b : List Bool) → length a ≡ length b
+    → crcBits (bitXor r s) (sum a b) ≡ bitXor (crcBits r a) (crcBits s b)
 unfolding sum
 crc-sum r s [] [] h = crc-none (bitXor r s) ∙ rw (crc-none r, crc-none s)
 crc-sum r s [] (b ∷ m) h = absurd (omega arith)
@@ -88,7 +91,8 @@ halved x = by-test (odd x)
 -- what is left of x may be added to the register before the step or after it
 xor-step-in : (r x : ℕ) → bitXor (crcBit r (odd x)) (x / 2) ≡ crcBit (bitXor r x) false
 xor-step-in r x =
-    ap (bitXor (crcBit r (odd x))) (sym (halved x)) ∙ sym (crc-bit-sum r x (odd x) (odd x)) ∙ ap (crcBit (bitXor r x)) (plus-self (odd x))
+    ap (bitXor (crcBit r (odd x))) (sym (halved x)) ∙ sym (crc-bit-sum r x (odd x) (odd x))
+    ∙ ap (crcBit (bitXor r x)) (plus-self (odd x))
 
 pub crc-merge : (n r x : ℕ) → x < 2 ^ n → crcBits r (bitsOf n x) ≡ crcBits (bitXor r x) (bitsOf n 0)
 unfolding bitsOf

@@ -1,4 +1,5 @@
--- A byte by the table: register and byte count only by their exclusive or, from which eight zero bits follow. So a table needs one entry for each value that the exclusive or can have.
+-- A byte by the table: register and byte count only by their exclusive or, from which eight zero bits follow. So a
+-- table needs one entry for each value that the exclusive or can have.
 --     entry-of           each entry of the table
 --     crc-by-table       the register after a byte is one entry
 use Prim.Native.Nat.{ℕ, zero, suc, _+_, _<_}
@@ -16,7 +17,8 @@ unfolding registers
 entry-from zero i k h = absurd (not-suc-le-zero h)
 entry-from (suc n) i zero h = ap (λ (r : ℕ). crcBits r (bitsOf 8 0)) (sym (add-zero i))
 entry-from (suc n) i (suc k) h =
-    entry-from n (suc i) k (le-of-suc-le-suc h) ∙ ap (λ (r : ℕ). crcBits r (bitsOf 8 0)) (suc-add i k ∙ sym (add-suc i k))
+    entry-from n (suc i) k (le-of-suc-le-suc h)
+    ∙ ap (λ (r : ℕ). crcBits r (bitsOf 8 0)) (suc-add i k ∙ sym (add-suc i k))
 
 pub entry-of : (k : ℕ) → k < 256 → getD (registers 0 256) k 0 ≡ crcBits k (bitsOf 8 0)
 entry-of k h = entry-from 256 0 k h ∙ ap (λ (r : ℕ). crcBits r (bitsOf 8 0)) (zero-add k)

@@ -1,5 +1,6 @@
 -- The end of a conversion and of a copy (the scope, "Temperatures" and "One slot").
---     conversionDone d count     the device after its conversion: reading stored, flag and page set by the limits of that moment, idle
+--     conversionDone d count     the device after its conversion: reading stored, flag and page set by the limits of
+--                                that moment, idle
 --     copyDone d s               the device after its copy of the settings s: they are in EEPROM, and it is idle
 --     conversionEnded d count    13 unless it is converting, 11 for a count out of range; else its conversion is done
 --     copyEnded d                13 unless it is copying; else its copy is done
@@ -43,7 +44,8 @@ notEnded n d = record { refusal = n; device = d }
 
 abbrev pub conversionEndedIn : Device → Sixteenths → Activity → Ended
 conversionEndedIn d count Idle = notEnded mismatch d
-conversionEndedIn d count Converting = if inRange (InSixteenths count) then ended (conversionDone d count) else notEnded outOfRange d
+conversionEndedIn d count Converting = if inRange (InSixteenths count) then ended (conversionDone d count)
+    else notEnded outOfRange d
 conversionEndedIn d count (Copying s) = notEnded mismatch d
 
 unfoldable pub conversionEnded : Device → Sixteenths → Ended

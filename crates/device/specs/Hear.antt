@@ -1,7 +1,9 @@
--- What a device becomes when the line has shown a bit (the scope, "One slot"). It takes the line's bit, whatever the master offered; a stage that
--- only sends does not look at it. A place that no sequence of slots reaches goes quiet.
---     afterBit at i              the stage after bit i of the code: at the next one, or after the last awaiting a function command
---     romCommand alarm c         the stage after ROM command c; a device without the alarm flag is quiet at an alarm search
+-- What a device becomes when the line has shown a bit (the scope, "One slot"). It takes the line's bit, whatever the
+-- master offered; a stage that only sends does not look at it. A place that no sequence of slots reaches goes quiet.
+--     afterBit at i              the stage after bit i of the code: at the next one, or after the last awaiting a
+--                                function command
+--     romCommand alarm c         the stage after ROM command c; a device without the alarm flag is quiet at an alarm
+--                                search
 --     copying d, recalled d      the device after 48h and after B8h, but for its stage
 --     functionCommand d c        the device after function command c
 --     storeSetting d k b         the device with byte b stored as its setting k, and what follows
@@ -15,7 +17,8 @@ use lib.ListN.{set}
 use Rattle.basic_laws.specs.Choice.{if_then_else_}
 use Rattle.basic_laws.specs.Bits.{bitAt}
 use Rattle.commands.specs.Bytes.{shifted}
-use Rattle.commands.specs.Commands.{readRom, matchRom, skipRom, searchRom, alarmSearch, convert, writeScratchpad, readScratchpad, copyScratchpad, recallEeprom, readPower}
+use Rattle.commands.specs.Commands.{readRom, matchRom, skipRom, searchRom, alarmSearch, convert, writeScratchpad}
+use Rattle.commands.specs.Commands.{readScratchpad, copyScratchpad, recallEeprom, readPower}
 use Rattle.family.specs.Layout.{highLimitPlace}
 use Rattle.commands.specs.declared.Shifted.{Shifted}
 use Rattle.commands.specs.declared.Shifted.the-variants.{Partial, Whole, Beyond}
@@ -24,7 +27,8 @@ use Rattle.device.specs.declared.Device.{Device}
 use Rattle.device.specs.declared.Phase.{Phase}
 use Rattle.device.specs.declared.Phase.the-variants.{SendBit, SendComplement, TakeBit}
 use Rattle.device.specs.declared.Stage.{Stage}
-use Rattle.device.specs.declared.Stage.the-variants.{AwaitRom, SendRom, Match, Search, AwaitFunction, TakeSettings, SendScratchpad, SendStatus, SendPower, Quiet}
+use Rattle.device.specs.declared.Stage.the-variants.{AwaitRom, SendRom, Match, Search, AwaitFunction}
+use Rattle.device.specs.declared.Stage.the-variants.{TakeSettings, SendScratchpad, SendStatus, SendPower, Quiet}
 use Rattle.device.specs.Record.{withStage, withActivity, withScratchpad, rowOf, busy}
 use Rattle.device.specs.Settings.{settingsIn, withSettings, settingsCount, settingByte}
 
@@ -116,7 +120,8 @@ hearFunction d Beyond = withStage d Quiet
 unfoldable pub storeSetting : Device → ℕ → ℕ → Device
 storeSetting d k b =
     if ltb k (settingsCount (rowOf (d .code) (d .pins)))
-    then withStage (withScratchpad d (set (d .scratchpad) (highLimitPlace + k) (settingByte (rowOf (d .code) (d .pins)) k b)))
+    then withStage (withScratchpad d (set (d .scratchpad) (highLimitPlace + k)
+    (settingByte (rowOf (d .code) (d .pins)) k b)))
     (if ltb (k + 1) (settingsCount (rowOf (d .code) (d .pins))) then TakeSettings (k + 1) 0 0 else Quiet)
     else withStage d Quiet
 

@@ -1,7 +1,9 @@
--- What can change what in a device (the scope, "One slot"). A slot never touches code, power, EEPROM, alarm flag or page; power, the end of a conversion and the end of a copy each change what they are for.
+-- What can change what in a device (the scope, "One slot"). A slot never touches code, power, EEPROM, alarm flag or
+-- page; power, the end of a conversion and the end of a copy each change what they are for.
 --     hear-..                   what a slot keeps at every stage
 --     onlyMoves s               whether a slot in stage s moves nothing but the stage: law `hear-only-stage`
---     AtLastBit d               the next slot of d ends a function command: the only one that can make it busy, law `hear-starts`
+--     AtLastBit d               the next slot of d ends a function command: the only one that can make it busy, law
+--                               `hear-starts`
 --     quiet-..                  a quiet device stays as it is and leaves the line alone
 --     Fresh code power d        d as power finds it: laws `power-up-fresh` and `joined-fresh`
 --     conversion-.., copy-..    what these keep, and what the attempt to end them comes to
@@ -25,18 +27,21 @@ use Rattle.device.specs.declared.Joining.{Joining}
 use Rattle.device.specs.declared.Power.{Power}
 use Rattle.device.specs.declared.Settings.{Settings}
 use Rattle.device.specs.declared.Stage.{Stage}
-use Rattle.device.specs.declared.Stage.the-variants.{AwaitRom, SendRom, Match, Search, AwaitFunction, TakeSettings, SendScratchpad, SendStatus, SendPower, Quiet}
+use Rattle.device.specs.declared.Stage.the-variants.{AwaitRom, SendRom, Match, Search, AwaitFunction}
+use Rattle.device.specs.declared.Stage.the-variants.{TakeSettings, SendScratchpad, SendStatus, SendPower, Quiet}
 use Rattle.device.specs.Record.{withStage, withActivity, withScratchpad, withEeprom, busy}
 use Rattle.device.specs.Offer.{offerOf}
 use Rattle.device.specs.Hear.{hearRom, hearAt, hearOf}
 use Rattle.device.specs.Power.{emptyPage, powerUp, joined}
-use Rattle.device.specs.Finish.{conversionDone, copyDone, ended, notEnded, conversionEndedIn, conversionEnded, copyEndedIn, copyEnded}
+use Rattle.device.specs.Finish.{conversionDone, copyDone, ended, notEnded, conversionEndedIn, conversionEnded}
+use Rattle.device.specs.Finish.{copyEndedIn, copyEnded}
 use Rattle.device.specs.Outcomes.{hear-outcome}
 
 -- ## A slot
 
 -- whatever depends on neither stage, activity nor scratchpad
-hear-keeps : {A : Type 0} (f : Device → A) → ((d : Device) (s : Stage) → f (withStage d s) ≡ f d) → ((d : Device) (a : Activity) → f (withActivity d a) ≡ f d)
+hear-keeps : {A : Type 0} (f : Device → A) → ((d : Device) (s : Stage) → f (withStage d s) ≡ f d)
+    → ((d : Device) (a : Activity) → f (withActivity d a) ≡ f d)
     → ((d : Device) (p : List ℕ) → f (withScratchpad d p) ≡ f d) → (d : Device) (l : Bool) → f (hearOf d l) ≡ f d
 hear-keeps f by-stage by-activity by-scratchpad d l = hear-outcome d l (λ e. f e ≡ f d)
     (record {
@@ -101,12 +106,14 @@ onlyMoves SendStatus = true
 onlyMoves SendPower = true
 onlyMoves Quiet = true
 
-pub hear-only-stage : (d : Device) (l : Bool) → onlyMoves (d .stage) ≡ true → hearOf d l ≡ withStage d (hearOf d l .stage)
+pub hear-only-stage : (d : Device) (l : Bool) → onlyMoves (d .stage) ≡ true
+    → hearOf d l ≡ withStage d (hearOf d l .stage)
 unfolding hearOf
 hear-only-stage d l h = at-stage (d .stage) h
   where
     at-stage : (s : Stage) → onlyMoves s ≡ true → hearAt d l s ≡ withStage d (hearAt d l s .stage)
-    at-stage (AwaitRom s n) e = shifted-cases s n l (λ x. hearRom d x ≡ withStage d (hearRom d x .stage)) refl (λ f. refl) refl
+    at-stage (AwaitRom s n) e = shifted-cases s n l (λ x. hearRom d x
+        ≡ withStage d (hearRom d x .stage)) refl (λ f. refl) refl
     at-stage (SendRom i) e = refl
     at-stage (Match i) e = refl
     at-stage (Search i p) e = refl
@@ -139,7 +146,14 @@ pub record Fresh (code : ℕ) (power : Power) (d : Device) : Type 0 where
 
 pub power-up-fresh : (d : Device) → Fresh (d .code) (d .power) (powerUp d)
 unfolding powerUp
-power-up-fresh d = record { code-is = refl; power-is = refl; quiet = refl; idle = refl; flag-clear = refl; page-empty = refl }
+power-up-fresh d = record {
+  code-is = refl;
+  power-is = refl;
+  quiet = refl;
+  idle = refl;
+  flag-clear = refl;
+  page-empty = refl;
+}
 
 pub power-up-eeprom : (d : Device) → powerUp d .eeprom ≡ d .eeprom
 unfolding powerUp
@@ -147,7 +161,14 @@ power-up-eeprom d = refl
 
 pub joined-fresh : (new : Joining) → Fresh (new .code) (new .power) (joined new)
 unfolding joined
-joined-fresh new = record { code-is = refl; power-is = refl; quiet = refl; idle = refl; flag-clear = refl; page-empty = refl }
+joined-fresh new = record {
+  code-is = refl;
+  power-is = refl;
+  quiet = refl;
+  idle = refl;
+  flag-clear = refl;
+  page-empty = refl;
+}
 
 -- ## The end of a conversion
 
@@ -163,12 +184,14 @@ copy-only d s = refl
 
 -- ## An attempt to end them: what holds of every refusal and of the end holds of the attempt
 
-pub conversion-ended-cases : (d : Device) (count : Sixteenths) (P : Ended → Type 0) → ((n : ℕ) → n ≢ accepted → P (notEnded n d))
+pub conversion-ended-cases : (d : Device) (count : Sixteenths) (P : Ended → Type 0)
+    → ((n : ℕ) → n ≢ accepted → P (notEnded n d))
     → (inRange (InSixteenths count) ≡ true → P (ended (conversionDone d count))) → P (conversionEnded d count)
 unfolding conversionEnded
 conversion-ended-cases d count P refusal done = in-activity (d .activity)
   where
-    by-range : (t : Bool) → inRange (InSixteenths count) ≡ t → P (if t then ended (conversionDone d count) else notEnded outOfRange d)
+    by-range : (t : Bool) → inRange (InSixteenths count) ≡ t
+        → P (if t then ended (conversionDone d count) else notEnded outOfRange d)
     by-range true r = done r
     by-range false r = refusal outOfRange (λ z. omega arith)
 

@@ -17,7 +17,8 @@ use Rattle.device.specs.declared.Phase.{Phase}
 use Rattle.device.specs.declared.Phase.the-variants.{SendBit, SendComplement, TakeBit}
 use Rattle.device.specs.declared.Power.{Power}
 use Rattle.device.specs.declared.Stage.{Stage}
-use Rattle.device.specs.declared.Stage.the-variants.{AwaitRom, SendRom, Match, Search, AwaitFunction, TakeSettings, SendScratchpad, SendStatus, SendPower, Quiet}
+use Rattle.device.specs.declared.Stage.the-variants.{AwaitRom, SendRom, Match, Search, AwaitFunction}
+use Rattle.device.specs.declared.Stage.the-variants.{TakeSettings, SendScratchpad, SendStatus, SendPower, Quiet}
 use Rattle.device.specs.Record.{fromLine, busy}
 
 abbrev pub codeSlot : ℕ → ℕ → Bool

@@ -1,6 +1,7 @@
 -- Reset, power-up and joining the bench (the scope, "One slot").
 --     resetOf d          a reset: the device listens for a ROM command; nothing else changes
---     powerUp d          the device as power finds it: scratchpad of its family with the settings of its EEPROM, flag clear, not busy, quiet, page empty
+--     powerUp d          the device as power finds it: scratchpad of its family with the settings of its EEPROM, flag
+--                        clear, not busy, quiet, page empty
 --     joined new         a new device, powered up; pins that its family has not are not kept
 -- Power in the middle of a copy leaves the EEPROM as it was before (house).
 use Prim.Native.Nat.{ℕ}
@@ -47,4 +48,8 @@ unfoldable pub joined : Joining → Device
 joined new =
     let pins = keptPins (familyRow (new .code)) (new .pins) in
     poweredUp (new .code) (new .power) pins
-    (record { high = new .high; low = new .low; configuration = keptConfiguration (rowOf (new .code) pins) (new .configuration) })
+    (record {
+      high = new .high;
+      low = new .low;
+      configuration = keptConfiguration (rowOf (new .code) pins) (new .configuration);
+    })

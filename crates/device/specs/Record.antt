@@ -22,22 +22,82 @@ use Rattle.device.specs.declared.Settings.{Settings}
 use Rattle.device.specs.declared.Stage.{Stage}
 
 abbrev pub withStage : Device → Stage → Device
-withStage d s = record { code = d .code; power = d .power; stage = s; activity = d .activity; scratchpad = d .scratchpad; eeprom = d .eeprom; alarm = d .alarm; page = d .page; pins = d .pins }
+withStage d s = record {
+  code = d .code;
+  power = d .power;
+  stage = s;
+  activity = d .activity;
+  scratchpad = d .scratchpad;
+  eeprom = d .eeprom;
+  alarm = d .alarm;
+  page = d .page;
+  pins = d .pins;
+}
 
 abbrev pub withActivity : Device → Activity → Device
-withActivity d a = record { code = d .code; power = d .power; stage = d .stage; activity = a; scratchpad = d .scratchpad; eeprom = d .eeprom; alarm = d .alarm; page = d .page; pins = d .pins }
+withActivity d a = record {
+  code = d .code;
+  power = d .power;
+  stage = d .stage;
+  activity = a;
+  scratchpad = d .scratchpad;
+  eeprom = d .eeprom;
+  alarm = d .alarm;
+  page = d .page;
+  pins = d .pins;
+}
 
 abbrev pub withScratchpad : Device → List ℕ → Device
-withScratchpad d p = record { code = d .code; power = d .power; stage = d .stage; activity = d .activity; scratchpad = p; eeprom = d .eeprom; alarm = d .alarm; page = d .page; pins = d .pins }
+withScratchpad d p = record {
+  code = d .code;
+  power = d .power;
+  stage = d .stage;
+  activity = d .activity;
+  scratchpad = p;
+  eeprom = d .eeprom;
+  alarm = d .alarm;
+  page = d .page;
+  pins = d .pins;
+}
 
 abbrev pub withEeprom : Device → Settings → Device
-withEeprom d s = record { code = d .code; power = d .power; stage = d .stage; activity = d .activity; scratchpad = d .scratchpad; eeprom = s; alarm = d .alarm; page = d .page; pins = d .pins }
+withEeprom d s = record {
+  code = d .code;
+  power = d .power;
+  stage = d .stage;
+  activity = d .activity;
+  scratchpad = d .scratchpad;
+  eeprom = s;
+  alarm = d .alarm;
+  page = d .page;
+  pins = d .pins;
+}
 
 abbrev pub withAlarm : Device → Bool → Device
-withAlarm d a = record { code = d .code; power = d .power; stage = d .stage; activity = d .activity; scratchpad = d .scratchpad; eeprom = d .eeprom; alarm = a; page = d .page; pins = d .pins }
+withAlarm d a = record {
+  code = d .code;
+  power = d .power;
+  stage = d .stage;
+  activity = d .activity;
+  scratchpad = d .scratchpad;
+  eeprom = d .eeprom;
+  alarm = a;
+  page = d .page;
+  pins = d .pins;
+}
 
 abbrev pub withPage : Device → Page → Device
-withPage d p = record { code = d .code; power = d .power; stage = d .stage; activity = d .activity; scratchpad = d .scratchpad; eeprom = d .eeprom; alarm = d .alarm; page = p; pins = d .pins }
+withPage d p = record {
+  code = d .code;
+  power = d .power;
+  stage = d .stage;
+  activity = d .activity;
+  scratchpad = d .scratchpad;
+  eeprom = d .eeprom;
+  alarm = d .alarm;
+  page = p;
+  pins = d .pins;
+}
 
 abbrev pub familyRow : ℕ → Properties
 familyRow code = propertiesOf (familyOf code)

@@ -1,5 +1,6 @@
--- The settings of a device: the two limits, and for a family with a configuration that byte too. They stand in the scratchpad from place 2 on,
--- and are written, copied and recalled together, so that whoever writes one writes its neighbours.
+-- The settings of a device: the two limits, and for a family with a configuration that byte too. They stand in the
+-- scratchpad from place 2 on, and are written, copied and recalled together, so that whoever writes one writes its
+-- neighbours.
 --     settingsIn row pad        the settings of a scratchpad; configuration 0 where the family has none
 --     withSettings row pad s    the scratchpad with the settings s, the configuration in its stored form
 --     settingsCount row         how many bytes they are: 2, or 3 with a configuration

@@ -1,5 +1,6 @@
--- What holds of every device that the calls reach (the scope, "One slot" and "Temperatures"): the configuration of a family that has one is in its
--- stored form wherever it is kept, the stored reading is in range, the counts behind it can be believed, and the flag is the verdict on the page.
+-- What holds of every device that the calls reach (the scope, "One slot" and "Temperatures"): the configuration of a
+-- family that has one is in its stored form wherever it is kept, the stored reading is in range, the counts behind it
+-- can be believed, and the flag is the verdict on the page.
 --     verdictOn page          whether a page is not empty and its reading is at or past a limit of the page
 --     PadSound row pad        what holds of a scratchpad
 --     Sound d                 what holds of a device

@@ -1,4 +1,5 @@
--- Nothing that can happen to a device takes from it what `Sound` says: joining, power, a reset, a slot, the end of a conversion and of a copy.
+-- Nothing that can happen to a device takes from it what `Sound` says: joining, power, a reset, a slot, the end of a
+-- conversion and of a copy.
 use Prim.Native.Nat.{ℕ, _+_, _<_}
 use mathlib.Core.Path.{_≡_, refl, _∙_}
 use mathlib.Core.Bool.{Bool, true, false, _&&_}
@@ -24,7 +25,8 @@ use Rattle.temperature.specs.declared.Reading.the-variants.{InSixteenths}
 use Rattle.temperature.specs.declared.Sixteenths.{Sixteenths}
 use Rattle.scratchpad.specs.Stored.{rawIn, scratchpadAfter}
 use Rattle.scratchpad.specs.Judgement.{countsBelieved}
-use Rattle.scratchpad.specs.StoredLaws.{raw-kept, believed-kept, after-length, after-other, after-raw, after-believed, stored-range}
+use Rattle.scratchpad.specs.StoredLaws.{raw-kept, believed-kept, after-length, after-other, after-raw, after-believed}
+use Rattle.scratchpad.specs.StoredLaws.{stored-range}
 use Rattle.device.specs.declared.Activity.the-variants.{Copying}
 use Rattle.device.specs.declared.Device.{Device}
 use Rattle.device.specs.declared.Joining.{Joining}
@@ -43,7 +45,8 @@ use Rattle.device.specs.Sound.{copyAsKept, PadSound, Sound}
 -- ## The scratchpad
 
 -- a byte of 4Eh
-pub setting-sound : (row : Properties) (pad : List ℕ) (k byte : ℕ) → k < 3 → PadSound row pad → PadSound row (set pad (highLimitPlace + k) (settingByte row k byte))
+pub setting-sound : (row : Properties) (pad : List ℕ) (k byte : ℕ) → k < 3 → PadSound row pad
+    → PadSound row (set pad (highLimitPlace + k) (settingByte row k byte))
 setting-sound row pad k byte few p =
     record {
       eight = length-set pad _ _ ∙ p .eight;
@@ -52,7 +55,8 @@ setting-sound row pad k byte few p =
       counts-believed = rw (believed-kept row pad (2 + k) (settingByte row k byte) (omega arith)) (p .counts-believed);
     }
   where
-    by-test : (t : Bool) → eqb k 2 ≡ t → asKept row (getD (set pad (2 + k) (if t then keptConfiguration row byte else byte)) 4 0) ≡ true
+    by-test : (t : Bool) → eqb k 2 ≡ t → asKept row
+        (getD (set pad (2 + k) (if t then keptConfiguration row byte else byte)) 4 0) ≡ true
     by-test true e =
         let f : k ≡ 2 = eqb-true k 2 e in let l : 4 < length pad = rw (p .eight) (lit< tt) in
         rw (f, getD-set-same pad 4 (keptConfiguration row byte) 0 l) (kept-as-kept row byte)
@@ -61,7 +65,8 @@ setting-sound row pad k byte few p =
         rw (getD-set-other pad (2 + k) 4 byte 0 (λ g. f (omega arith))) (p .as-kept)
 
 -- the settings of EEPROM over a scratchpad, whatever its configuration was
-pub settings-sound : (row : Properties) (pad : List ℕ) (s : Settings) → length pad ≡ 8 → inRange (rawIn row pad) ≡ true → countsBelieved row pad ≡ true → PadSound row (withSettings row pad s)
+pub settings-sound : (row : Properties) (pad : List ℕ) (s : Settings) → length pad ≡ 8 → inRange (rawIn row pad) ≡ true
+    → countsBelieved row pad ≡ true → PadSound row (withSettings row pad s)
 unfolding withSettings
 settings-sound row pad s l r c = by-test (row .configurable) refl
   where
@@ -69,13 +74,15 @@ settings-sound row pad s l r c = by-test (row .configurable) refl
     limits-kept = raw-kept row (set pad 2 (s .high)) 3 (s .low) (lit≤ tt) ∙ raw-kept row pad 2 (s .high) (lit≤ tt)
 
     limits-believed : countsBelieved row (withLimits pad s) ≡ countsBelieved row pad
-    limits-believed = believed-kept row (set pad 2 (s .high)) 3 (s .low) (lit< tt) ∙ believed-kept row pad 2 (s .high) (lit< tt)
+    limits-believed = believed-kept row (set pad 2 (s .high)) 3 (s .low) (lit< tt)
+        ∙ believed-kept row pad 2 (s .high) (lit< tt)
 
     limits-length : length (withLimits pad s) ≡ 8
     limits-length = simp length-set l
 
     by-test : (t : Bool) → row .configurable ≡ t
-        → PadSound row (if t then set (withLimits pad s) configurationPlace (keptConfiguration row (s .configuration)) else withLimits pad s)
+        → PadSound row (if t then set (withLimits pad s) configurationPlace (keptConfiguration row (s .configuration))
+        else withLimits pad s)
     by-test true e =
         let b : 4 < length (withLimits pad s) = rw limits-length (lit< tt) in
         let kept = keptConfiguration row (s .configuration) in
@@ -93,7 +100,8 @@ settings-sound row pad s l r c = by-test (row .configurable) refl
     }
 
 -- the end of a conversion
-pub after-sound : (row : Properties) (count : Sixteenths) (pad : List ℕ) → inRange (InSixteenths count) ≡ true → PadSound row pad
+pub after-sound : (row : Properties) (count : Sixteenths) (pad : List ℕ) → inRange (InSixteenths count) ≡ true
+    → PadSound row pad
     → PadSound row (scratchpadAfter row count pad)
 after-sound row count pad h p = record {
   eight = after-length row count pad ∙ p .eight;
@@ -104,9 +112,11 @@ after-sound row count pad h p = record {
 
 -- the scratchpad that power finds: of every row of the table, eight bytes, a reading in range and counts to believe
 startsSound : Properties → Bool
-startsSound row = eqb (length (row .initial)) 8 && (inRange (rawIn row (row .initial)) && countsBelieved row (row .initial))
+startsSound row = eqb (length (row .initial)) 8
+    && (inRange (rawIn row (row .initial)) && countsBelieved row (row .initial))
 
-initial-sound : (code pins : ℕ) (s : Settings) → PadSound (rowOf code pins) (withSettings (rowOf code pins) (rowOf code pins .initial) s)
+initial-sound : (code pins : ℕ) (s : Settings)
+    → PadSound (rowOf code pins) (withSettings (rowOf code pins) (rowOf code pins .initial) s)
 unfolding rowOf all startsSound
 initial-sound code pins s =
     let row = rowOf code pins in
@@ -119,16 +129,24 @@ initial-sound code pins s =
 
 -- ## The device
 
-settings-as-kept : (row : Properties) (pad : List ℕ) → PadSound row pad → asKept row (settingsIn row pad .configuration) ≡ true
+settings-as-kept : (row : Properties) (pad : List ℕ) → PadSound row pad
+    → asKept row (settingsIn row pad .configuration) ≡ true
 unfolding settingsIn
 settings-as-kept row pad p = by-test (row .configurable) refl (p .as-kept)
   where
-    by-test : (t : Bool) → row .configurable ≡ t → asKept row (getD pad configurationPlace 0) ≡ true → asKept row (if t then getD pad configurationPlace 0 else 0) ≡ true
+    by-test : (t : Bool) → row .configurable ≡ t → asKept row (getD pad configurationPlace 0) ≡ true
+        → asKept row (if t then getD pad configurationPlace 0 else 0) ≡ true
     by-test true e h = h
     by-test false e h = kept-none row 0 e
 
-powered-sound : (code : ℕ) (power : Power) (pins : ℕ) (s : Settings) → asKept (rowOf code pins) (s .configuration) ≡ true → Sound (poweredUp code power pins s)
-powered-sound code power pins s h = record { pad-sound = initial-sound code pins s; eeprom-as-kept = h; copy-as-kept = refl; flag-is = refl }
+powered-sound : (code : ℕ) (power : Power) (pins : ℕ) (s : Settings)
+    → asKept (rowOf code pins) (s .configuration) ≡ true → Sound (poweredUp code power pins s)
+powered-sound code power pins s h = record {
+  pad-sound = initial-sound code pins s;
+  eeprom-as-kept = h;
+  copy-as-kept = refl;
+  flag-is = refl;
+}
 
 pub joined-sound : (new : Joining) → Sound (joined new)
 unfolding joined
@@ -141,17 +159,39 @@ unfolding powerUp
 power-up-sound d s = powered-sound (d .code) (d .power) (d .pins) (d .eeprom) (s .eeprom-as-kept)
 
 pub reset-sound : (d : Device) → Sound d → Sound (resetOf d)
-reset-sound d s = record { pad-sound = s .pad-sound; eeprom-as-kept = s .eeprom-as-kept; copy-as-kept = s .copy-as-kept; flag-is = s .flag-is }
+reset-sound d s = record {
+  pad-sound = s .pad-sound;
+  eeprom-as-kept = s .eeprom-as-kept;
+  copy-as-kept = s .copy-as-kept;
+  flag-is = s .flag-is;
+}
 
 pub hear-sound : (d : Device) (l : Bool) → Sound d → Sound (hearOf d l)
 hear-sound d l s =
     hear-outcome d l Sound
     (record {
-      moved = λ t. record { pad-sound = p; eeprom-as-kept = s .eeprom-as-kept; copy-as-kept = s .copy-as-kept; flag-is = s .flag-is };
-      converts = λ t e i. record { pad-sound = p; eeprom-as-kept = s .eeprom-as-kept; copy-as-kept = refl; flag-is = s .flag-is };
-      copies = λ t e i. record { pad-sound = p; eeprom-as-kept = s .eeprom-as-kept; copy-as-kept = settings-as-kept row (d .scratchpad) p; flag-is = s .flag-is };
-      recalls = λ t e i. with-pad (settings-sound row (d .scratchpad) (d .eeprom) (p .eight) (p .in-range) (p .counts-believed));
-      setting-stored = λ k t e i n. with-pad (setting-sound row (d .scratchpad) k (shiftIn t l) (omega (arith, settings-few row)) p);
+      moved = λ t. record {
+        pad-sound = p;
+        eeprom-as-kept = s .eeprom-as-kept;
+        copy-as-kept = s .copy-as-kept;
+        flag-is = s .flag-is;
+      };
+      converts = λ t e i. record {
+        pad-sound = p;
+        eeprom-as-kept = s .eeprom-as-kept;
+        copy-as-kept = refl;
+        flag-is = s .flag-is;
+      };
+      copies = λ t e i. record {
+        pad-sound = p;
+        eeprom-as-kept = s .eeprom-as-kept;
+        copy-as-kept = settings-as-kept row (d .scratchpad) p;
+        flag-is = s .flag-is;
+      };
+      recalls = λ t e i. with-pad (settings-sound row (d .scratchpad) (d .eeprom) (p .eight) (p .in-range)
+          (p .counts-believed));
+      setting-stored = λ k t e i n. with-pad (setting-sound row (d .scratchpad) k (shiftIn t l)
+          (omega (arith, settings-few row)) p);
     })
   where
     row : Properties
@@ -160,10 +200,17 @@ hear-sound d l s =
     p : PadSound (rowOf (d .code) (d .pins)) (d .scratchpad)
     p = s .pad-sound
 
-    with-pad : {pad : List ℕ} {t : Stage} → PadSound (rowOf (d .code) (d .pins)) pad → Sound (withStage (withScratchpad d pad) t)
-    with-pad q = record { pad-sound = q; eeprom-as-kept = s .eeprom-as-kept; copy-as-kept = s .copy-as-kept; flag-is = s .flag-is }
+    with-pad : {pad : List ℕ} {t : Stage} → PadSound (rowOf (d .code) (d .pins)) pad
+        → Sound (withStage (withScratchpad d pad) t)
+    with-pad q = record {
+      pad-sound = q;
+      eeprom-as-kept = s .eeprom-as-kept;
+      copy-as-kept = s .copy-as-kept;
+      flag-is = s .flag-is;
+    }
 
-pub conversion-sound : (d : Device) (count : Sixteenths) → inRange (InSixteenths count) ≡ true → Sound d → Sound (conversionDone d count)
+pub conversion-sound : (d : Device) (count : Sixteenths) → inRange (InSixteenths count) ≡ true → Sound d
+    → Sound (conversionDone d count)
 unfolding conversionDone
 conversion-sound d count h s =
     record {
@@ -173,7 +220,8 @@ conversion-sound d count h s =
       flag-is = refl;
     }
 
-pub copy-sound : (d : Device) (latched : Settings) → d .activity ≡ Copying latched → Sound d → Sound (copyDone d latched)
+pub copy-sound : (d : Device) (latched : Settings) → d .activity ≡ Copying latched → Sound d
+    → Sound (copyDone d latched)
 unfolding copyDone
 copy-sound d latched e s =
     let f : copyAsKept (rowOf (d .code) (d .pins)) (Copying latched) ≡ true = rw e at (s .copy-as-kept) in

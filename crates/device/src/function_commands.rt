@@ -1,7 +1,8 @@
 // What one thermometer becomes in the slots of a function command, once it is addressed.
 ghost use mathlib.Core.Path.{_≡_};
 ghost use Rattle.device.specs.Settings.{settingsCount, settingByte};
-ghost use Rattle.device.specs.Hear.{afterScratchpad, copying, recalled, idleCommand, functionCommand, hearFunction};
+ghost use Rattle.device.specs.Hear.{afterScratchpad, copying, recalled, idleCommand, functionCommand};
+ghost use Rattle.device.specs.Hear.{hearFunction};
 ghost use Rattle.device.specs.Hear.{storeSetting, hearSettings};
 use crate::Activity;
 use crate::Device;

@@ -7,7 +7,8 @@ pub mod power_and_finishes;
 pub mod rom_commands;
 
 ghost use mathlib.Core.Path.{_≡_};
-ghost use Rattle.device.specs.Record.{withStage, withActivity, withScratchpad, withEeprom, withAlarm, withPage, familyRow, rowOf, busy, holdsWire};
+ghost use Rattle.device.specs.Record.{withStage, withActivity, withScratchpad, withEeprom, withAlarm, withPage};
+ghost use Rattle.device.specs.Record.{familyRow, rowOf, busy, holdsWire};
 ghost use Rattle.device.specs.Settings.{settingsIn, withSettings};
 use family::Properties;
 use scratchpad::EightBytes;

@@ -1,12 +1,18 @@
 -- The configuration byte, the scope's "stored form": for B, (byte AND 60h) + 1Fh.
 --     storedFormB byte                     that sum
---     storedForm byte low                  the two resolution bits (6 and 5) of the byte, a 1 in bit 4, and the low four bits of `low`: at 15 it is storedFormB
+--     storedForm byte low                  the two resolution bits (6 and 5) of the byte, a 1 in bit 4, and the low
+--                                          four bits of `low`: at 15 it is storedFormB
 --     resolution byte                      bits 6 and 5 as a number from 0 to 3
---     keptConfiguration row byte           a configuration as a device of this row keeps it: in stored form; 0 where the family has none
---     asKept row byte                      whether a device of this row can have the byte there: it is its own stored form; any byte where the family has none
---     sameSeen row a b                     whether a master takes two configurations for the same: where the family has pins, which no master knows, by the upper four bits; else by all
---     configurationAsAsked row asked byte  whether a master takes `byte` for what became of `asked`: it is the stored form of that; any byte where the family has none
---     inForm row byte                      whether a master takes the byte for a configuration: it is its own stored form; any byte where the family has none
+--     keptConfiguration row byte           a configuration as a device of this row keeps it: in stored form; 0 where
+--                                          the family has none
+--     asKept row byte                      whether a device of this row can have the byte there: it is its own stored
+--                                          form; any byte where the family has none
+--     sameSeen row a b                     whether a master takes two configurations for the same: where the family has
+--                                          pins, which no master knows, by the upper four bits; else by all
+--     configurationAsAsked row asked byte  whether a master takes `byte` for what became of `asked`: it is the stored
+--                                          form of that; any byte where the family has none
+--     inForm row byte                      whether a master takes the byte for a configuration: it is its own stored
+--                                          form; any byte where the family has none
 -- The low four bits are a parameter: a property of the family, or the pins of a device.
 use Prim.Native.Nat.{ℕ, _+_, _/_, _%_}
 use mathlib.Core.Bool.{Bool, true}
@@ -34,7 +40,8 @@ abbrev pub sameSeen : Properties → ℕ → ℕ → Bool
 sameSeen row a b = if row .pinned then eqb (a / 16) (b / 16) else eqb a b
 
 abbrev pub configurationAsAsked : Properties → ℕ → ℕ → Bool
-configurationAsAsked row asked byte = if row .configurable then sameSeen row byte (storedForm asked (row .nibble)) else true
+configurationAsAsked row asked byte = if row .configurable then sameSeen row byte (storedForm asked (row .nibble))
+    else true
 
 abbrev pub inForm : Properties → ℕ → Bool
 inForm row byte = configurationAsAsked row byte byte

@@ -1,4 +1,5 @@
--- The stored form of B is the general one at 15; what is kept is as it is kept, and in form for a master, for every row and any pins.
+-- The stored form of B is the general one at 15; what is kept is as it is kept, and in form for a master, for every row
+-- and any pins.
 use Prim.Native.Nat.{ℕ, _*_, _/_, _%_, _^_}
 use mathlib.Core.Path.{_≡_, refl, sym}
 use mathlib.Core.Bool.{Bool, true, false}
@@ -18,7 +19,8 @@ stored-form-b byte = let a = bitAnd byte 0x60 in omega arith
 stored-again : (byte low : ℕ) → storedForm (storedForm byte low) low ≡ storedForm byte low
 stored-again byte low =
     let e : bitAnd byte 0x60 ≡ byte / 2 ^ 5 % 2 ^ 2 * 2 ^ 5 = and-high byte 2 5 in
-    let f : bitAnd (storedForm byte low) 0x60 ≡ storedForm byte low / 2 ^ 5 % 2 ^ 2 * 2 ^ 5 = and-high (storedForm byte low) 2 5 in
+    let f : bitAnd (storedForm byte low) 0x60 ≡ storedForm byte low / 2 ^ 5 % 2 ^ 2 * 2 ^ 5 =
+    and-high (storedForm byte low) 2 5 in
     omega arith
 
 -- a family without a configuration asks nothing of the byte in its place
@@ -30,7 +32,8 @@ pub kept-as-kept : (row : Properties) (byte : ℕ) → asKept row (keptConfigura
 kept-as-kept row byte = by-test (row .configurable)
   where
     by-test : (t : Bool)
-        → (if t then eqb (if t then storedForm byte (row .nibble) else 0) (storedForm (if t then storedForm byte (row .nibble) else 0) (row .nibble)) else true) ≡ true
+        → (if t then eqb (if t then storedForm byte (row .nibble)
+        else 0) (storedForm (if t then storedForm byte (row .nibble) else 0) (row .nibble)) else true) ≡ true
     by-test true = eq-eqb _ _ (sym (stored-again byte (row .nibble)))
     by-test false = refl
 
@@ -44,7 +47,9 @@ pub kept-in-form : (row : Properties) (pins byte : ℕ) → asKept (withPins row
 kept-in-form row pins byte = by-tests (row .configurable) (row .pinned)
   where
     by-tests : (t u : Bool) → (if t then eqb byte (storedForm byte (if u then pins else row .nibble)) else true) ≡ true
-        → (if t then (if u then eqb (byte / 16) (storedForm byte (row .nibble) / 16) else eqb byte (storedForm byte (row .nibble))) else true) ≡ true
-    by-tests true true e = eq-eqb (byte / 16) (storedForm byte (row .nibble) / 16) (stored-upper byte pins (row .nibble) (eqb-true byte (storedForm byte pins) e))
+        → (if t then (if u then eqb (byte / 16) (storedForm byte (row .nibble) / 16)
+        else eqb byte (storedForm byte (row .nibble))) else true) ≡ true
+    by-tests true true e = eq-eqb (byte / 16) (storedForm byte (row .nibble) / 16)
+        (stored-upper byte pins (row .nibble) (eqb-true byte (storedForm byte pins) e))
     by-tests true false e = e
     by-tests false u e = refl

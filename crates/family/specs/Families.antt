@@ -1,9 +1,12 @@
--- What differs between the families, as one table: the scope's "S" (family 10h) and "B" (family 28h), and the DS1825 (family 3Bh), which is B with four address pins.
+-- What differs between the families, as one table: the scope's "S" (family 10h) and "B" (family 28h), and the DS1825
+-- (family 3Bh), which is B with four address pins.
 --     ds18s20, ds18b20, ds1825      the family codes
---     rowS, rowB, rowPinned         their rows; rowUnknown, the row of a family that is none of ours, which says so and has zeros
+--     rowS, rowB, rowPinned         their rows; rowUnknown, the row of a family that is none of ours, which says so and
+--                                   has zeros
 --     rows                          the whole table
 --     propertiesOf f                the row of family f
---     withPins row pins             the row of one device: where the family has pins, these are the low four bits of its configuration
+--     withPins row pins             the row of one device: where the family has pins, these are the low four bits of
+--                                   its configuration
 --     keptPins row pins             the pins that a device keeps: 0 where the family has none
 --     pinsWrong row pins            whether a device cannot have these pins: over 15, where the family has any
 -- The scratchpad at power-up is the scope's, with zeros in the places of the settings that come from EEPROM.
@@ -71,7 +74,8 @@ abbrev pub rows : List Properties
 rows = rowS ∷ rowB ∷ rowPinned ∷ rowUnknown ∷ []
 
 abbrev pub propertiesOf : ℕ → Properties
-propertiesOf f = if eqb f ds18s20 then rowS else if eqb f ds18b20 then rowB else if eqb f ds1825 then rowPinned else rowUnknown
+propertiesOf f = if eqb f ds18s20 then rowS else if eqb f ds18b20 then rowB else if eqb f ds1825 then rowPinned
+    else rowUnknown
 
 abbrev pub withPins : Properties → ℕ → Properties
 withPins row pins = record {

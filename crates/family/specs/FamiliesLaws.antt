@@ -1,4 +1,5 @@
--- A test that each row of the table passes is passed by the row of every family: `every-row`. What holds of the rows by computing is so shown without naming one.
+-- A test that each row of the table passes is passed by the row of every family: `every-row`. What holds of the rows by
+-- computing is so shown without naming one.
 use Prim.Native.Nat.{ℕ}
 use mathlib.Core.Path.{_≡_}
 use mathlib.Core.Bool.{Bool, true, false, _&&_}

@@ -1,4 +1,5 @@
--- Where things stand in a scratchpad, named once: bytes 0 to 7, and the ninth, their CRC. `src/lib.rt` has the same places for the code.
+-- Where things stand in a scratchpad, named once: bytes 0 to 7, and the ninth, their CRC. `src/lib.rt` has the same
+-- places for the code.
 use Prim.Native.Nat.{ℕ}
 
 -- the reading's low byte, then its high byte

@@ -1,7 +1,8 @@
 // What differs between the thermometer families, in one table, and the layout that they share.
 ghost use mathlib.Core.Path.{_≡_};
 ghost use Rattle.family.specs.Families.{propertiesOf, withPins, keptPins, pinsWrong};
-ghost use Rattle.family.specs.Configuration.{storedForm, keptConfiguration, sameSeen, configurationAsAsked, inForm};
+ghost use Rattle.family.specs.Configuration.{storedForm, keptConfiguration, sameSeen, configurationAsAsked};
+ghost use Rattle.family.specs.Configuration.{inForm};
 
 // The family codes, the low byte of a ROM code.
 pub const DS18S20: u8 = 0x10;

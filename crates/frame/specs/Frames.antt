@@ -1,10 +1,12 @@
--- A frame: one reset, whether any device showed presence, and the line's bit in each slot after it, at most 512. The first slot is bit 0 of the first
--- byte. A line can carry a frame that has no slot without presence and no bit set past its slots.
+-- A frame: one reset, whether any device showed presence, and the line's bit in each slot after it, at most 512. The
+-- first slot is bit 0 of the first byte. A line can carry a frame that has no slot without presence and no bit set past
+-- its slots.
 --     blankFrame p           a frame with no slot
 --     slotsOf f              the bits of its slots, in order
 --     slotBit f i            the bit of slot i, false at or past the count
 --     bytesFor n             how many bytes n slots take, the last of them perhaps in part
---     lineable f             whether a line can carry the frame: its count is allowed, and no bit is set at or past the count
+--     lineable f             whether a line can carry the frame: its count is allowed, and no bit is set at or past the
+--                            count
 --     withBit x i b          a byte with bit i replaced
 --     pushed f b             the frame with one slot more; as it is when it has 512
 --     slotsPushed f b        the slots so far and the new one; the slots as they are when there are 512
@@ -59,7 +61,8 @@ unfoldable pub packed : ℕ → List Bool → List ℕ
 packed zero bs = []
 packed (suc n) bs = numberOf (take 8 bs) ∷ packed n (drop 8 bs)
 
--- the frame with one slot more: the bit whose number is the count is the new one, all others are as they were, and the count is one more; the frame
+-- the frame with one slot more: the bit whose number is the count is the new one, all others are as they were, and the
+-- count is one more; the frame
 abbrev pub pushed : Frame → Bool → Frame
 pushed f b =
     if ltb (f .count) mostSlots then record {

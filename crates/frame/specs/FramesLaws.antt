@@ -1,4 +1,5 @@
--- The slots of a frame by their places, one slot more, bytes laid over a blank frame, and that slots recorded one after the other are the frame's slots.
+-- The slots of a frame by their places, one slot more, bytes laid over a blank frame, and that slots recorded one after
+-- the other are the frame's slots.
 use Prim.Native.Nat.{ℕ, zero, suc, _+_, _*_, _/_, _%_, _^_, _<_, _≤_, _-_}
 use mathlib.Core.Path.{_≡_, refl, sym, ap, _∙_}
 use mathlib.Core.Bool.{Bool, true, false, not, _&&_, or-true, and-true}
@@ -9,19 +10,23 @@ use lib.Pow.{shr-lt}
 use native.Mathlib.Numerals.{add-one}
 use borrow.Author.Tests.{eq-eqb, ne-eqb, eqb-true, eqb-false, lt-ltb, ltb-true, le-leb}
 use lib.Dec.{eqb, ltb, lit<}
-use lib.ListN.{length, set, take, drop, getD, replicate, length-set, length-replicate, length-take, length-drop, length-append, take-append-drop, List·getD-eq-default, drop-of-length-le}
-use lib.Seq.{drop-nil, drop-cons, drop-append-add, drop-append-le, take-at, drop-at, set-append-left, take-suc-set, drop-set-lt, length-take-le, drop-drop, getD-take}
+use lib.ListN.{length, set, take, drop, getD, replicate, length-set, length-replicate, length-take, length-drop}
+use lib.ListN.{length-append, take-append-drop, List·getD-eq-default, drop-of-length-le}
+use lib.Seq.{drop-nil, drop-cons, drop-append-add, drop-append-le, take-at, drop-at, set-append-left, take-suc-set}
+use lib.Seq.{drop-set-lt, length-take-le, drop-drop, getD-take}
 use Rattle.basic_laws.specs.Fold.{fold, all}
 use Rattle.basic_laws.specs.Laid.{laid}
 use Rattle.basic_laws.specs.Bits.{odd, bitAt, bitNumber, bitsOf, numberOf, bytesBits}
-use Rattle.basic_laws.specs.BitsLaws.{bits-at, number-bits, bits-length, bits-number, bits-append, number-lt, bytes-length, bytes-append, number-set, byte-bit, one-bit}
+use Rattle.basic_laws.specs.BitsLaws.{bits-at, number-bits, bits-length, bits-number, bits-append, number-lt}
+use Rattle.basic_laws.specs.BitsLaws.{bytes-length, bytes-append, number-set, byte-bit, one-bit}
 use Rattle.frame.specs.declared.Frame.{Frame}
 use Rattle.basic_laws.specs.Bytes.{Bytes}
 use Rattle.basic_laws.specs.FoldLaws.{all-append, all-drop}
 use Rattle.basic_laws.specs.Places.{set-append-add, drop-replicate}
 use Rattle.basic_laws.specs.ChoiceLaws.{and-left, and-right}
 use Rattle.basic_laws.specs.BytesLaws.{bytes-set, bytes-drop, bytes-append-bytes}
-use Rattle.frame.specs.Frames.{mostSlots, noBits, blankFrame, slotsOf, slotBit, clearFrom, countAllowed, lineable, packed, pushed, slotsPushed, pushedAll, Held, Recorded, withBit}
+use Rattle.frame.specs.Frames.{mostSlots, noBits, blankFrame, slotsOf, slotBit, clearFrom, countAllowed, lineable}
+use Rattle.frame.specs.Frames.{packed, pushed, slotsPushed, pushedAll, Held, Recorded, withBit}
 
 -- ## Bits of bytes
 
@@ -72,10 +77,12 @@ module _ (l : List ℕ) (k i : ℕ) where
   pub clear-start : (n : ℕ) → k ≡ n % 8 → i ≡ n / 8 → clearFrom k (drop i l) ≡ clearFrom n l
   clear-start n e f =
       let s : 8 * i + k ≡ n = omega arith in
-      ap (λ (t : List Bool). all not (drop k t)) (sym (bits-drop i l)) ∙ ap (all not) (drop-drop k (8 * i) (bytesBits l))
+      ap (λ (t : List Bool). all not (drop k t)) (sym (bits-drop i l))
+      ∙ ap (all not) (drop-drop k (8 * i) (bytesBits l))
       ∙ ap (λ (m : ℕ). clearFrom m l) s
 
-  pub clear-step : k < 8 → i < length l → getD l i 0 < 256 → clearFrom k (drop i l) ≡ (eqb (getD l i 0 / 2 ^ k) 0 && clearFrom 0 (drop (i + 1) l))
+  pub clear-step : k < 8 → i < length l → getD l i 0 < 256
+      → clearFrom k (drop i l) ≡ (eqb (getD l i 0 / 2 ^ k) 0 && clearFrom 0 (drop (i + 1) l))
   clear-step h j b = rw (drop-cons l i 0 j, add-one i) (clear-byte k (getD l i 0) (drop (suc i) l) h b)
 
   pub clear-end : length l ≤ i → clearFrom k (drop i l) ≡ true
@@ -108,7 +115,8 @@ clear-zeros (x ∷ l) h c =
 module _ (x : List ℕ) (few : length x ≤ 64) where
   pad-parts : laid noBits 0 x ≡ x ++ replicate (64 - length x) 0
   unfolding laid noBits
-  pad-parts = let z : 0 + length x ≡ length x = omega arith in rw z (ap (λ (t : List ℕ). x ++ t) (drop-replicate (length x) 64 0))
+  pad-parts = let z : 0 + length x ≡ length x = omega arith in
+      rw z (ap (λ (t : List ℕ). x ++ t) (drop-replicate (length x) 64 0))
 
   pub pad-length : length (laid noBits 0 x) ≡ 64
   pad-length = ap length pad-parts ∙ simp (length-append, length-replicate) (omega arith)
@@ -120,10 +128,17 @@ module _ (x : List ℕ) (few : length x ≤ 64) where
   pad-clear n h =
       let w : n ≤ length (bytesBits x) = rw (bytes-length x) h in
       let z : List ℕ = replicate (64 - length x) 0 in
-      rw (pad-parts, bytes-append x z, drop-append-le n (bytesBits x) (bytesBits z) w, all-append not (drop n (bytesBits x)) (bytesBits z), zeros-clear (64 - length x))
+      rw (
+        pad-parts,
+        bytes-append x z,
+        drop-append-le n (bytesBits x) (bytesBits z) w,
+        all-append not (drop n (bytesBits x)) (bytesBits z),
+        zeros-clear (64 - length x),
+      )
       (and-true (clearFrom n x))
 
-pub pad-back : (l : List ℕ) (n c : ℕ) → length l ≡ 64 → Bytes l → n ≤ 64 → c ≤ 8 * n → clearFrom c l ≡ true → laid noBits 0 (take n l) ≡ l
+pub pad-back : (l : List ℕ) (n c : ℕ) → length l ≡ 64 → Bytes l → n ≤ 64 → c ≤ 8 * n → clearFrom c l ≡ true
+    → laid noBits 0 (take n l) ≡ l
 pad-back l n c s h k w e =
     let t : length (take n l) ≡ n = length-take-le n l (omega arith) in
     let few : length (take n l) ≤ 64 = omega arith in
@@ -184,9 +199,15 @@ unfolding packed bytesBits
 packed-bytes [] h = refl
 packed-bytes (x ∷ l) h =
     let size = bits-length 8 x in
-    rw (take-at (bitsOf 8 x) (bytesBits l) 8 size, drop-at (bitsOf 8 x) (bytesBits l) 8 size, number-bits 8 x (h 0), packed-bytes l (λ k. h (suc k)))
+    rw (
+      take-at (bitsOf 8 x) (bytesBits l) 8 size,
+      drop-at (bitsOf 8 x) (bytesBits l) 8 size,
+      number-bits 8 x (h 0),
+      packed-bytes l (λ k. h (suc k)),
+    )
 
-slot-packed : (l : List ℕ) (i : ℕ) (b : Bool) → length l ≡ 64 → Bytes l → i < 8 * length l → withSlot l i b ≡ packed 64 (set (bytesBits l) i b)
+slot-packed : (l : List ℕ) (i : ℕ) (b : Bool) → length l ≡ 64 → Bytes l → i < 8 * length l
+    → withSlot l i b ≡ packed 64 (set (bytesBits l) i b)
 slot-packed l i b size h k =
     let x = withBit (getD l (i / 8) 0) (i % 8) b in
     let same : length (withSlot l i b) ≡ 64 = length-set l (i / 8) x ∙ size in
@@ -200,7 +221,8 @@ pub slot-here : (f : Frame) (i : ℕ) → length (f .bits) ≡ 64 → i < f .cou
 slot-here f i s h k =
     let e : 8 * (i / 8) + i % 8 ≡ i = omega arith in
     getD-take (f .count) (bytesBits (f .bits)) i false h
-    ∙ ap (λ (n : ℕ). getD (bytesBits (f .bits)) n false) (sym e) ∙ byte-bit (f .bits) (i / 8) (i % 8) (omega arith) (omega arith)
+    ∙ ap (λ (n : ℕ). getD (bytesBits (f .bits)) n false) (sym e)
+    ∙ byte-bit (f .bits) (i / 8) (i % 8) (omega arith) (omega arith)
 
 pub slot-none : (f : Frame) (i : ℕ) → f .count ≤ i → slotBit f i ≡ false
 slot-none f i h =
@@ -242,8 +264,10 @@ module _ (f : Frame) (b : Bool) (held : Held f) (room : f .count < mostSlots) wh
 
   pub push-held : Held (pushed f b)
   push-held = rw push-made record {
-    size = length-set (f .bits) (f .count / 8) (withBit (getD (f .bits) (f .count / 8) 0) (f .count % 8) b) ∙ held .size;
-    bytes = bytes-set (f .bits) (f .count / 8) (withBit (getD (f .bits) (f .count / 8) 0) (f .count % 8) b) (held .bytes) (with-lt (getD (f .bits) (f .count / 8) 0) (f .count % 8) b);
+    size = length-set (f .bits) (f .count / 8) (withBit (getD (f .bits) (f .count / 8) 0) (f .count % 8) b)
+        ∙ held .size;
+    bytes = bytes-set (f .bits) (f .count / 8) (withBit (getD (f .bits) (f .count / 8) 0) (f .count % 8) b)
+        (held .bytes) (with-lt (getD (f .bits) (f .count / 8) 0) (f .count % 8) b);
   }
 
   pub push-lineable : f .presence ≡ true → lineable f ≡ true → lineable (pushed f b) ≡ true
@@ -251,8 +275,16 @@ module _ (f : Frame) (b : Bool) (held : Held f) (room : f .count < mostSlots) wh
       let all-bits = bytesBits (f .bits) in
       let few : f .count + 1 ≤ mostSlots = omega arith in
       let past : f .count < f .count + 1 = omega arith in
-      let clear : all not (drop (f .count) all-bits) ≡ true = and-right (countAllowed (f .presence) (f .count)) (clearFrom (f .count) (f .bits)) h in
-      rw (push-made, places, le-leb (f .count + 1) mostSlots few, p, drop-set-lt (f .count + 1) all-bits (f .count) b past, ← drop-drop 1 (f .count) all-bits)
+      let clear : all not (drop (f .count) all-bits) ≡ true =
+      and-right (countAllowed (f .presence) (f .count)) (clearFrom (f .count) (f .bits)) h in
+      rw (
+        push-made,
+        places,
+        le-leb (f .count + 1) mostSlots few,
+        p,
+        drop-set-lt (f .count + 1) all-bits (f .count) b past,
+        ← drop-drop 1 (f .count) all-bits,
+      )
       (all-drop not 1 (drop (f .count) all-bits) clear)
 
 -- the slots so far and the new one, whether there was room for it or not
@@ -283,7 +315,8 @@ recorded-none = record {
   held = blank-held true;
 }
 
-pub recorded-more : (bs : List Bool) (f : Frame) (b : Bool) → length bs < mostSlots → Recorded bs f → Recorded (bs ++ (b ∷ [])) (pushed f b)
+pub recorded-more : (bs : List Bool) (f : Frame) (b : Bool) → length bs < mostSlots → Recorded bs f
+    → Recorded (bs ++ (b ∷ [])) (pushed f b)
 recorded-more bs f b h r =
     let room : f .count < mostSlots = rw (r .total) h in
     record {
@@ -294,13 +327,15 @@ recorded-more bs f b h r =
       held = push-held f b (r .held) room;
     }
 
-recorded-after : (before bs : List Bool) (f : Frame) → length before + length bs ≤ mostSlots → Recorded before f → Recorded (before ++ bs) (pushedAll f bs)
+recorded-after : (before bs : List Bool) (f : Frame) → length before + length bs ≤ mostSlots → Recorded before f
+    → Recorded (before ++ bs) (pushedAll f bs)
 unfolding fold
 recorded-after before [] f h r = rw (append-nil before) r
 recorded-after before (b ∷ bs) f h r =
     let k : length before < mostSlots = omega arith in
     let l : length (before ++ (b ∷ [])) + length bs ≤ mostSlots = simp length-append (omega arith) in
-    rw (← append-assoc before (b ∷ []) bs) (recorded-after (before ++ (b ∷ [])) bs (pushed f b) l (recorded-more before f b k r))
+    rw (← append-assoc before (b ∷ []) bs) (recorded-after (before
+    ++ (b ∷ [])) bs (pushed f b) l (recorded-more before f b k r))
 
 -- slots recorded one after the other on a blank frame are the frame's slots
 pub recorded-all : (bs : List Bool) → length bs ≤ mostSlots → Recorded bs (pushedAll (blankFrame true) bs)

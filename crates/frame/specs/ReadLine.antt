@@ -1,5 +1,5 @@
--- What one line of a recording says, with the refusals 2 and 3 in the scope's order, and what the reader answers at a place. A line has two digits
--- presence, four digits count, and the slots' bytes.
+-- What one line of a recording says, with the refusals 2 and 3 in the scope's order, and what the reader answers at a
+-- place. A line has two digits presence, four digits count, and the slots' bytes.
 --     frameIn cs             the frame that digits spell, its bytes filled up with zeros
 --     wellFormed cs          whether they have the form of a frame's line
 --     LineContent            what a line says: a frame, or the number with which it is refused
@@ -34,7 +34,11 @@ abbrev pub slotCountIn : List ℕ → ℕ
 slotCountIn cs = numberIn 16 (take 4 (drop 2 cs))
 
 abbrev pub frameIn : List ℕ → Frame
-frameIn cs = record { presence = eqb (presenceIn cs) 1; count = slotCountIn cs; bits = laid noBits 0 (bytesOf (drop 6 cs)) }
+frameIn cs = record {
+  presence = eqb (presenceIn cs) 1;
+  count = slotCountIn cs;
+  bits = laid noBits 0 (bytesOf (drop 6 cs));
+}
 
 -- whether presence is 00 or 01, the length is that of the count, and a line can carry the frame
 abbrev pub wellFormed : List ℕ → Bool
@@ -61,7 +65,8 @@ pub data Found : Type 0 where
   found : LineContent → ℕ → Found
   done : ℕ → Found
 
--- the fields of the answer: for a frame, for a refused line, and where nothing stands; the place of the next line, or the place asked for
+-- the fields of the answer: for a frame, for a refused line, and where nothing stands; the place of the next line, or
+-- the place asked for
 abbrev pub lineAnswerOf : Found → LineRead
 lineAnswerOf (found (carries f) next) = record { refusal = accepted; done = false; next = next; frame = f }
 lineAnswerOf (found (noFrame n) next) = record { refusal = n; done = false; next = next; frame = blankFrame false }
@@ -84,4 +89,5 @@ lineReadAt s at = lineAnswerOf (foundAt s at)
 -- what they say behind a head that is in order
 unfoldable pub readBody : Bool → ℕ → List ℕ → LineContent
 readBody p n cs =
-    if clearFrom n (bytesOf cs) then carries record { presence = p; count = n; bits = laid noBits 0 (bytesOf cs) } else noFrame malformed
+    if clearFrom n (bytesOf cs) then carries record { presence = p; count = n; bits = laid noBits 0 (bytesOf cs) }
+    else noFrame malformed

@@ -17,7 +17,8 @@ use Rattle.text.specs.DigitsLaws.{pairs-length}
 use Rattle.frame.specs.Frames.{noBits, bytesFor, countAllowed, clearFrom, mostSlots}
 use Rattle.frame.specs.FramesLaws.{pad-clear}
 use Rattle.text.specs.Lines.{Line}
-use Rattle.frame.specs.ReadLine.{longestLine, presenceIn, slotCountIn, frameIn, wellFormed, carries, noFrame, readDigits, readLine, readBody}
+use Rattle.frame.specs.ReadLine.{longestLine, presenceIn, slotCountIn, frameIn, wellFormed, carries, noFrame}
+use Rattle.frame.specs.ReadLine.{readDigits, readLine, readBody}
 
 -- ## Each way a line is refused before its digits are looked into
 
@@ -34,7 +35,8 @@ module _ (l : Line) where
   unfolding readLine
   read-other h e = rw (le-ltb longestLine (length (l .chars)) h, e)
 
-  pub read-fed : length (l .chars) ≤ longestLine → l .fed ≡ true → spells 16 (l .chars) ≡ true → readLine l ≡ readDigits (l .chars)
+  pub read-fed : length (l .chars) ≤ longestLine → l .fed ≡ true → spells 16 (l .chars) ≡ true
+      → readLine l ≡ readDigits (l .chars)
   unfolding readLine
   read-fed h e d = rw (le-ltb longestLine (length (l .chars)) h, e, d)
 
@@ -49,10 +51,13 @@ pub record Accepted (l : Line) (f : Frame) : Type 0 where
 
 pub read-accepted : (l : Line) (f : Frame) → readLine l ≡ carries f → Accepted l f
 unfolding readLine readDigits
-read-accepted l f h = by-test (ltb longestLine (length (l .chars))) refl (spells 16 (l .chars) && l .fed) refl (wellFormed (l .chars)) refl h
+read-accepted l f h = by-test (ltb longestLine (length (l .chars))) refl (spells 16 (l .chars)
+    && l .fed) refl (wellFormed (l .chars)) refl h
   where
-    by-test : (t : Bool) → ltb longestLine (length (l .chars)) ≡ t → (u : Bool) → (spells 16 (l .chars) && l .fed) ≡ u → (v : Bool) → wellFormed (l .chars) ≡ v
-        → (if t then noFrame malformed else if u then (if v then carries (frameIn (l .chars)) else noFrame malformed) else noFrame notHex) ≡ carries f
+    by-test : (t : Bool) → ltb longestLine (length (l .chars)) ≡ t → (u : Bool) → (spells 16 (l .chars) && l .fed) ≡ u
+        → (v : Bool) → wellFormed (l .chars) ≡ v
+        → (if t then noFrame malformed else if u then (if v then carries (frameIn (l .chars)) else noFrame malformed)
+        else noFrame notHex) ≡ carries f
         → Accepted l f
     by-test true a u b v c h = let z : _≡_ {A = ℕ} 0 1 = cc in absurd (omega arith)
     by-test false a false b v c h = let z : _≡_ {A = ℕ} 0 1 = cc in absurd (omega arith)
@@ -68,10 +73,12 @@ read-accepted l f h = by-test (ltb longestLine (length (l .chars))) refl (spells
 -- a line that carries none is refused with 2 or 3
 pub refused-number : (l : Line) (n : ℕ) → readLine l ≡ noFrame n → (1 < n) × (n < 4)
 unfolding readLine readDigits
-refused-number l n h = by-test (ltb longestLine (length (l .chars))) (spells 16 (l .chars) && l .fed) (wellFormed (l .chars)) h
+refused-number l n h = by-test (ltb longestLine (length (l .chars))) (spells 16 (l .chars)
+    && l .fed) (wellFormed (l .chars)) h
   where
     by-test : (t u v : Bool)
-        → (if t then noFrame malformed else if u then (if v then carries (frameIn (l .chars)) else noFrame malformed) else noFrame notHex) ≡ noFrame n
+        → (if t then noFrame malformed else if u then (if v then carries (frameIn (l .chars)) else noFrame malformed)
+        else noFrame notHex) ≡ noFrame n
         → (1 < n) × (n < 4)
     by-test true u v e = let k : malformed ≡ n = cc in (omega arith, omega arith)
     by-test false true true e = let z : _≡_ {A = ℕ} 0 1 = cc in absurd (omega arith)
@@ -93,7 +100,8 @@ pub slots-clear : (p : Bool) (n : ℕ) (cs : List ℕ) → clearFrom n (bytesOf 
 unfolding readBody
 slots-clear p n cs h = rw h
 
-pub slots-spare : (p : Bool) (n : ℕ) (cs : List ℕ) → clearFrom n (bytesOf cs) ≡ false → readBody p n cs ≡ noFrame malformed
+pub slots-spare : (p : Bool) (n : ℕ) (cs : List ℕ) → clearFrom n (bytesOf cs) ≡ false
+    → readBody p n cs ≡ noFrame malformed
 unfolding readBody
 slots-spare p n cs h = rw h
 
@@ -108,19 +116,32 @@ module _ (cs : List ℕ) where
   wrong-presence h = unformed (rw (lt-leb (presenceIn cs) 1 h))
 
   pub wrong-length : (length cs ≡ 6 + 2 * bytesFor (slotCountIn cs) → ⊥) → readDigits cs ≡ noFrame malformed
-  wrong-length h = unformed (rw (ne-eqb (length cs) (6 + 2 * bytesFor (slotCountIn cs)) h, and-false (leb (presenceIn cs) 1)))
+  wrong-length h = unformed (rw (
+    ne-eqb (length cs) (6 + 2 * bytesFor (slotCountIn cs)) h,
+    and-false (leb (presenceIn cs) 1),
+  ))
 
   pub wrong-count : countAllowed (eqb (presenceIn cs) 1) (slotCountIn cs) ≡ false → readDigits cs ≡ noFrame malformed
-  wrong-count h = unformed (rw (h, and-false (leb (presenceIn cs) 1 && eqb (length cs) (6 + 2 * bytesFor (slotCountIn cs)))))
+  wrong-count h = unformed (rw (
+    h,
+    and-false (leb (presenceIn cs) 1
+        && eqb (length cs) (6 + 2 * bytesFor (slotCountIn cs))),
+  ))
 
   -- behind a head that is in order the slots decide
-  pub right-head : presenceIn cs ≤ 1 → countAllowed (eqb (presenceIn cs) 1) (slotCountIn cs) ≡ true → length cs ≡ 6 + 2 * bytesFor (slotCountIn cs)
+  pub right-head : presenceIn cs ≤ 1 → countAllowed (eqb (presenceIn cs) 1) (slotCountIn cs) ≡ true
+      → length cs ≡ 6 + 2 * bytesFor (slotCountIn cs)
       → readDigits cs ≡ readBody (eqb (presenceIn cs) 1) (slotCountIn cs) (drop 6 cs)
   unfolding readDigits readBody
   right-head p c l =
-      let few : slotCountIn cs ≤ mostSlots = leb-true (slotCountIn cs) mostSlots (and-left (leb (slotCountIn cs) mostSlots) (eqb (presenceIn cs) 1 || eqb (slotCountIn cs) 0) c) in
+      let few : slotCountIn cs ≤ mostSlots = leb-true (slotCountIn cs) mostSlots
+      (and-left (leb (slotCountIn cs) mostSlots) (eqb (presenceIn cs) 1 || eqb (slotCountIn cs) 0) c) in
       let b = body-length (drop 6 cs) (slotCountIn cs) (length-drop 6 cs ∙ omega arith) in
       let small : length (bytesOf (drop 6 cs)) ≤ 64 = omega arith in
       let wide : slotCountIn cs ≤ 8 * length (bytesOf (drop 6 cs)) = omega arith in
-      rw
-      (le-leb (presenceIn cs) 1 p, eq-eqb (length cs) (6 + 2 * bytesFor (slotCountIn cs)) l, c, pad-clear (bytesOf (drop 6 cs)) small (slotCountIn cs) wide)
+      rw (
+        le-leb (presenceIn cs) 1 p,
+        eq-eqb (length cs) (6 + 2 * bytesFor (slotCountIn cs)) l,
+        c,
+        pad-clear (bytesOf (drop 6 cs)) small (slotCountIn cs) wide,
+      )

@@ -2,7 +2,8 @@
 --     readAll s              what each line says, in order
 --     writeAll fs            the lines of frames, one after the other, each with its feed
 --     Writable fs            each of the frames is one that the program can hold and a line can carry
---     writeCalls s at fs     the slice after writing frames one after the other, each at the place that the call before it answered
+--     writeCalls s at fs     the slice after writing frames one after the other, each at the place that the call before
+--                            it answered
 --     readCalls n s at       the answers of reads, each at the next place of the one before, until done; n at most
 --     shownFrom at fs        the answers that show frames, line after line from a place on, and then done
 use Prim.Native.Nat.{ℕ, zero, suc, _+_}
@@ -41,4 +42,5 @@ readCalls (suc n) s at = lineReadAt s at ∷ (if lineReadAt s at .done then [] e
 
 unfoldable pub shownFrom : ℕ → List Frame → List LineRead
 shownFrom at [] = lineAnswerOf (done at) ∷ []
-shownFrom at (f ∷ fs) = lineAnswerOf (found (carries f) (at + length (fedLine f))) ∷ shownFrom (at + length (fedLine f)) fs
+shownFrom at (f ∷ fs) = lineAnswerOf (found (carries f) (at + length (fedLine f)))
+    ∷ shownFrom (at + length (fedLine f)) fs

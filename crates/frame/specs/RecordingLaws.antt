@@ -1,8 +1,11 @@
--- The two round trips of a whole recording: written, then read; and read, then written. The same of calls that write and read it line by line.
---     read-back              frames written one after another are read back as the same frames, and then there is nothing more
+-- The two round trips of a whole recording: written, then read; and read, then written. The same of calls that write
+-- and read it line by line.
+--     read-back              frames written one after another are read back as the same frames, and then there is
+--                            nothing more
 --     write-append           the recording of frames and of more frames
 --     write-back             a recording of which every line is accepted, written back, is the same bytes
---     write-calls            lines written by successive calls are the recording of those frames, and nothing else of the slice changes
+--     write-calls            lines written by successive calls are the recording of those frames, and nothing else of
+--                            the slice changes
 --     read-calls             successive reads of such a recording give those frames and then done
 use Prim.Native.Nat.{ℕ, zero, suc, _+_, _-_, _<_, _≤_}
 use mathlib.Core.Path.{_≡_, refl, sym, ap, _∙_}
@@ -29,7 +32,8 @@ use Rattle.frame.specs.Recording.{readAll, writeAll, Writable, none, one
 pub write-append : (fs gs : List Frame) → writeAll (fs ++ gs) ≡ writeAll fs ++ writeAll gs
 unfolding writeAll
 write-append [] gs = refl
-write-append (f ∷ fs) gs = ap (λ (t : List ℕ). fedLine f ++ t) (write-append fs gs) ∙ sym (append-assoc (fedLine f) (writeAll fs) (writeAll gs))
+write-append (f ∷ fs) gs = ap (λ (t : List ℕ). fedLine f ++ t) (write-append fs gs)
+    ∙ sym (append-assoc (fedLine f) (writeAll fs) (writeAll gs))
 
 -- ## Written, then read
 
@@ -37,7 +41,11 @@ pub read-back : {fs : List Frame} → Writable fs → readAll (writeAll fs) ≡ 
 unfolding writeAll linesOf
 read-back none = refl
 read-back (one {f} {fs} held sound rest) =
-    rw (lines-cut (charactersOf f) (writeAll fs) (digits-no-feed 16 (charactersOf f) (lit≤ tt) (line-digits f)), read-written f held sound, read-back rest)
+    rw (
+      lines-cut (charactersOf f) (writeAll fs) (digits-no-feed 16 (charactersOf f) (lit≤ tt) (line-digits f)),
+      read-written f held sound,
+      read-back rest,
+    )
 
 -- ## Read, then written
 
@@ -64,13 +72,17 @@ module _ (s : List ℕ) (at : ℕ) where
 
   -- before it the reader answers what the line says that starts there, by where its characters end
   pub read-first : (e : ℕ) → at < length s → at + feedAt (drop at s) ≡ e
-      → lineReadAt s at ≡ lineAnswerOf (found (readLine record { chars = take (e - at) (drop at s); fed = ltb e (length s) }) (if ltb e (length s) then e + 1 else e))
+      → lineReadAt s at ≡ lineAnswerOf (found (readLine record {
+        chars = take (e - at) (drop at s);
+        fed = ltb e (length s);
+      }) (if ltb e (length s) then e + 1 else e))
   read-first e h k =
       ap (λ (ls : List Line). lineAnswerOf (firstFound at ls)) (lines-next s at h) ∙ by-test (ltb e (length s)) refl
     where
       by-test : (u : Bool) → ltb e (length s) ≡ u
           → lineAnswerOf (found (readLine (firstLine (drop at s))) (at + width (firstLine (drop at s))))
-          ≡ lineAnswerOf (found (readLine record { chars = take (e - at) (drop at s); fed = u }) (if u then e + 1 else e))
+          ≡ lineAnswerOf (found (readLine record { chars = take (e - at) (drop at s); fed = u }) (if u then e + 1
+          else e))
       by-test true p =
           let m = ltb-true e (length s) p in
           let t = drop at s in
@@ -89,7 +101,8 @@ module _ (s : List ℕ) (at : ℕ) where
 
 -- ## Call after call
 
-pub write-calls : {fs : List Frame} → Writable fs → (s : List ℕ) (at : ℕ) → at + length (writeAll fs) ≤ length s → writeCalls s at fs ≡ laid s at (writeAll fs)
+pub write-calls : {fs : List Frame} → Writable fs → (s : List ℕ) (at : ℕ) → at + length (writeAll fs) ≤ length s
+    → writeCalls s at fs ≡ laid s at (writeAll fs)
 unfolding writeCalls writeAll
 write-calls none s at h = laid-none s at
 write-calls (one {f} {fs} held sound rest) s at h =
@@ -99,17 +112,21 @@ write-calls (one {f} {fs} held sound rest) s at h =
     let answers = lay-fits s at x fits in
     let size = laid-length s at x fits in
     let room : at + length x + length (writeAll fs) ≤ length (laid s at x) = omega arith in
-    rw (sound, answers .0, answers .1) (write-calls rest (laid s at x) (at + length x) room ∙ laid-more s at x (writeAll fs) fits)
+    rw (sound, answers .0, answers .1) (write-calls rest (laid s at x) (at + length x) room
+    ∙ laid-more s at x (writeAll fs) fits)
 
 -- what stands at a place where a written line starts
-line-found : (f : Frame) (s more : List ℕ) (at : ℕ) → readLine record { chars = charactersOf f; fed = true } ≡ carries f → drop at s ≡ fedLine f ++ more
+line-found : (f : Frame) (s more : List ℕ) (at : ℕ) → readLine record { chars = charactersOf f; fed = true } ≡ carries f
+    → drop at s ≡ fedLine f ++ more
     → lineReadAt s at ≡ lineAnswerOf (found (carries f) (at + length (fedLine f)))
 line-found f s more at says here =
     let plain = digits-no-feed 16 (charactersOf f) (lit≤ tt) (line-digits f) in
-    let width-is : length (charactersOf f) + 1 ≡ length (fedLine f) = sym (length-append (charactersOf f) (lineFeed ∷ [])) in
+    let width-is : length (charactersOf f) + 1 ≡ length (fedLine f) =
+    sym (length-append (charactersOf f) (lineFeed ∷ [])) in
     rw (here, lines-cut (charactersOf f) more plain, says, width-is)
 
-reads-from : {fs : List Frame} → Writable fs → (n : ℕ) (s : List ℕ) (at : ℕ) → length fs < n → at ≤ length s → drop at s ≡ writeAll fs → readCalls n s at ≡ shownFrom at fs
+reads-from : {fs : List Frame} → Writable fs → (n : ℕ) (s : List ℕ) (at : ℕ) → length fs < n → at ≤ length s
+    → drop at s ≡ writeAll fs → readCalls n s at ≡ shownFrom at fs
 unfolding readCalls shownFrom writeAll
 reads-from none zero s at few within here = absurd (omega arith)
 reads-from none (suc n) s at few within here =
@@ -122,8 +139,12 @@ reads-from (one {f} {fs} held sound rest) (suc n) s at few within here =
     let x = fedLine f in
     let l = length-drop at s in
     let m : length (drop at s) ≡ length x + length (writeAll fs) = ap length here ∙ length-append x (writeAll fs) in
-    let next : drop (at + length x) s ≡ writeAll fs = sym (drop-drop (length x) at s) ∙ ap (drop (length x)) here ∙ drop-at x (writeAll fs) (length x) refl in
-    rw (line-found f s (writeAll fs) at (read-written f held sound) here, reads-from rest n s (at + length x) (omega arith) (omega arith) next)
+    let next : drop (at + length x) s ≡ writeAll fs =
+    sym (drop-drop (length x) at s) ∙ ap (drop (length x)) here ∙ drop-at x (writeAll fs) (length x) refl in
+    rw (
+      line-found f s (writeAll fs) at (read-written f held sound) here,
+      reads-from rest n s (at + length x) (omega arith) (omega arith) next,
+    )
 
 pub read-calls : {fs : List Frame} → Writable fs → readCalls (suc (length fs)) (writeAll fs) 0 ≡ shownFrom 0 fs
 read-calls {fs} w = reads-from w (suc (length fs)) (writeAll fs) 0 (omega arith) (omega arith) refl
@@ -133,5 +154,6 @@ pub calls-back : {fs : List Frame} → Writable fs → (s : List ℕ) (at : ℕ)
     → readCalls (suc (length fs)) (take (length (writeAll fs)) (drop at (writeCalls s at fs))) 0 ≡ shownFrom 0 fs
 calls-back {fs} w s at h =
     let written : take (length (writeAll fs)) (drop at (writeCalls s at fs)) ≡ writeAll fs =
-    ap (λ (d : List ℕ). take (length (writeAll fs)) (drop at d)) (write-calls w s at h) ∙ laid-read s at (writeAll fs) (omega arith) in
+    ap (λ (d : List ℕ). take (length (writeAll fs)) (drop at d)) (write-calls w s at h)
+    ∙ laid-read s at (writeAll fs) (omega arith) in
     rw written (read-calls w)

@@ -31,7 +31,8 @@ charactersOf f = headOf (f .presence) (f .count) ++ hexOf (slotBytes f)
 abbrev pub fedLine : Frame → List ℕ
 fedLine f = charactersOf f ++ (lineFeed ∷ [])
 
--- the writer's answer: a frame that no line can carry is refused first, then a lack of room; else the place behind the line
+-- the writer's answer: a frame that no line can carry is refused first, then a lack of room; else the place behind the
+-- line
 abbrev pub lineWriteAnswer : List ℕ → ℕ → Frame → Written
 lineWriteAnswer s at f = if lineable f then layAnswer s at (fedLine f) else record { refusal = malformed; next = 0 }
 

@@ -1,4 +1,5 @@
--- The shape of a frame's line, and the two round trips of one line: a written line is read as its frame, and an accepted line is written as it was.
+-- The shape of a frame's line, and the two round trips of one line: a written line is read as its frame, and an
+-- accepted line is written as it was.
 use Prim.Native.Nat.{ℕ, _+_, _*_, _^_, _<_, _≤_}
 use mathlib.Core.Path.{_≡_, refl, sym, ap, _∙_}
 use mathlib.Core.Bool.{Bool, true, false, _&&_, _||_}
@@ -20,7 +21,8 @@ use Rattle.basic_laws.specs.FoldLaws.{all-append, all-take, all-drop}
 use Rattle.basic_laws.specs.BitsLaws.{one-bit}
 use Rattle.basic_laws.specs.BytesLaws.{bytes-take}
 use Rattle.text.specs.Digits.{isDigit, hexDigits, hexOf, bytesOf, spells}
-use Rattle.text.specs.DigitsLaws.{digits-length, digits-are, number-digits, digits-number, hex-length, hex-are, bytes-hex, hex-bytes, pairs-length, bytes-bytes}
+use Rattle.text.specs.DigitsLaws.{digits-length, digits-are, number-digits, digits-number, hex-length, hex-are}
+use Rattle.text.specs.DigitsLaws.{bytes-hex, hex-bytes, pairs-length, bytes-bytes}
 use Rattle.frame.specs.Frames.{noBits, bytesFor, countAllowed, clearFrom, lineable, mostSlots, Held}
 use Rattle.frame.specs.FramesLaws.{pad-back, pad-length, pad-bytes}
 use Rattle.text.specs.Lines.{Line, lineFeed}
@@ -32,7 +34,9 @@ use Rattle.frame.specs.Writing.{headOf, slotBytes, charactersOf, fedLine
 
 module _ (f : Frame) (h : lineable f ≡ true) where
   pub lineable-count : f .count ≤ mostSlots
-  lineable-count = leb-true (f .count) mostSlots (and-left (leb (f .count) mostSlots) (f .presence || eqb (f .count) 0) (and-left (countAllowed (f .presence) (f .count)) (clearFrom (f .count) (f .bits)) h))
+  lineable-count = leb-true (f .count) mostSlots
+      (and-left (leb (f .count) mostSlots) (f .presence
+      || eqb (f .count) 0) (and-left (countAllowed (f .presence) (f .count)) (clearFrom (f .count) (f .bits)) h))
 
   pub lineable-clear : clearFrom (f .count) (f .bits) ≡ true
   lineable-clear = and-right (countAllowed (f .presence) (f .count)) (clearFrom (f .count) (f .bits)) h
@@ -56,19 +60,29 @@ bit-le false = lit≤ tt
 pub line-digits : (f : Frame) → spells 16 (charactersOf f) ≡ true
 unfolding charactersOf
 line-digits f =
-    rw
-    (all-append (isDigit 16) (headOf (f .presence) (f .count)) (hexOf (slotBytes f)), all-append (isDigit 16) (hexDigits 2 (bitNumber (f .presence))) (hexDigits 4 (f .count)), digits-are 16 (lit< tt) (lit≤ tt) 2 (bitNumber (f .presence)), digits-are 16 (lit< tt) (lit≤ tt) 4 (f .count), hex-are (slotBytes f))
+    rw (
+      all-append (isDigit 16) (headOf (f .presence) (f .count)) (hexOf (slotBytes f)),
+      all-append (isDigit 16) (hexDigits 2 (bitNumber (f .presence))) (hexDigits 4 (f .count)),
+      digits-are 16 (lit< tt) (lit≤ tt) 2 (bitNumber (f .presence)),
+      digits-are 16 (lit< tt) (lit≤ tt) 4 (f .count),
+      hex-are (slotBytes f),
+    )
 
 line-presence : (f : Frame) → take 2 (charactersOf f) ≡ hexDigits 2 (bitNumber (f .presence))
 unfolding charactersOf
 line-presence f =
     rw (append-assoc (hexDigits 2 (bitNumber (f .presence))) (hexDigits 4 (f .count)) (hexOf (slotBytes f)))
-    (take-at (hexDigits 2 (bitNumber (f .presence))) (hexDigits 4 (f .count) ++ hexOf (slotBytes f)) 2 (digits-length 16 2 (bitNumber (f .presence))))
+    (take-at (hexDigits 2 (bitNumber (f .presence))) (hexDigits 4 (f .count)
+    ++ hexOf (slotBytes f)) 2 (digits-length 16 2 (bitNumber (f .presence))))
 
 line-count : (f : Frame) → take 4 (drop 2 (charactersOf f)) ≡ hexDigits 4 (f .count)
 unfolding charactersOf
 line-count f =
-    rw (append-assoc (hexDigits 2 (bitNumber (f .presence))) (hexDigits 4 (f .count)) (hexOf (slotBytes f)), drop-at (hexDigits 2 (bitNumber (f .presence))) (hexDigits 4 (f .count) ++ hexOf (slotBytes f)) 2 (digits-length 16 2 (bitNumber (f .presence))))
+    rw (
+      append-assoc (hexDigits 2 (bitNumber (f .presence))) (hexDigits 4 (f .count)) (hexOf (slotBytes f)),
+      drop-at (hexDigits 2 (bitNumber (f .presence))) (hexDigits 4 (f .count)
+          ++ hexOf (slotBytes f)) 2 (digits-length 16 2 (bitNumber (f .presence))),
+    )
     (take-at (hexDigits 4 (f .count)) (hexOf (slotBytes f)) 4 (digits-length 16 4 (f .count)))
 
 line-slots : (f : Frame) → drop 6 (charactersOf f) ≡ hexOf (slotBytes f)
@@ -98,7 +112,8 @@ module _ (f : Frame) (size : length (f .bits) ≡ 64) (h : lineable f ≡ true) 
 
 module _ (f : Frame) (held : Held f) (h : lineable f ≡ true) where
   spelt-presence : presenceIn (charactersOf f) ≡ bitNumber (f .presence)
-  spelt-presence = rw (line-presence f) (number-digits 16 (lit< tt) (lit≤ tt) 2 (bitNumber (f .presence)) (bit-small (f .presence)))
+  spelt-presence = rw (line-presence f) (number-digits 16 (lit< tt) (lit≤ tt) 2 (bitNumber (f .presence))
+      (bit-small (f .presence)))
 
   spelt-count : slotCountIn (charactersOf f) ≡ f .count
   spelt-count =
@@ -117,8 +132,14 @@ module _ (f : Frame) (held : Held f) (h : lineable f ≡ true) where
 
   written-formed : wellFormed (charactersOf f) ≡ true
   written-formed =
-      rw
-      (spelt-presence, spelt-count, spelt-bits, bit-one (f .presence), le-leb (bitNumber (f .presence)) 1 (bit-le (f .presence)), eq-eqb (length (charactersOf f)) (6 + 2 * bytesFor (f .count)) (line-length f (held .size) h))
+      rw (
+        spelt-presence,
+        spelt-count,
+        spelt-bits,
+        bit-one (f .presence),
+        le-leb (bitNumber (f .presence)) 1 (bit-le (f .presence)),
+        eq-eqb (length (charactersOf f)) (6 + 2 * bytesFor (f .count)) (line-length f (held .size) h),
+      )
       h
 
   -- a written line is read as its frame
@@ -135,16 +156,20 @@ module _ (f : Frame) (held : Held f) (h : lineable f ≡ true) where
 
 module _ (cs : List ℕ) (digital : spells 16 cs ≡ true) (formed : wellFormed cs ≡ true) where
   head-formed : (leb (presenceIn cs) 1 && eqb (length cs) (6 + 2 * bytesFor (slotCountIn cs))) ≡ true
-  head-formed = and-left (leb (presenceIn cs) 1 && eqb (length cs) (6 + 2 * bytesFor (slotCountIn cs))) (lineable (frameIn cs)) formed
+  head-formed = and-left (leb (presenceIn cs) 1
+      && eqb (length cs) (6 + 2 * bytesFor (slotCountIn cs))) (lineable (frameIn cs)) formed
 
   formed-lineable : lineable (frameIn cs) ≡ true
-  formed-lineable = and-right (leb (presenceIn cs) 1 && eqb (length cs) (6 + 2 * bytesFor (slotCountIn cs))) (lineable (frameIn cs)) formed
+  formed-lineable = and-right (leb (presenceIn cs) 1
+      && eqb (length cs) (6 + 2 * bytesFor (slotCountIn cs))) (lineable (frameIn cs)) formed
 
   formed-presence : presenceIn cs ≤ 1
-  formed-presence = leb-true (presenceIn cs) 1 (and-left (leb (presenceIn cs) 1) (eqb (length cs) (6 + 2 * bytesFor (slotCountIn cs))) head-formed)
+  formed-presence = leb-true (presenceIn cs) 1
+      (and-left (leb (presenceIn cs) 1) (eqb (length cs) (6 + 2 * bytesFor (slotCountIn cs))) head-formed)
 
   formed-length : length cs ≡ 6 + 2 * bytesFor (slotCountIn cs)
-  formed-length = eqb-true (length cs) (6 + 2 * bytesFor (slotCountIn cs)) (and-right (leb (presenceIn cs) 1) (eqb (length cs) (6 + 2 * bytesFor (slotCountIn cs))) head-formed)
+  formed-length = eqb-true (length cs) (6 + 2 * bytesFor (slotCountIn cs))
+      (and-right (leb (presenceIn cs) 1) (eqb (length cs) (6 + 2 * bytesFor (slotCountIn cs))) head-formed)
 
   rest-length : length (drop 6 cs) ≡ 2 * bytesFor (slotCountIn cs)
   rest-length = let l = formed-length in length-drop 6 cs ∙ omega arith
@@ -164,17 +189,22 @@ module _ (cs : List ℕ) (digital : spells 16 cs ≡ true) (formed : wellFormed 
   back-presence : hexDigits 2 (bitNumber (frameIn cs .presence)) ≡ take 2 cs
   back-presence =
       let l : length (take 2 cs) ≡ 2 = let f = formed-length in length-take-le 2 cs (omega arith) in
-      rw (one-bit (presenceIn cs) formed-presence) (ap (λ (k : ℕ). hexDigits k (presenceIn cs)) (sym l) ∙ digits-number 16 (lit< tt) (lit≤ tt) (take 2 cs) (all-take (isDigit 16) 2 cs digital))
+      rw (one-bit (presenceIn cs) formed-presence) (ap (λ (k : ℕ). hexDigits k (presenceIn cs)) (sym l)
+      ∙ digits-number 16 (lit< tt) (lit≤ tt) (take 2 cs) (all-take (isDigit 16) 2 cs digital))
 
   back-count : hexDigits 4 (frameIn cs .count) ≡ take 4 (drop 2 cs)
   back-count =
-      let l : length (take 4 (drop 2 cs)) ≡ 4 = let f = formed-length in simp (length-take, length-drop) (omega arith) in
-      ap (λ (k : ℕ). hexDigits k (slotCountIn cs)) (sym l) ∙ digits-number 16 (lit< tt) (lit≤ tt) (take 4 (drop 2 cs)) (all-take (isDigit 16) 4 (drop 2 cs) (all-drop (isDigit 16) 2 cs digital))
+      let l : length (take 4 (drop 2 cs)) ≡ 4 = let f = formed-length in
+      simp (length-take, length-drop) (omega arith) in
+      ap (λ (k : ℕ). hexDigits k (slotCountIn cs)) (sym l)
+      ∙ digits-number 16 (lit< tt) (lit≤ tt) (take 4 (drop 2 cs))
+      (all-take (isDigit 16) 4 (drop 2 cs) (all-drop (isDigit 16) 2 cs digital))
 
   back-slots : hexOf (slotBytes (frameIn cs)) ≡ drop 6 cs
   back-slots =
       let b : slotBytes (frameIn cs) ≡ bytesOf (drop 6 cs) =
-      ap (λ (k : ℕ). take k (laid noBits 0 (bytesOf (drop 6 cs)))) (sym body-length) ∙ laid-read noBits 0 (bytesOf (drop 6 cs)) (omega arith) in
+      ap (λ (k : ℕ). take k (laid noBits 0 (bytesOf (drop 6 cs)))) (sym body-length)
+      ∙ laid-read noBits 0 (bytesOf (drop 6 cs)) (omega arith) in
       ap hexOf b ∙ hex-bytes (bytesFor (slotCountIn cs)) (drop 6 cs) rest-length (all-drop (isDigit 16) 6 cs digital)
 
   written-back : charactersOf (frameIn cs) ≡ cs
@@ -202,7 +232,8 @@ written-read l f h =
 -- ## The line, laid in four parts
 
 pub line-laid : (d : List ℕ) (at : ℕ) (f : Frame) (n : ℕ) → length (slotBytes f) ≡ n → at + (7 + 2 * n) ≤ length d
-    → set (layLeaves (layLeaves (layLeaves d at (hexDigits 2 (bitNumber (f .presence)))) (at + 2) (hexDigits 4 (f .count))) (at + 6) (hexOf (slotBytes f))) (at + 6 + 2 * n) lineFeed
+    → set (layLeaves (layLeaves (layLeaves d at (hexDigits 2 (bitNumber (f .presence)))) (at + 2)
+    (hexDigits 4 (f .count))) (at + 6) (hexOf (slotBytes f))) (at + 6 + 2 * n) lineFeed
     ≡ laid d at (fedLine f)
 unfolding charactersOf
 line-laid d at f n e h =
@@ -222,7 +253,8 @@ line-laid d at f n e h =
 -- ## The three ways a write can end
 
 module _ (s : List ℕ) (at : ℕ) (f : Frame) where
-  pub write-unsound : lineable f ≡ false → (record { refusal = malformed; next = 0 } ≡ lineWriteAnswer s at f) × (s ≡ lineWriteLeaves s at f)
+  pub write-unsound : lineable f ≡ false → (record { refusal = malformed; next = 0 } ≡ lineWriteAnswer s at f)
+      × (s ≡ lineWriteLeaves s at f)
   write-unsound e = rw e (refl, refl)
 
   pub write-short : (n : ℕ) → lineable f ≡ true → length (fedLine f) ≡ n → hasRoom s at n ≡ false
@@ -230,5 +262,6 @@ module _ (s : List ℕ) (at : ℕ) (f : Frame) where
   write-short n sound width h = rw sound (lay-short s at (fedLine f) n (sym width) h)
 
   pub write-done : (n : ℕ) → lineable f ≡ true → length (fedLine f) ≡ n → at + n ≤ length s
-      → (record { refusal = accepted; next = at + n } ≡ lineWriteAnswer s at f) × (laid s at (fedLine f) ≡ lineWriteLeaves s at f)
+      → (record { refusal = accepted; next = at + n } ≡ lineWriteAnswer s at f)
+      × (laid s at (fedLine f) ≡ lineWriteLeaves s at f)
   write-done n sound width h = rw sound (lay-done s at (fedLine f) n (sym width) h)

@@ -4,7 +4,8 @@ pub mod recording;
 
 ghost use mathlib.Core.Path.{_≡_};
 ghost use Prim.Native.Nat.{_<_};
-ghost use Rattle.frame.specs.Frames.{blankFrame, slotBit, slotsOf, pushed, slotsPushed, clearFrom, countAllowed, lineable, bytesFor, withBit};
+ghost use Rattle.frame.specs.Frames.{blankFrame, slotBit, slotsOf, pushed, slotsPushed, clearFrom, countAllowed};
+ghost use Rattle.frame.specs.Frames.{lineable, bytesFor, withBit};
 
 // The most slots that a frame has.
 pub const MOST_SLOTS: u16 = 512;

@@ -1,8 +1,10 @@
 -- What follows from demand 3's invariant, each in words that a user may want:
 --     devices-are        there are as many devices on the bench as accepted addings
---     bench-is-sound     at most 32 devices, codes sound and different, configurations in stored form, readings in range
+--     bench-is-sound     at most 32 devices, codes sound and different, configurations in stored form, readings in
+--                        range
 --     flags-are          a device's flag is set exactly where its page in the book has the verdict
---     search-again       a search right after a search lists the same codes, and an alarm search right after an alarm search
+--     search-again       a search right after a search lists the same codes, and an alarm search right after an alarm
+--                        search
 use Prim.Native.Nat.{ℕ, _<_, _≤_}
 use mathlib.Core.Bool.{true}
 use mathlib.Core.List.{List, [], _∷_, map}
@@ -37,7 +39,8 @@ module _ (h : List Call) (t : Each Typed h) where
   pub devices-are : length (added h) ≡ after h .count
   devices-are = let s = bench-is-sound in sym (ap length codes-are-added) ∙ codes-count (after h) (s .places) (s .few)
 
-flags-by-pages : (book : ℕ → Page) (ds : List Device) → Each Sound ds → PagesAre book ds → Each (λ d. d .alarm ≡ alarmed (book (d .code))) ds
+flags-by-pages : (book : ℕ → Page) (ds : List Device) → Each Sound ds → PagesAre book ds
+    → Each (λ d. d .alarm ≡ alarmed (book (d .code))) ds
 flags-by-pages book [] s p = tt
 flags-by-pages book (d ∷ ds) s p = (s .0 .flag-is ∙ ap alarmed (p .0), flags-by-pages book ds (s .1) (p .1))
 
@@ -54,9 +57,11 @@ module _ (b : Bench) (s : BenchSound b) (f : free b ≡ true) (l : Below 64 (cod
 
   -- where there is a device
   pub search-lists : 0 < length (codesOf b) → searchRun searchRom b .codes ≡ inOrder 64 (map (bitsOf 64) (codesOf b))
-  search-lists h = ap (λ r. r .codes) (bench.search-calls mostPasses b f ∙ bench.search-passes mostPasses b l (s .codes-distinct) h few-codes)
+  search-lists h = ap (λ r. r .codes) (bench.search-calls mostPasses b f
+      ∙ bench.search-passes mostPasses b l (s .codes-distinct) h few-codes)
 
-  pub alarm-lists : 0 < length (flaggedCodes b) → searchRun alarmSearch b .codes ≡ inOrder 64 (map (bitsOf 64) (flaggedCodes b))
+  pub alarm-lists : 0 < length (flaggedCodes b)
+      → searchRun alarmSearch b .codes ≡ inOrder 64 (map (bitsOf 64) (flaggedCodes b))
   alarm-lists h =
       let few = bench.flagged-few b in
       let most = few-codes in
@@ -71,7 +76,8 @@ search-again b s f l h =
     let same : codesOf c ≡ codesOf b = ap codesOf is ∙ bench.search-codes mostPasses b in
     let g : free c ≡ true = ap free is ∙ bench.search-free mostPasses b ∙ f in
     let t : BenchSound c = rw is (bench.search-sound mostPasses b s) in
-    search-lists c t g (rw same l) (rw same h) ∙ ap (λ cs. inOrder 64 (map (bitsOf 64) cs)) same ∙ sym (search-lists b s f l h)
+    search-lists c t g (rw same l) (rw same h) ∙ ap (λ cs. inOrder 64 (map (bitsOf 64) cs)) same
+    ∙ sym (search-lists b s f l h)
 
 pub alarm-search-again : (b : Bench) → BenchSound b → free b ≡ true → Below 64 (codesOf b) → 0 < length (flaggedCodes b)
     → searchRun alarmSearch (searchRun alarmSearch b .devices) .codes ≡ searchRun alarmSearch b .codes
@@ -79,7 +85,10 @@ alarm-search-again b s f l h =
     let c = searchRun alarmSearch b .devices in
     let is : c ≡ bench.alarmSearchOn mostPasses b .devices = ap (λ r. r .devices) (bench.alarm-calls mostPasses b f) in
     let same : flaggedCodes c ≡ flaggedCodes b = ap flaggedCodes is ∙ bench.alarm-codes mostPasses b in
-    let codes : codesOf c ≡ codesOf b = ap codesOf is ∙ bench.same-but-stage (λ d. d .code) (λ d. refl) (live (bench.alarmSearchOn mostPasses b .devices)) (live b) (bench.alarm-keeps mostPasses b) in
+    let codes : codesOf c ≡ codesOf b = ap codesOf is
+    ∙ bench.same-but-stage (λ d. d .code) (λ d. refl) (live (bench.alarmSearchOn mostPasses b .devices)) (live b)
+    (bench.alarm-keeps mostPasses b) in
     let g : free c ≡ true = ap free is ∙ bench.alarm-free mostPasses b ∙ f in
     let t : BenchSound c = rw is (bench.alarm-sound mostPasses b s) in
-    alarm-lists c t g (rw codes l) (rw same h) ∙ ap (λ cs. inOrder 64 (map (bitsOf 64) cs)) same ∙ sym (alarm-lists b s f l h)
+    alarm-lists c t g (rw codes l) (rw same h) ∙ ap (λ cs. inOrder 64 (map (bitsOf 64) cs)) same
+    ∙ sym (alarm-lists b s f l h)

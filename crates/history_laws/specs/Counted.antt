@@ -1,4 +1,5 @@
--- The numbers of a search by its frames: each pass is one frame with presence, with as many slots as the line showed bits, and a line of known length.
+-- The numbers of a search by its frames: each pass is one frame with presence, with as many slots as the line showed
+-- bits, and a line of known length.
 --     frames-counted      passes, slots and bytes of frames that all have n slots
 use Prim.Native.Nat.{ℕ, _+_, _*_, _≤_}
 use mathlib.Core.Bool.{Bool, true}
@@ -27,7 +28,8 @@ passes-alike (f ∷ fs) n h =
     let i = passes-alike fs (n + 1) (h .1) in
     rw e (i ∙ omega arith)
 
-slots-alike : (k : ℕ) (fs : List Frame) (n : ℕ) → Each (λ f. f .count ≡ k) fs → fold (λ m f. m + f .count) n fs ≡ n + k * length fs
+slots-alike : (k : ℕ) (fs : List Frame) (n : ℕ) → Each (λ f. f .count ≡ k) fs
+    → fold (λ m f. m + f .count) n fs ≡ n + k * length fs
 unfolding fold
 slots-alike k [] n h = omega (arith, mul-zero k)
 slots-alike k (f ∷ fs) n h =
@@ -57,10 +59,12 @@ frame-of n lines e h =
     record {
       shown = r .shown;
       slots = r .total ∙ e;
-      bytes = fed-length (frameOf lines) (r .held .size) (r .carried) ∙ ap (λ (k : ℕ). 7 + 2 * bytesFor k) (r .total ∙ e);
+      bytes = fed-length (frameOf lines) (r .held .size) (r .carried)
+          ∙ ap (λ (k : ℕ). 7 + 2 * bytesFor k) (r .total ∙ e);
     }
 
-frames-of : (P : Frame → Type 0) (n : ℕ) (ls : List (List Bool)) → ((l : List Bool) → length l ≡ n → P (frameOf l)) → Each (λ l. length l ≡ n) ls → Each P (map frameOf ls)
+frames-of : (P : Frame → Type 0) (n : ℕ) (ls : List (List Bool)) → ((l : List Bool) → length l ≡ n → P (frameOf l))
+    → Each (λ l. length l ≡ n) ls → Each P (map frameOf ls)
 frames-of P n [] f h = tt
 frames-of P n (l ∷ ls) f h = (f l (h .0), frames-of P n ls f (h .1))
 
@@ -68,17 +72,20 @@ module _ (n : ℕ) (ls : List (List Bool)) (h : Each (λ l. length l ≡ n) ls) 
   pub passes-counted : passesIn (map frameOf ls) ≡ length ls
   unfolding passesIn
   passes-counted =
-      let e = passes-alike (map frameOf ls) 0 (frames-of (λ f. f .presence ≡ true) n ls (λ l e. frame-of n l e k .shown) h) in
+      let e = passes-alike (map frameOf ls) 0 (frames-of (λ f. f .presence
+      ≡ true) n ls (λ l e. frame-of n l e k .shown) h) in
       let m = length-map ls frameOf in
       omega arith
 
   pub slots-counted : slotsIn (map frameOf ls) ≡ n * length ls
   unfolding slotsIn
   slots-counted =
-      let e = slots-alike n (map frameOf ls) 0 (frames-of (λ f. f .count ≡ n) n ls (λ l e. frame-of n l e k .slots) h) in
+      let e = slots-alike n (map frameOf ls) 0
+      (frames-of (λ f. f .count ≡ n) n ls (λ l e. frame-of n l e k .slots) h) in
       e ∙ zero-add (n * length (map frameOf ls)) ∙ ap (λ (m : ℕ). n * m) (length-map ls frameOf)
 
   pub bytes-counted : length (writeAll (map frameOf ls)) ≡ (7 + 2 * bytesFor n) * length ls
   bytes-counted =
-      bytes-alike (7 + 2 * bytesFor n) (map frameOf ls) (frames-of (λ f. length (fedLine f) ≡ 7 + 2 * bytesFor n) n ls (λ l e. frame-of n l e k .bytes) h)
+      bytes-alike (7 + 2 * bytesFor n) (map frameOf ls)
+      (frames-of (λ f. length (fedLine f) ≡ 7 + 2 * bytesFor n) n ls (λ l e. frame-of n l e k .bytes) h)
       ∙ ap (λ (m : ℕ). (7 + 2 * bytesFor n) * m) (length-map ls frameOf)

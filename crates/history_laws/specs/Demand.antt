@@ -1,12 +1,16 @@
--- Demand 3, "a search misses nobody", as one statement about every history: what search and alarm search come to on the bench that any sequence of
--- calls leaves, where no line-powered device is busy, the list has at least 32 places and the recording at least 1,824 bytes.
+-- Demand 3, "a search misses nobody", as one statement about every history: what search and alarm search come to on the
+-- bench that any sequence of calls leaves, where no line-powered device is busy, the list has at least 32 places and
+-- the recording at least 1,824 bytes.
 --     alarms h               the added codes whose page has the verdict, the scope's k devices
---     passOf command code    the master's bits in a pass that lists a code: the command, then 1, 1 and the bit for each bit of the code
---     Makes passes b o       the search makes just these resets and slots: its frames and its bench are theirs, and none is refused
+--     passOf command code    the master's bits in a pass that lists a code: the command, then 1, 1 and the bit for each
+--                            bit of the code
+--     Makes passes b o       the search makes just these resets and slots: its frames and its bench are theirs, and
+--                            none is refused
 --     Told o c p s y         the numbers that the caller gets: codes, passes, slots, bytes
 --     Lonely b o             with no device: one reset without presence, nothing listed, no pass, no slot
 --     Unanswered c b o       with devices but nobody to list: one pass of the command and two reads, nothing listed
---     Listing c codes b o    the codes, each once and no other, ordered by the lowest bit in which two differ, 0 first; one pass for each
+--     Listing c codes b o    the codes, each once and no other, ordered by the lowest bit in which two differ, 0 first;
+--                            one pass for each
 --     Comes c n k b o        whichever of the three applies: n the codes on the bench, k those to list
 --     Demand3 h p r          the statement, for a history h, a list of p places and a recording of r bytes
 use Prim.Native.Nat.{ℕ, _*_, _≤_}
@@ -46,7 +50,8 @@ unheard command = bitsOf 8 command ++ true ∷ true ∷ []
 
 -- ## The three ways a search can end
 
--- the slots of a pass that lists a code, and the bytes of its line; those of a pass that nobody answers; the bytes of a reset without presence
+-- the slots of a pass that lists a code, and the bytes of its line; those of a pass that nobody answers; the bytes of a
+-- reset without presence
 abbrev pub slotsPerCode : ℕ
 slotsPerCode = 200
 
@@ -106,12 +111,14 @@ pub record SearchClaim (command : ℕ) (everybody codes : List ℕ) (b : Bench) 
 
 pub record Demand3 (h : List Call) (places room : ℕ) : Type 0 where
   pub search : SearchClaim searchRom (added h) (added h) (after h) (searchOutcome searchRom (after h) places room)
-  pub alarm-search : SearchClaim alarmSearch (added h) (alarms h) (after h) (searchOutcome alarmSearch (after h) places room)
+  pub alarm-search : SearchClaim alarmSearch (added h) (alarms h) (after h)
+      (searchOutcome alarmSearch (after h) places room)
 
 -- the claim, for every history
 abbrev pub Claim : Type 0
 Claim =
-    (h : List Call) → Each Typed h → free (after h) ≡ true → (places room : ℕ) → fewestPlaces ≤ places → fewestBytes ≤ room → Demand3 h places room
+    (h : List Call) → Each Typed h → free (after h) ≡ true → (places room : ℕ) → fewestPlaces ≤ places
+    → fewestBytes ≤ room → Demand3 h places room
 
 -- the same as what a call promises: of every history that leads to the bench given
 abbrev pub SearchPromise : Bench → ℕ → ℕ → Type 0

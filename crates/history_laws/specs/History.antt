@@ -1,12 +1,15 @@
--- The history of a bench (the scope, "One slot" and "The master"): every sequence of calls from the empty bench, refused calls included, the bench that
--- it leaves, the codes that it has added, and the book with a page for each code.
---     Call              one call, with its arguments; a search has the lengths of the list and of the recording lent, the call for address pins that of its list
+-- The history of a bench (the scope, "One slot" and "The master"): every sequence of calls from the empty bench,
+-- refused calls included, the bench that it leaves, the codes that it has added, and the book with a page for each
+-- code.
+--     Call              one call, with its arguments; a search has the lengths of the list and of the recording lent,
+--                       the call for address pins that of its list
 --     Typed c           the arguments are values of their types: codes below 2^64, bytes below 256, counts of 16 bits
 --     apply b c         the bench in the answer to the call, refused or not
 --     after h           the bench after the calls h, from the empty bench
 --     added h           the codes of the accepted addings, in order
---     page h code       the code's page after the calls h: what its last finished conversion stored and the two limits of that moment. An accepted adding or
---                       power cycle empties it, an accepted finish of a conversion writes it, and nothing else changes it. It never looks at a flag
+--     page h code       the code's page after the calls h: what its last finished conversion stored and the two limits
+--                       of that moment. An accepted adding or power cycle empties it, an accepted finish of a
+--                       conversion writes it, and nothing else changes it. It never looks at a flag
 --     alarmed p         whether a page has the verdict: not empty, and its reading at or past one of its limits
 use Prim.Native.Nat.{ℕ, _^_, _<_}
 use mathlib.Core.Bool.{Bool, true, _&&_}

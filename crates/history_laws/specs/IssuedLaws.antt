@@ -1,5 +1,5 @@
--- Resets and slots by the slot rule: what they show is what the passes of the search's laws show, and where nobody holds the wire none of those that a search
--- makes is refused, for no slot of a search makes a device busy.
+-- Resets and slots by the slot rule: what they show is what the passes of the search's laws show, and where nobody
+-- holds the wire none of those that a search makes is refused, for no slot of a search makes a device busy.
 --     issued-passes      the frames and the bench of the passes of some codes
 --     granted-passes, granted-unheard, granted-reset      none of them is refused
 use Prim.Native.Nat.{ℕ}
@@ -24,8 +24,10 @@ use Rattle.master_rules.specs.IssuedLaws.{slots-presence, granted-run}
 
 -- what some passes leave is what the passes of the laws leave
 pub record SamePasses (command : ℕ) (codes : List ℕ) (b : Bench) : Type 0 where
-  pub frames-are : issued (map (passOf command) codes) b .frames ≡ map frameOf (passes slotRule (bitsOf 8 command) (map codeBits codes) b .lines)
-  pub bench-is : issued (map (passOf command) codes) b .bench ≡ passes slotRule (bitsOf 8 command) (map codeBits codes) b .devices
+  pub frames-are : issued (map (passOf command) codes) b .frames
+      ≡ map frameOf (passes slotRule (bitsOf 8 command) (map codeBits codes) b .lines)
+  pub bench-is : issued (map (passOf command) codes) b .bench
+      ≡ passes slotRule (bitsOf 8 command) (map codeBits codes) b .devices
 
 pub issued-passes : (command : ℕ) (codes : List ℕ) (b : Bench) → presenceOf b ≡ true → SamePasses command codes b
 unfolding issued passes
@@ -39,7 +41,8 @@ module _ (command : ℕ) (Z : Searchers thermometers (bitsOf 8 command) 64) (R :
   pub granted-passes : (codes : List ℕ) (b : Bench) → Free b → Granted (map (passOf command) codes) b
   granted-passes [] b f = tt
   granted-passes (code ∷ codes) b f =
-      granted-run (passOf command code) (map (passOf command) codes) b f (free-pass Z R b f (codeBits code) (bits-length 64 code)) (λ g. granted-passes codes _ g)
+      granted-run (passOf command code) (map (passOf command) codes) b f
+      (free-pass Z R b f (codeBits code) (bits-length 64 code)) (λ g. granted-passes codes _ g)
 
   pub granted-unheard : (b : Bench) → Free b → Granted (unheard command ∷ []) b
   granted-unheard b f = granted-run (unheard command) [] b f (free-unheard Z R b f) (λ g. tt)

@@ -1,4 +1,5 @@
--- What every slot and every reset keeps, the master's calls keep: they make resets and slots, and nothing else, whether they are refused or not.
+-- What every slot and every reset keeps, the master's calls keep: they make resets and slots, and nothing else, whether
+-- they are refused or not.
 --     read-keeps, write-keeps, outcome-keeps, pins-keep
 --     written-keeps      and so does the sending of settings
 use Prim.Native.Nat.{ℕ}
@@ -23,11 +24,14 @@ use Rattle.bench.specs.declared.Bench.{Bench}
 use Rattle.master_rules.specs.declared.Access.{Access}
 use Rattle.master_rules.specs.Buses.{calls}
 use Rattle.master_rules.specs.Wire.{sent}
-use Rattle.master_rules.specs.Access.{addressed, bytesShown, afterSlots, fetched, onPresence, readBack, admission, readAt, settingsSent, asAsked, writtenAndRead, writeAt}
+use Rattle.master_rules.specs.Access.{addressed, bytesShown, afterSlots, fetched, onPresence, readBack, admission}
+use Rattle.master_rules.specs.Access.{readAt, settingsSent, asAsked, writtenAndRead, writeAt}
 use Rattle.master_rules.specs.Pins.{isPinned, PinsFound, nobodyRead, pinsStep, PinsOutcome, pinsOutcome}
-use Rattle.master_rules.specs.Search.{fewestPlaces, fewestBytes, codeLength, mostPasses, refusedOutcome, lonelyOutcome, foundOutcome, searchRun, searchOutcome}
+use Rattle.master_rules.specs.Search.{fewestPlaces, fewestBytes, codeLength, mostPasses, refusedOutcome, lonelyOutcome}
+use Rattle.master_rules.specs.Search.{foundOutcome, searchRun, searchOutcome}
 
-module _ (Q : Bench → Type 0) (by-slot : (m : Bool) (b : Bench) → Q b → Q (slotted b m .bench)) (by-reset : (b : Bench) → Q b → Q (resetDone b .bench)) where
+module _ (Q : Bench → Type 0) (by-slot : (m : Bool) (b : Bench) → Q b → Q (slotted b m .bench)) (by-reset : (b : Bench)
+    → Q b → Q (resetDone b .bench)) where
   sent-keeps : (n x : ℕ) (b : Bench) → Q b → Q (sent n x b)
   sent-keeps n x b q = slots-hold calls Q by-slot (bitsOf n x) b q
 
@@ -49,7 +53,8 @@ module _ (Q : Bench → Type 0) (by-slot : (m : Bool) (b : Bench) → Q b → Q 
       let r = replied-keeps _ (addressed-keeps code readScratchpad b q) in
       either (eqb (judged (familyOf code) (bytesShown 9 (addressed code readScratchpad b)) .refusal) accepted) _ _ r r
 
-  presence-keeps : (go : Bench → Access) → ((b : Bench) → Q b → Q (go b .bench)) → (b : Bench) → Q b → Q (onPresence (resetDone b) go .bench)
+  presence-keeps : (go : Bench → Access) → ((b : Bench) → Q b → Q (go b .bench)) → (b : Bench) → Q b
+      → Q (onPresence (resetDone b) go .bench)
   presence-keeps go h b q = either (resetDone b .presence) _ _ (h _ (by-reset b q)) (by-reset b q)
 
   read-back-keeps : (code : ℕ) (b : Bench) → Q b → Q (readBack code b .bench)
@@ -75,12 +80,14 @@ module _ (Q : Bench → Type 0) (by-slot : (m : Bool) (b : Bench) → Q b → Q 
   written-and-read-keeps code s b q =
       let row = propertiesOf (familyOf code) in
       let r = read-back-keeps code _ (written-keeps row code s b q) in
-      either (eqb (readBack code (settingsSent row code s b) .refusal) accepted && not (asAsked row s (readBack code (settingsSent row code s b) .pad))) _ _ r r
+      either (eqb (readBack code (settingsSent row code s b) .refusal) accepted
+      && not (asAsked row s (readBack code (settingsSent row code s b) .pad))) _ _ r r
 
   pub write-keeps : (code : ℕ) (s : Settings) (b : Bench) → Q b → Q (writeAt b code s .bench)
   unfolding writeAt
   write-keeps code s b q =
-      either (not (eqb (admission b code) accepted)) _ _ q (presence-keeps (writtenAndRead code s) (written-and-read-keeps code s) b q)
+      either (not (eqb (admission b code) accepted)) _ _ q
+      (presence-keeps (writtenAndRead code s) (written-and-read-keeps code s) b q)
 
   pub outcome-keeps : (command : ℕ) (b : Bench) (places room : ℕ) → Q b → Q (searchOutcome command b places room .bench)
   unfolding searchOutcome
@@ -88,7 +95,8 @@ module _ (Q : Bench → Type 0) (by-slot : (m : Bool) (b : Bench) → Q b → Q 
       by-tests (ltb places fewestPlaces || ltb room fewestBytes) (not (free b)) (not (resetDone b .presence))
     where
       by-tests : (t u v : Bool)
-          → Q ((if t then refusedOutcome noRoom b else if u then refusedOutcome wireBusy b else if v then lonelyOutcome (resetDone b .bench) else foundOutcome (searchRun command b)) .bench)
+          → Q ((if t then refusedOutcome noRoom b else if u then refusedOutcome wireBusy b else if v
+          then lonelyOutcome (resetDone b .bench) else foundOutcome (searchRun command b)) .bench)
       by-tests true u v = q
       by-tests false true v = q
       by-tests false false true = by-reset b q
@@ -104,9 +112,11 @@ module _ (Q : Bench → Type 0) (by-slot : (m : Bool) (b : Bench) → Q b → Q 
   pins-read-keep [] f q = q
   pins-read-keep (c ∷ cs) f q =
       let r = read-keeps c (f .bench) q in
-      pins-read-keep cs (pinsStep f c) (found-either (isPinned c) _ f (found-either (eqb (readAt (f .bench) c .refusal) accepted) _ _ r r) q)
+      pins-read-keep cs (pinsStep f c) (found-either (isPinned c) _ f
+      (found-either (eqb (readAt (f .bench) c .refusal) accepted) _ _ r r) q)
 
-  outcome-either : (t : Bool) (x y : PinsOutcome) → Q (x .found .bench) → Q (y .found .bench) → Q ((if t then x else y) .found .bench)
+  outcome-either : (t : Bool) (x y : PinsOutcome) → Q (x .found .bench) → Q (y .found .bench)
+      → Q ((if t then x else y) .found .bench)
   outcome-either true x y p q = p
   outcome-either false x y p q = q
 

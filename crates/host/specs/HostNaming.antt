@@ -1,7 +1,9 @@
--- A recording named call by call, for a host that hands it over in pieces (the requests, "Long recordings from a C host"). A call is given the
--- characters that are held of an unfinished line, a piece, the place in it from which to go on, and whether the recording ends with the piece.
+-- A recording named call by call, for a host that hands it over in pieces (the requests, "Long recordings from a C
+-- host"). A call is given the characters that are held of an unfinished line, a piece, the place in it from which to go
+-- on, and whether the recording ends with the piece.
 --     numberTold n                  the number of a name, 1 to 6, or 100 and that of the refusal
---     lineInHand u b                the first line of the characters u and the bytes b behind them; u stands before any feed
+--     lineInHand u b                the first line of the characters u and the bytes b behind them; u stands before any
+--                                   feed
 --     heldFrom u b                  what is held of it: at most 135 characters
 --     lineTold l ended next         what the line comes to
 --     nextAnswer, nextLeaves        what a call answers, and the buffer of the unfinished line after it
@@ -53,10 +55,17 @@ heldFrom u more = take mostHeldByHost (u ++ more)
 abbrev pub toldName : Named → ℕ → Answer
 toldName n next = record { code = n .code; next = next; held = 0; kind = numberTold n; raw = n .raw }
 
--- characters without a feed: where the recording goes on they are held, and the next piece is wanted; where it ends they are its last line
+-- characters without a feed: where the recording goes on they are held, and the next piece is wanted; where it ends
+-- they are its last line
 abbrev pub openTold : List ℕ → Bool → ℕ → Answer
 openTold cs ended next =
-    if not ended then record { code = 0; next = next; held = length (take mostHeldByHost cs); kind = moreWanted; raw = 0 }
+    if not ended then record {
+      code = 0;
+      next = next;
+      held = length (take mostHeldByHost cs);
+      kind = moreWanted;
+      raw = 0;
+    }
     else if eqb (length cs) 0 then record { code = 0; next = next; held = 0; kind = done; raw = 0 }
     else toldName (lineNamed record { chars = cs; fed = false }) next
 
@@ -77,7 +86,8 @@ module _ (line : List ℕ) (held : ℕ) (bytes : List ℕ) (at : ℕ) where
   abbrev pub nextAnswer : Bool → Answer
   nextAnswer ended = lineTold givenLine ended (placeBehind bytes at)
 
-  -- a line that stands whole in the piece leaves the buffer as it was; of any other what is held of it stands at the front
+  -- a line that stands whole in the piece leaves the buffer as it was; of any other what is held of it stands at the
+  -- front
   abbrev pub nextLeaves : List ℕ
   nextLeaves = if eqb held 0 && givenLine .fed then line else laid line 0 (take mostHeldByHost (givenLine .chars))
 

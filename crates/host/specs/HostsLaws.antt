@@ -1,4 +1,5 @@
--- What a host hears of a recording that it hands over in pieces: one call after another, by what is left of the recording.
+-- What a host hears of a recording that it hands over in pieces: one call after another, by what is left of the
+-- recording.
 --     hears-whole            the theorem, of `HostClaim`
 use Prim.Native.Nat.{ℕ, zero, suc, _+_, _<_, _≤_}
 use mathlib.Core.Path.{_≡_, refl, sym, ap, _∙_}
@@ -27,7 +28,8 @@ use Rattle.naming.specs.declared.Name.{Name}
 use Rattle.naming.specs.declared.Name.the-variants.{Empty, Search, Alarm, Nobody, Pad, Other}
 use Rattle.naming.specs.declared.Named.{Named}
 use Rattle.host.specs.declared.Answer.{Answer}
-use Rattle.host.specs.HostNaming.{done, moreWanted, numberTold, mostHeldByHost, lineInHand, toldName, openTold, placeBehind, nextAnswer, nextLeaves}
+use Rattle.host.specs.HostNaming.{done, moreWanted, numberTold, mostHeldByHost, lineInHand, toldName, openTold}
+use Rattle.host.specs.HostNaming.{placeBehind, nextAnswer, nextLeaves}
 use Rattle.host.specs.Hosts.{lineNumbers, hearing, hears, HostClaim}
 
 -- ## A name is never taken for the end or for a wish
@@ -43,11 +45,13 @@ name-other Other = (λ e. absurd (omega arith), λ e. absurd (omega arith))
 told-other : (n : Named) → (numberTold n ≡ done → ⊥) × (numberTold n ≡ moreWanted → ⊥)
 told-other n = by-test (eqb (n .refusal) accepted)
   where
-    by-test : (t : Bool) → let k = if t then nameNumber (n .name) else 100 + n .refusal in (k ≡ done → ⊥) × (k ≡ moreWanted → ⊥)
+    by-test : (t : Bool) → let k = if t then nameNumber (n .name) else 100 + n .refusal in
+        (k ≡ done → ⊥) × (k ≡ moreWanted → ⊥)
     by-test true = name-other (n .name)
     by-test false = (λ e. absurd (omega arith), λ e. absurd (omega arith))
 
-hearing-name : (n : Named) (place : ℕ) (next same : List ℕ) → hearing (toldName n place) next same ≡ (numberTold n ∷ n .code ∷ n .raw ∷ []) ++ same
+hearing-name : (n : Named) (place : ℕ) (next same : List ℕ)
+    → hearing (toldName n place) next same ≡ (numberTold n ∷ n .code ∷ n .raw ∷ []) ++ same
 hearing-name n place next same =
     rw (ne-eqb (numberTold n) done (told-other n .0), ne-eqb (numberTold n) moreWanted (told-other n .1))
 
@@ -70,20 +74,25 @@ module _ (u b : List ℕ) (plain : all notFeed u ≡ true) where
         let h = ltb-true k (length b) fed in
         let feed = at-there lineFeed b h in
         let here : drop k b ≡ lineFeed ∷ drop (k + 1) b =
-        drop-cons b k 0 h ∙ ap (λ (c : ℕ). c ∷ drop (suc k) b) feed ∙ ap (λ (j : ℕ). lineFeed ∷ drop j b) (sym (add-one k)) in
-        sym (take-append-drop k b) ∙ ap (λ (r : List ℕ). take k b ++ r) here ∙ sym (append-assoc (take k b) (lineFeed ∷ []) (drop (k + 1) b))
+        drop-cons b k 0 h ∙ ap (λ (c : ℕ). c ∷ drop (suc k) b) feed
+        ∙ ap (λ (j : ℕ). lineFeed ∷ drop j b) (sym (add-one k)) in
+        sym (take-append-drop k b) ∙ ap (λ (r : List ℕ). take k b ++ r) here
+        ∙ sym (append-assoc (take k b) (lineFeed ∷ []) (drop (k + 1) b))
 
     front-plain : all notFeed (u ++ take (feedAt b) b) ≡ true
     front-plain = all-append notFeed u (take (feedAt b) b) ∙ rw (plain, at-none lineFeed b)
 
-    pub told-fed : (r : List ℕ) → said lineNumbers ((u ++ b) ++ r) ≡ lineNumbers (lineInHand u b) ++ said lineNumbers (drop (feedAt b + 1) b ++ r)
+    pub told-fed : (r : List ℕ) → said lineNumbers ((u ++ b) ++ r)
+        ≡ lineNumbers (lineInHand u b) ++ said lineNumbers (drop (feedAt b + 1) b ++ r)
     unfolding sayAll
     told-fed r =
         let x = take (feedAt b) b in
         let f = lineFeed ∷ [] in
         let t = drop (feedAt b + 1) b in
         let all-bytes : (u ++ b) ++ r ≡ ((u ++ x) ++ f) ++ (t ++ r) =
-        ap (λ (c : List ℕ). (u ++ c) ++ r) parted ∙ ap (λ (c : List ℕ). c ++ r) (sym (append-assoc u (x ++ f) t) ∙ ap (λ (c : List ℕ). c ++ t) (sym (append-assoc u x f)))
+        ap (λ (c : List ℕ). (u ++ c) ++ r) parted
+        ∙ ap (λ (c : List ℕ). c ++ r) (sym (append-assoc u (x ++ f) t)
+        ∙ ap (λ (c : List ℕ). c ++ t) (sym (append-assoc u x f)))
         ∙ append-assoc ((u ++ x) ++ f) t r in
         ap (said lineNumbers) all-bytes ∙ ap (sayAll lineNumbers) (lines-cut (u ++ x) (t ++ r) front-plain)
         ∙ ap (λ (s : Bool). lineNumbers record { chars = u ++ x; fed = s } ++ said lineNumbers (t ++ r)) (sym fed)
@@ -108,11 +117,13 @@ said-none (c ∷ s) h = absurd (omega arith)
 -- what a host hears in so many calls, where they are enough
 abbrev Hears : ℕ → Type 0
 Hears n =
-    (line : List ℕ) (held : ℕ) (bytes : List ℕ) (at : ℕ) (cs : List (List ℕ)) → mostHeldByHost ≤ length line → all notFeed (take held line) ≡ true
+    (line : List ℕ) (held : ℕ) (bytes : List ℕ) (at : ℕ) (cs : List (List ℕ)) → mostHeldByHost ≤ length line
+    → all notFeed (take held line) ≡ true
     → length (take held line) + length (drop at bytes) + length (together cs) + length cs < n
     → hears n line held bytes at cs ≡ said lineNumbers ((take held line ++ drop at bytes) ++ together cs)
 
-module _ (n : ℕ) (ih : Hears n) (line : List ℕ) (held : ℕ) (bytes : List ℕ) (at : ℕ) (room : mostHeldByHost ≤ length line) (plain : all notFeed (take held line) ≡ true) where
+module _ (n : ℕ) (ih : Hears n) (line : List ℕ) (held : ℕ) (bytes : List ℕ) (at : ℕ)
+    (room : mostHeldByHost ≤ length line) (plain : all notFeed (take held line) ≡ true) where
   abbrev u : List ℕ
   u = take held line
 
@@ -128,7 +139,8 @@ module _ (n : ℕ) (ih : Hears n) (line : List ℕ) (held : ℕ) (bytes : List �
   after-long : mostHeldByHost ≤ length after
   after-long = by-test (eqb held 0 && lineInHand u b .fed)
     where
-      by-test : (t : Bool) → mostHeldByHost ≤ length (if t then line else laid line 0 (take mostHeldByHost (lineInHand u b .chars)))
+      by-test : (t : Bool) → mostHeldByHost ≤ length (if t then line
+          else laid line 0 (take mostHeldByHost (lineInHand u b .chars)))
       by-test true = room
       by-test false =
           let x = take mostHeldByHost (lineInHand u b .chars) in
@@ -143,23 +155,29 @@ module _ (n : ℕ) (ih : Hears n) (line : List ℕ) (held : ℕ) (bytes : List �
         let k = ltb-true (feedAt b) (length b) fed in
         let d = length-drop at bytes in
         let size : length (take (feedAt b) b) ≡ feedAt b = length-take-le (feedAt b) b (omega arith) in
-        let wide : width (firstLine b) ≡ feedAt b + 1 = ap (λ (t : Bool). if t then length (take (feedAt b) b) + 1 else length (take (feedAt b) b)) fed ∙ omega arith in
+        let wide : width (firstLine b) ≡ feedAt b + 1 =
+        ap (λ (t : Bool). if t then length (take (feedAt b) b) + 1 else length (take (feedAt b) b)) fed
+        ∙ omega arith in
         let sum : place ≡ at + (feedAt b + 1) = omega arith in
-        let same : drop place bytes ≡ drop (feedAt b + 1) b = ap (λ (m : ℕ). drop m bytes) sum ∙ sym (drop-drop (feedAt b + 1) at bytes) in
+        let same : drop place bytes ≡ drop (feedAt b + 1) b =
+        ap (λ (m : ℕ). drop m bytes) sum ∙ sym (drop-drop (feedAt b + 1) at bytes) in
         let l = ap length same ∙ length-drop (feedAt b + 1) b in
         (same, omega arith)
 
     next-fed : (ended : Bool) → nextAnswer line held bytes at ended ≡ toldName (lineNamed (lineInHand u b)) place
-    next-fed ended = ap (λ (t : Bool). if t then toldName (lineNamed (lineInHand u b)) place else openTold (lineInHand u b .chars) ended place) fed
+    next-fed ended = ap (λ (t : Bool). if t then toldName (lineNamed (lineInHand u b)) place
+        else openTold (lineInHand u b .chars) ended place) fed
 
-    hears-fed : (ended : Bool) (next : List ℕ) (cs : List (List ℕ)) → length u + length b + length (together cs) + length cs < suc n →
+    hears-fed : (ended : Bool) (next : List ℕ) (cs : List (List ℕ))
+        → length u + length b + length (together cs) + length cs < suc n →
         let a = nextAnswer line held bytes at ended in
         hearing a next (hears n after (a .held) bytes (a .next) cs) ≡ said lineNumbers ((u ++ b) ++ together cs)
     unfolding all
     hears-fed ended next cs enough =
         let l = lineInHand u b in
         let less = behind .1 in
-        let rest = ih after 0 bytes place cs after-long refl (omega arith) ∙ ap (λ (r : List ℕ). said lineNumbers (r ++ together cs)) (behind .0) in
+        let rest = ih after 0 bytes place cs after-long refl (omega arith)
+        ∙ ap (λ (r : List ℕ). said lineNumbers (r ++ together cs)) (behind .0) in
         ap (λ (a : Answer). hearing a next (hears n after (a .held) bytes (a .next) cs)) (next-fed ended)
         ∙ hearing-name (lineNamed l) place next (hears n after 0 bytes place cs)
         ∙ ap (λ (x : List ℕ). lineNumbers l ++ x) rest
@@ -172,20 +190,24 @@ module _ (n : ℕ) (ih : Hears n) (line : List ℕ) (held : ℕ) (bytes : List �
 
     next-open : (ended : Bool) → nextAnswer line held bytes at ended ≡ openTold (u ++ b) ended place
     next-open ended =
-        ap (λ (t : Bool). if t then toldName (lineNamed (lineInHand u b)) place else openTold (lineInHand u b .chars) ended place) unfed
+        ap (λ (t : Bool). if t then toldName (lineNamed (lineInHand u b)) place
+        else openTold (lineInHand u b .chars) ended place) unfed
         ∙ ap (λ (cs : List ℕ). openTold cs ended place) chars-open
 
     after-open : after ≡ laid line 0 (take mostHeldByHost (u ++ b))
     after-open =
-        ap (λ (t : Bool). if eqb held 0 && t then line else laid line 0 (take mostHeldByHost (lineInHand u b .chars))) unfed
+        ap (λ (t : Bool). if eqb held 0 && t then line
+        else laid line 0 (take mostHeldByHost (lineInHand u b .chars))) unfed
         ∙ by-held (eqb held 0) ∙ ap (λ (cs : List ℕ). laid line 0 (take mostHeldByHost cs)) chars-open
       where
-        by-held : (t : Bool) → let x = laid line 0 (take mostHeldByHost (lineInHand u b .chars)) in (if t && false then line else x) ≡ x
+        by-held : (t : Bool) → let x = laid line 0 (take mostHeldByHost (lineInHand u b .chars)) in
+            (if t && false then line else x) ≡ x
         by-held true = refl
         by-held false = refl
 
     -- it goes on in the next piece
-    hears-more : (c : List ℕ) (cs : List (List ℕ)) (same : Answer → List ℕ) → length u + length b + length (together (c ∷ cs)) + length (c ∷ cs) < suc n →
+    hears-more : (c : List ℕ) (cs : List (List ℕ)) (same : Answer → List ℕ)
+        → length u + length b + length (together (c ∷ cs)) + length (c ∷ cs) < suc n →
         let a = nextAnswer line held bytes at false in
         hearing a (hears n after (a .held) c 0 cs) (same a) ≡ said lineNumbers ((u ++ b) ++ together (c ∷ cs))
     unfolding together
@@ -196,7 +218,8 @@ module _ (n : ℕ) (ih : Hears n) (line : List ℕ) (held : ℕ) (bytes : List �
         let ub = length-append u b in
         let size : length (take (length v) after) ≡ length v = ap length front in
         let ct = length-append c (together cs) in
-        let clean : all notFeed (take (length v) after) ≡ true = ap (all notFeed) front ∙ all-take notFeed mostHeldByHost (u ++ b) (plain-open u b plain unfed) in
+        let clean : all notFeed (take (length v) after) ≡ true =
+        ap (all notFeed) front ∙ all-take notFeed mostHeldByHost (u ++ b) (plain-open u b plain unfed) in
         ap (λ (a : Answer). hearing a (hears n after (a .held) c 0 cs) (same a)) (next-open false)
         ∙ ih after (length v) c 0 cs after-long clean (omega arith)
         ∙ ap (λ (w : List ℕ). said lineNumbers ((w ++ c) ++ together cs)) front
@@ -206,7 +229,8 @@ module _ (n : ℕ) (ih : Hears n) (line : List ℕ) (held : ℕ) (bytes : List �
     none-past : drop place bytes ≡ []
     none-past =
         let wide : width (firstLine b) ≡ length b =
-        ap (λ (t : Bool). if t then length (take (feedAt b) b) + 1 else length (take (feedAt b) b)) unfed ∙ ap length (whole-open u b plain unfed) in
+        ap (λ (t : Bool). if t then length (take (feedAt b) b) + 1 else length (take (feedAt b) b)) unfed
+        ∙ ap length (whole-open u b plain unfed) in
         let d = length-drop at bytes in
         let past : length bytes ≤ place = omega arith in
         drop-of-length-le bytes past
@@ -224,7 +248,8 @@ module _ (n : ℕ) (ih : Hears n) (line : List ℕ) (held : ℕ) (bytes : List �
         ub = length-append u b
 
         by-test : (t : Bool) → eqb (length (u ++ b)) 0 ≡ t →
-            let a = if t then record { code = 0; next = place; held = 0; kind = done; raw = 0 } else toldName (lineNamed record { chars = u ++ b; fed = false }) place in
+            let a = if t then record { code = 0; next = place; held = 0; kind = done; raw = 0 }
+            else toldName (lineNamed record { chars = u ++ b; fed = false }) place in
             hearing a next (hears n after (a .held) bytes (a .next) []) ≡ said lineNumbers (u ++ b)
         by-test true e = sym (said-none (u ++ b) (eqb-true (length (u ++ b)) 0 e))
         by-test false e =
@@ -232,7 +257,8 @@ module _ (n : ℕ) (ih : Hears n) (line : List ℕ) (held : ℕ) (bytes : List �
             let sum = ub in
             let l : Line = record { chars = u ++ b; fed = false } in
             let none = ap length none-past in
-            let rest = ih after 0 bytes place [] after-long refl (omega arith) ∙ said-none (drop place bytes ++ []) (ap length (append-nil (drop place bytes)) ∙ none) in
+            let rest = ih after 0 bytes place [] after-long refl (omega arith)
+            ∙ said-none (drop place bytes ++ []) (ap length (append-nil (drop place bytes)) ∙ none) in
             hearing-name (lineNamed l) place next (hears n after 0 bytes place [])
             ∙ ap (λ (x : List ℕ). lineNumbers l ++ x) rest
             ∙ sym (alone-open lineNumbers (u ++ b) (omega arith) (plain-open u b plain unfed))
@@ -241,25 +267,31 @@ module _ (n : ℕ) (ih : Hears n) (line : List ℕ) (held : ℕ) (bytes : List �
 
 one-more : (n : ℕ) → Hears n → Hears (suc n)
 unfolding hears together
-one-more n ih line held bytes at [] room plain enough = by-test (ltb (feedAt (drop at bytes)) (length (drop at bytes))) refl
+one-more n ih line held bytes at [] room plain enough =
+    by-test (ltb (feedAt (drop at bytes)) (length (drop at bytes))) refl
   where
     by-test : (t : Bool) → ltb (feedAt (drop at bytes)) (length (drop at bytes)) ≡ t
         → hears (suc n) line held bytes at [] ≡ said lineNumbers ((take held line ++ drop at bytes) ++ [])
     by-test true e = hears-fed n ih line held bytes at room plain e true [] [] enough
     by-test false e =
-        hears-end n ih line held bytes at room plain e [] (omega arith) ∙ ap (said lineNumbers) (sym (append-nil (take held line ++ drop at bytes)))
-one-more n ih line held bytes at (c ∷ cs) room plain enough = by-test (ltb (feedAt (drop at bytes)) (length (drop at bytes))) refl
+        hears-end n ih line held bytes at room plain e [] (omega arith)
+        ∙ ap (said lineNumbers) (sym (append-nil (take held line ++ drop at bytes)))
+one-more n ih line held bytes at (c ∷ cs) room plain enough =
+    by-test (ltb (feedAt (drop at bytes)) (length (drop at bytes))) refl
   where
     by-test : (t : Bool) → ltb (feedAt (drop at bytes)) (length (drop at bytes)) ≡ t
-        → hears (suc n) line held bytes at (c ∷ cs) ≡ said lineNumbers ((take held line ++ drop at bytes) ++ together (c ∷ cs))
+        → hears (suc n) line held bytes at (c ∷ cs)
+        ≡ said lineNumbers ((take held line ++ drop at bytes) ++ together (c ∷ cs))
     by-test true e = hears-fed n ih line held bytes at room plain e false (hears n _ _ c 0 cs) (c ∷ cs) enough
     by-test false e =
         let after = nextLeaves line held bytes at in
-        hears-more n ih line held bytes at room plain e c cs (λ a. hears n after (a .held) bytes (a .next) (c ∷ cs)) enough
+        hears-more n ih line held bytes at room plain e c cs (λ a. hears n after (a .held) bytes (a .next) (c ∷ cs))
+        enough
 
 hears-on : (n : ℕ) → Hears n
 hears-on zero line held bytes at cs room plain enough = absurd (omega arith)
-hears-on (suc n) line held bytes at cs room plain enough = one-more n (hears-on n) line held bytes at cs room plain enough
+hears-on (suc n) line held bytes at cs room plain enough =
+    one-more n (hears-on n) line held bytes at cs room plain enough
 
 pub hears-whole : HostClaim
 unfolding all together

@@ -1,5 +1,5 @@
--- Laws that the proofs of the calls rest on: what is held of a line tells what the line comes to; where characters are laid behind those that are held;
--- and each way in which a call can end, as its definition has it.
+-- Laws that the proofs of the calls rest on: what is held of a line tells what the line comes to; where characters are
+-- laid behind those that are held; and each way in which a call can end, as its definition has it.
 use Prim.Native.Nat.{ℕ, _+_, _-_, _<_, _≤_, min}
 use mathlib.Core.Path.{_≡_, refl, sym, ap, _∙_}
 use mathlib.Core.Bool.{Bool, true, false, _&&_}
@@ -19,21 +19,26 @@ use Rattle.frame.specs.ReadLineLaws.{read-long}
 use Rattle.naming.specs.Naming.{refusedName, readNamed, lineNamed}
 use Rattle.naming.specs.declared.Named.{Named}
 use Rattle.host.specs.declared.Answer.{Answer}
-use Rattle.host.specs.HostNaming.{mostHeldByHost, lineInHand, heldFrom, toldName, openTold, lineTold, placeBehind, nextAnswer, nextLeaves, lentAnswer, lentLeaves}
+use Rattle.host.specs.HostNaming.{mostHeldByHost, lineInHand, heldFrom, toldName, openTold, lineTold, placeBehind}
+use Rattle.host.specs.HostNaming.{nextAnswer, nextLeaves, lentAnswer, lentLeaves}
 
 -- ## What is held of a line tells what it comes to
 
-pub cut-named : (cs : List ℕ) (fed : Bool) → lineNamed record { chars = take mostHeldByHost cs; fed = fed } ≡ lineNamed record { chars = cs; fed = fed }
+pub cut-named : (cs : List ℕ) (fed : Bool) → lineNamed record { chars = take mostHeldByHost cs; fed = fed }
+    ≡ lineNamed record { chars = cs; fed = fed }
 cut-named cs fed = by-test (leb (length cs) mostHeldByHost) refl
   where
-    by-test : (t : Bool) → leb (length cs) mostHeldByHost ≡ t → lineNamed record { chars = take mostHeldByHost cs; fed = fed } ≡ lineNamed record { chars = cs; fed = fed }
+    by-test : (t : Bool) → leb (length cs) mostHeldByHost ≡ t
+        → lineNamed record { chars = take mostHeldByHost cs; fed = fed } ≡ lineNamed record { chars = cs; fed = fed }
     by-test true e = rw (take-all mostHeldByHost cs (leb-true (length cs) mostHeldByHost e))
     by-test false e =
         let k = leb-false (length cs) mostHeldByHost e in
         let l : length (take mostHeldByHost cs) ≡ mostHeldByHost = length-take-le mostHeldByHost cs (omega arith) in
-        ap readNamed (read-long record { chars = take mostHeldByHost cs; fed = fed } (omega arith) ∙ sym (read-long record { chars = cs; fed = fed } (omega arith)))
+        ap readNamed (read-long record { chars = take mostHeldByHost cs; fed = fed } (omega arith)
+        ∙ sym (read-long record { chars = cs; fed = fed } (omega arith)))
 
-pub open-cut : (cs : List ℕ) (ended : Bool) (next : ℕ) → openTold (take mostHeldByHost cs) ended next ≡ openTold cs ended next
+pub open-cut : (cs : List ℕ) (ended : Bool) (next : ℕ)
+    → openTold (take mostHeldByHost cs) ended next ≡ openTold cs ended next
 open-cut cs false next = rw (take-take mostHeldByHost mostHeldByHost cs (omega arith))
 open-cut cs true next = by-test (eqb (length cs) 0) refl
   where
@@ -63,12 +68,14 @@ take-least k l = by-test (leb (length l) k) refl
         rw m (take-all (length l) l (omega arith) ∙ sym (take-all k l h))
     by-test false e = let h = leb-false (length l) k e in let m : min (length l) k ≡ k = omega arith in rw m
 
-module _ (line : List ℕ) (held : ℕ) (more : List ℕ) (start count : ℕ) (begins : start ≡ min held mostHeldByHost) (counts : count ≡ min (length more) (mostHeldByHost - start))
+module _ (line : List ℕ) (held : ℕ) (more : List ℕ) (start count : ℕ) (begins : start
+    ≡ min held mostHeldByHost) (counts : count ≡ min (length more) (mostHeldByHost - start))
     (room : mostHeldByHost ≤ length line) where
   held-parts : heldFrom (take held line) more ≡ take start line ++ take count more
   held-parts = by-test (leb held mostHeldByHost) refl
     where
-      by-test : (t : Bool) → leb held mostHeldByHost ≡ t → heldFrom (take held line) more ≡ take start line ++ take count more
+      by-test : (t : Bool) → leb held mostHeldByHost ≡ t
+          → heldFrom (take held line) more ≡ take start line ++ take count more
       by-test true e =
           let h = leb-true held mostHeldByHost e in
           let u = take held line in
@@ -76,7 +83,8 @@ module _ (line : List ℕ) (held : ℕ) (more : List ℕ) (start count : ℕ) (b
           let size : length u ≡ held = length-take-le held line (omega arith) in
           let sum : mostHeldByHost ≡ length u + (mostHeldByHost - start) = omega arith in
           ap (λ (n : ℕ). take n (u ++ more)) sum ∙ take-append-add u more (mostHeldByHost - start)
-          ∙ ap (λ (x : List ℕ). u ++ x) (sym (take-least (mostHeldByHost - start) more) ∙ ap (λ (n : ℕ). take n more) (sym counts))
+          ∙ ap (λ (x : List ℕ). u ++ x) (sym (take-least (mostHeldByHost - start) more)
+          ∙ ap (λ (n : ℕ). take n more) (sym counts))
           ∙ ap (λ (n : ℕ). take n line ++ take count more) (sym same)
       by-test false e =
           let h = leb-false held mostHeldByHost e in
@@ -84,7 +92,8 @@ module _ (line : List ℕ) (held : ℕ) (more : List ℕ) (start count : ℕ) (b
           let none : count ≡ 0 = omega arith in
           let size = length-take held line in
           rw (same, none)
-          (take-append-le mostHeldByHost (take held line) more (omega arith) ∙ take-take mostHeldByHost held line (omega arith) ∙ sym (append-nil (take mostHeldByHost line)))
+          (take-append-le mostHeldByHost (take held line) more (omega arith)
+          ∙ take-take mostHeldByHost held line (omega arith) ∙ sym (append-nil (take mostHeldByHost line)))
 
   part-size : length (take count more) ≡ count
   part-size = length-take-le count more (omega arith)
@@ -115,7 +124,8 @@ module _ (line : List ℕ) (held : ℕ) (bytes : List ℕ) (at : ℕ) (ended : B
       → (toldName (refusedName noRoom) 0 ≡ lentAnswer line held bytes at ended) × (line ≡ lentLeaves line held bytes at)
   lent-short h = rw (lt-leb mostHeldByHost (length line) h) (refl, refl)
 
-  module _ (room : mostHeldByHost ≤ length line) (from e : ℕ) (clip : from ≡ min at (length bytes)) (ends : e ≡ from + feedAt (drop from bytes)) where
+  module _ (room : mostHeldByHost ≤ length line) (from e : ℕ) (clip : from ≡ min at (length bytes)) (ends : e
+      ≡ from + feedAt (drop from bytes)) where
     -- the characters of the first line, where they stand
     abbrev part : List ℕ
     part = take (e - from) (drop from bytes)
@@ -138,10 +148,12 @@ module _ (line : List ℕ) (held : ℕ) (bytes : List ℕ) (at : ℕ) (ended : B
     first-given = ap firstLine (sym from-place) ∙ line-by-end bytes from e (omega arith) ends .1
 
     behind : (n : ℕ) → n ≡ from + width (firstLine (drop from bytes)) → n ≡ placeBehind bytes at
-    behind n h = h ∙ ap (λ (b : List ℕ). from + width (firstLine b)) from-place ∙ ap (λ (k : ℕ). k + width (firstLine (drop at bytes))) clip
+    behind n h = h ∙ ap (λ (b : List ℕ). from + width (firstLine b)) from-place
+        ∙ ap (λ (k : ℕ). k + width (firstLine (drop at bytes))) clip
 
     -- the line in hand ends where the first line does
-    given : lineInHand (take held line) (drop at bytes) ≡ record { chars = take held line ++ part; fed = ltb e (length bytes) }
+    given : lineInHand (take held line) (drop at bytes)
+        ≡ record { chars = take held line ++ part; fed = ltb e (length bytes) }
     given = ap (λ (l : Line). record { chars = take held line ++ l .chars; fed = l .fed }) first-given
 
     -- what the call answers and leaves, by that line
@@ -150,7 +162,8 @@ module _ (line : List ℕ) (held : ℕ) (bytes : List ℕ) (at : ℕ) (ended : B
     answered fed next h k =
         rw (le-leb mostHeldByHost (length line) room)
         (ap (lineTold record { chars = take held line ++ part; fed = fed } ended) k
-        ∙ ap (λ (t : Bool). lineTold record { chars = take held line ++ part; fed = t } ended (placeBehind bytes at)) (sym h)
+        ∙ ap (λ (t : Bool). lineTold record { chars = take held line ++ part; fed = t } ended (placeBehind bytes at))
+        (sym h)
         ∙ ap (λ (l : Line). lineTold l ended (placeBehind bytes at)) (sym given))
 
     left : (none fed : Bool) → eqb held 0 ≡ none → ltb e (length bytes) ≡ fed
@@ -159,7 +172,8 @@ module _ (line : List ℕ) (held : ℕ) (bytes : List ℕ) (at : ℕ) (ended : B
         rw (le-leb mostHeldByHost (length line) room)
         (ap (λ (t : Bool). if t && fed then line else laid line 0 (heldFrom (take held line) part)) (sym n)
         ∙ ap (λ (t : Bool). if eqb held 0 && t then line else laid line 0 (heldFrom (take held line) part)) (sym h)
-        ∙ ap (λ (l : Line). if eqb held 0 && l .fed then line else laid line 0 (take mostHeldByHost (l .chars))) (sym given))
+        ∙ ap (λ (l : Line). if eqb held 0 && l .fed then line
+        else laid line 0 (take mostHeldByHost (l .chars))) (sym given))
 
     module _ (fed : e < length bytes) where
       abbrev has-feed : ltb e (length bytes) ≡ true
@@ -172,19 +186,23 @@ module _ (line : List ℕ) (held : ℕ) (bytes : List ℕ) (at : ℕ) (ended : B
           → (a ≡ lentAnswer line held bytes at ended) × (line ≡ lentLeaves line held bytes at)
       lent-in-place none a h =
           let front : part ≡ take held line ++ part = rw none refl in (
-            h ∙ ap (λ (cs : List ℕ). toldName (lineNamed record { chars = cs; fed = true }) (e + 1)) front ∙ answered true (e + 1) has-feed place,
+            h ∙ ap (λ (cs : List ℕ). toldName (lineNamed record { chars = cs; fed = true }) (e + 1)) front
+                ∙ answered true (e + 1) has-feed place,
             left true true (eq-eqb held 0 none) has-feed,
           )
 
-      pub lent-gathered : (held ≡ 0 → ⊥) → (after : List ℕ) (a : Answer) → after ≡ laid line 0 (heldFrom (take held line) part)
+      pub lent-gathered : (held ≡ 0 → ⊥) → (after : List ℕ) (a : Answer)
+          → after ≡ laid line 0 (heldFrom (take held line) part)
           → a ≡ toldName (lineNamed record { chars = heldFrom (take held line) part; fed = true }) (e + 1)
           → (a ≡ lentAnswer line held bytes at ended) × (after ≡ lentLeaves line held bytes at)
       lent-gathered some after a k h = (
-        h ∙ ap (λ (n : Named). toldName n (e + 1)) (cut-named (take held line ++ part) true) ∙ answered true (e + 1) has-feed place,
+        h ∙ ap (λ (n : Named). toldName n (e + 1)) (cut-named (take held line ++ part) true)
+            ∙ answered true (e + 1) has-feed place,
         k ∙ left false true (ne-eqb held 0 some) has-feed,
       )
 
-    pub lent-open : length bytes ≤ e → (after : List ℕ) (a : Answer) → after ≡ laid line 0 (heldFrom (take held line) part)
+    pub lent-open : length bytes ≤ e → (after : List ℕ) (a : Answer)
+        → after ≡ laid line 0 (heldFrom (take held line) part)
         → a ≡ openTold (heldFrom (take held line) part) ended e
         → (a ≡ lentAnswer line held bytes at ended) × (after ≡ lentLeaves line held bytes at)
     lent-open past after a k h =
@@ -194,13 +212,15 @@ module _ (line : List ℕ) (held : ℕ) (bytes : List ℕ) (at : ℕ) (ended : B
           k ∙ by-held (eqb held 0) ∙ left (eqb held 0) false refl no-feed,
         )
       where
-        by-held : (t : Bool) → laid line 0 (heldFrom (take held line) part) ≡ (if t && false then line else laid line 0 (heldFrom (take held line) part))
+        by-held : (t : Bool) → laid line 0 (heldFrom (take held line) part)
+            ≡ (if t && false then line else laid line 0 (heldFrom (take held line) part))
         by-held true = refl
         by-held false = refl
 
 -- ## What is held stands at the front of the buffer
 
-module _ (line u more : List ℕ) (room : mostHeldByHost ≤ length line) (n : ℕ) (after : List ℕ) (size : n ≡ length (heldFrom u more)) (lies : after ≡ laid line 0 (heldFrom u more)) where
+module _ (line u more : List ℕ) (room : mostHeldByHost ≤ length line) (n : ℕ) (after : List ℕ) (size : n
+    ≡ length (heldFrom u more)) (lies : after ≡ laid line 0 (heldFrom u more)) where
   few : length (heldFrom u more) ≤ mostHeldByHost
   few = let l = length-take mostHeldByHost (u ++ more) in omega arith
 
@@ -220,7 +240,9 @@ module _ (line u more : List ℕ) (room : mostHeldByHost ≤ length line) (n : �
 
 -- ## A buffer that is long enough
 
-pub lent-room : (line : List ℕ) (held : ℕ) (bytes : List ℕ) (at : ℕ) (ended : Bool) → mostHeldByHost ≤ length line → (a : Answer) (after : List ℕ)
+pub lent-room : (line : List ℕ) (held : ℕ) (bytes : List ℕ) (at : ℕ) (ended : Bool) → mostHeldByHost ≤ length line
+    → (a : Answer) (after : List ℕ)
     → a ≡ lentAnswer line held bytes at ended → after ≡ lentLeaves line held bytes at
     → (a ≡ nextAnswer line held bytes at ended) × (after ≡ nextLeaves line held bytes at)
-lent-room line held bytes at ended room a after h k = let long = le-leb mostHeldByHost (length line) room in (rw long at h, rw long at k)
+lent-room line held bytes at ended room a after h k = let long = le-leb mostHeldByHost (length line) room in
+    (rw long at h, rw long at k)

@@ -6,7 +6,8 @@ ghost use mathlib.Core.Path.{_≡_};
 ghost use Prim.Native.Nat.{_≤_, min};
 ghost use lib.ListN.{length, take};
 ghost use Rattle.basic_laws.specs.Laid.{laid};
-ghost use Rattle.host.specs.HostNaming.{mostHeldByHost, numberTold, toldName, openTold, heldFrom, lentAnswer, lentLeaves};
+ghost use Rattle.host.specs.HostNaming.{mostHeldByHost, numberTold, toldName, openTold, heldFrom, lentAnswer};
+ghost use Rattle.host.specs.HostNaming.{lentLeaves};
 use naming::Named;
 use text::laying;
 
@@ -99,7 +100,8 @@ fn tell_open(line: &[u8], ended: bool, next: usize) -> Answer
 fn hold(line: &mut [u8], held: usize, more: &[u8]) -> usize
     requires { ⌜ mostHeldByHost ≤ length (now line) ⌝ }
     ensures answer { λ r. ⌜ r ≡ length (heldFrom (take held (now (line .entry))) (now (more .entry))) ⌝ }
-    ensures written { λ r. ⌜ now (line .exit) ≡ laid (now (line .entry)) 0 (heldFrom (take held (now (line .entry))) (now (more .entry))) ⌝ }
+    ensures written { λ r. ⌜ now (line .exit)
+        ≡ laid (now (line .entry)) 0 (heldFrom (take held (now (line .entry))) (now (more .entry))) ⌝ }
 {
     let start = least(held, MOST_HELD);
     let count = least(more.len(), MOST_HELD - start);

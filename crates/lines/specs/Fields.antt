@@ -1,11 +1,13 @@
--- The fields of a call. Each reader answers whether the word is such a field, and its value, which counts only where it is.
+-- The fields of a call. Each reader answers whether the word is such a field, and its value, which counts only where it
+-- is.
 --     codeIn w               sixteen hexadecimal digits
 --     byteIn w               two hexadecimal digits
 --     bitIn w                0 or 1
 --     placesIn w             the places of a list that a search is lent, at most 32
 --     bytesIn w              the bytes of a recording that a search is lent, at most 1,824
 --     pinsIn w               the address pins of a device, up to 255 in one to three digits
---     countIn w              a count of sixteenths from -32768 to 32767, with a minus in front where it is negative; -0 is taken
+--     countIn w              a count of sixteenths from -32768 to 32767, with a minus in front where it is negative; -0
+--                            is taken
 --     threeBytesIn h l c     three bytes: high limit, low limit, configuration
 --     powerIn w              line or external
 -- Decimal numbers have one to five digits; zeros in front are taken.
@@ -63,7 +65,8 @@ abbrev pub negativeCount : NumberRead → CountRead
 negativeCount n = record { valid = n .valid; count = record { 0 = negℤ (pos (n .number)) } }
 
 unfoldable pub countIn : List ℕ → CountRead
-countIn w = if isNegative w then negativeCount (decimalRead mostDigits 32768 (drop 1 w)) else positiveCount (decimalRead mostDigits 32767 w)
+countIn w = if isNegative w then negativeCount (decimalRead mostDigits 32768 (drop 1 w))
+    else positiveCount (decimalRead mostDigits 32767 w)
 
 abbrev pub settings : NumberRead → NumberRead → NumberRead → SettingsRead
 settings h l c = record {

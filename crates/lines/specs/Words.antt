@@ -1,5 +1,5 @@
--- A line's words are what stands between its spaces. Two spaces together, a first or a last one, leave an empty word, which is like no word of a call: so
--- fields are parted by exactly one space.
+-- A line's words are what stands between its spaces. Two spaces together, a first or a last one, leave an empty word,
+-- which is like no word of a call: so fields are parted by exactly one space.
 --     wordsOf s              the words of a line, one more than it has spaces; of an empty line, one empty word
 --     wordOf ws k            word k, counted from 0; the empty word where there is none
 --     spaceAt s              how many characters stand before the first space; all where there is none

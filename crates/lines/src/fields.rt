@@ -1,7 +1,8 @@
 // The fields of a call.
 ghost use mathlib.Core.Path.{_≡_};
 ghost use mathlib.Core.Bool.{_&&_};
-ghost use Rattle.lines.specs.Fields.{codeIn, byteIn, bitIn, placesIn, bytesIn, pinsIn, countIn, threeBytesIn, powerIn};
+ghost use Rattle.lines.specs.Fields.{codeIn, byteIn, bitIn, placesIn, bytesIn, pinsIn, countIn, threeBytesIn};
+ghost use Rattle.lines.specs.Fields.{powerIn};
 use device::Power;
 use device::Settings;
 use temperature::Sixteenths;

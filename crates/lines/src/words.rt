@@ -43,7 +43,8 @@ pub fn count(line: &[u8]) -> usize
 // Where word k starts.
 fn start_of(line: &[u8], k: usize) -> usize
     requires { ⌜ k < length (wordsOf (now line)) ⌝ }
-    ensures { λ r. ⌜ (r ≤ length (now (line .entry))) × (wordsOf (drop r (now (line .entry))) ≡ drop k (wordsOf (now (line .entry)))) ⌝ }
+    ensures { λ r. ⌜ (r ≤ length (now (line .entry)))
+        × (wordsOf (drop r (now (line .entry))) ≡ drop k (wordsOf (now (line .entry)))) ⌝ }
 {
     let mut at: usize = 0;
     let mut j: usize = 0;

@@ -1,10 +1,12 @@
--- Reading and writing at a code (the scope, "The master"). Both refuse in the order: the given code (5, 7; nothing sent), 10 (nothing sent), 4 (only the
--- reset sent), then of the reply 5, 6, 7, 11, 20, and for a write 13. From 4 on the bench is as the reset and the slots sent left it.
+-- Reading and writing at a code (the scope, "The master"). Both refuse in the order: the given code (5, 7; nothing
+-- sent), 10 (nothing sent), 4 (only the reset sent), then of the reply 5, 6, 7, 11, 20, and for a write 13. From 4 on
+-- the bench is as the reset and the slots sent left it.
 --     addressed code command b     the bench after 55h, the code and a function command
 --     bytesShown n b               the bytes that the line shows in 8 n read slots; afterSlots, the bench after them
 --     admission b code             the tests before anything is sent
 --     readAt b code                a read at the code
---     settingsSent row code s b    4Eh and the settings s: high limit, low limit and, where the family has one, configuration
+--     settingsSent row code s b    4Eh and the settings s: high limit, low limit and, where the family has one,
+--                                  configuration
 --     writeAt b code s             a write of the settings s, then a read at the code
 use Prim.Native.Nat.{ℕ, zero, suc}
 use mathlib.Core.Bool.{Bool, not, _&&_}
@@ -48,7 +50,8 @@ refusedAt n b = record {
 unfoldable pub addressed : ℕ → ℕ → Bench → Bench
 addressed code command b = sent 8 command (sent 64 code (sent 8 matchRom b))
 
--- one byte of eight read slots, in which the master offers 1: what the line showed, first bit lowest, and the bench after them
+-- one byte of eight read slots, in which the master offers 1: what the line showed, first bit lowest, and the bench
+-- after them
 abbrev pub byteShown : Bench → ℕ
 byteShown b = numberOf (bitsShown calls 8 b)
 
@@ -63,7 +66,13 @@ bytesShown (suc n) b = byteShown b ∷ bytesShown n (afterSlots 8 b)
 -- a reply, judged for the family of the given code
 abbrev pub judgedReply : List ℕ → Bench → Judged → Access
 judgedReply pad b j =
-    if eqb (j .refusal) accepted then record { refusal = accepted; pad = pad; reading = j .reading; fine = j .fine; bench = b }
+    if eqb (j .refusal) accepted then record {
+      refusal = accepted;
+      pad = pad;
+      reading = j .reading;
+      fine = j .fine;
+      bench = b;
+    }
     else refusedAt (j .refusal) b
 
 -- BEh to the device with the code, and its reply: nine bytes in 72 read slots
@@ -104,7 +113,8 @@ asAsked row s pad =
 
 -- 13 where a read that was accepted shows other bytes
 abbrev pub compared : Properties → Settings → Access → Access
-compared row s r = if eqb (r .refusal) accepted && not (asAsked row s (r .pad)) then refusedAt mismatch (r .bench) else r
+compared row s r = if eqb (r .refusal) accepted && not (asAsked row s (r .pad)) then refusedAt mismatch (r .bench)
+    else r
 
 unfoldable pub writtenAndRead : ℕ → Settings → Bench → Access
 writtenAndRead code s b =

@@ -1,4 +1,5 @@
--- The tests before a read or a write sends anything, in their order: the given code first, whatever the wire does, then the wire. What they refuse sends nothing.
+-- The tests before a read or a write sends anything, in their order: the given code first, whatever the wire does, then
+-- the wire. What they refuse sends nothing.
 use Prim.Native.Nat.{ℕ}
 use mathlib.Core.Bool.{false}
 use mathlib.Core.Logic.{_≢_}

@@ -1,6 +1,6 @@
 -- Resets and slots that a master issues, by the slot rule itself (the scope, "One slot").
---     issued passes b        for each list of the master's bits a reset, which shows presence if there is a device, and a slot for each bit: the frames that
---                            the line showed, and the bench after the last slot
+--     issued passes b        for each list of the master's bits a reset, which shows presence if there is a device, and
+--                            a slot for each bit: the frames that the line showed, and the bench after the last slot
 --     Granted passes b       none of these resets and slots is refused
 use mathlib.Core.Bool.{Bool}
 use mathlib.Core.List.{List, [], _∷_}
@@ -32,4 +32,5 @@ SlotsGranted (x ∷ bits) b = (slotted b x .refusal ≡ accepted) × SlotsGrante
 
 abbrev pub Granted : List (List Bool) → Bench → Type 0
 Granted [] b = Unit
-Granted (bits ∷ passes) b = (resetDone b .refusal ≡ accepted) × SlotsGranted bits (restarted b) × Granted passes (slots slotRule bits (restarted b) .devices)
+Granted (bits ∷ passes) b = (resetDone b .refusal ≡ accepted) × SlotsGranted bits (restarted b)
+    × Granted passes (slots slotRule bits (restarted b) .devices)

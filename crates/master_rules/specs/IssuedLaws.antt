@@ -16,9 +16,11 @@ use Rattle.master_rules.specs.Issued.{SlotsGranted, Granted}
 -- ## What they show
 
 -- presence stays as it is
-pub slots-presence : (bits : List Bool) (b : Bench) → presenceOf (slots slotRule bits (restarted b) .devices) ≡ presenceOf b
+pub slots-presence : (bits : List Bool) (b : Bench)
+    → presenceOf (slots slotRule bits (restarted b) .devices) ≡ presenceOf b
 slots-presence bits b =
-    slots-hold slotRule (λ c. presenceOf c ≡ presenceOf b) (λ m c e. ap (ltb 0) (heard-count c (lineBit c m)) ∙ e) bits (restarted b)
+    slots-hold slotRule (λ c. presenceOf c ≡ presenceOf b) (λ m c e. ap (ltb 0) (heard-count c (lineBit c m))
+    ∙ e) bits (restarted b)
     (ap (ltb 0) (restarted-count b))
 
 -- ## None is refused
@@ -28,7 +30,9 @@ slots-granted [] b t = tt
 slots-granted (x ∷ bits) b t = (ap (λ r. r .refusal) (slot-accepted b x (t .0)), slots-granted bits _ (t .1))
 
 -- a run of slots after a reset, and what follows it
-pub granted-run : (bits : List Bool) (passes : List (List Bool)) (b : Bench) → Free b → Runs slotRule Free bits (restarted b)
-    → (Free (slots slotRule bits (restarted b) .devices) → Granted passes (slots slotRule bits (restarted b) .devices)) → Granted (bits ∷ passes) b
+pub granted-run : (bits : List Bool) (passes : List (List Bool)) (b : Bench) → Free b
+    → Runs slotRule Free bits (restarted b)
+    → (Free (slots slotRule bits (restarted b) .devices) → Granted passes (slots slotRule bits (restarted b) .devices))
+    → Granted (bits ∷ passes) b
 granted-run bits passes b f r more =
     (ap (λ r. r .refusal) (reset-accepted b f), slots-granted bits (restarted b) (r .throughout), more (r .after-it))

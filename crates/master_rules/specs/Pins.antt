@@ -1,8 +1,10 @@
--- The address pins of the probes that have them (document 02, E5): a search, then a read at each code whose family has pins, in the order of the search. A pin number is what the wire gave.
+-- The address pins of the probes that have them (document 02, E5): a search, then a read at each code whose family has
+-- pins, in the order of the search. A pin number is what the wire gave.
 --     isPinned code            whether the code's family has address pins
 --     pinsShown pad            the pins in a scratchpad: the low four bits of its configuration
 --     PinsFound                the codes that were read, their pins, and the bench
---     pinsStep f code          a code of the search: a read where its family has pins; a reply that is refused adds nothing
+--     pinsStep f code          a code of the search: a read where its family has pins; a reply that is refused adds
+--                              nothing
 --     havePin pins p           how many have a pin number
 --     sharedPin pins           the lowest pin number that two have, or none
 --     PinsOutcome              what the call comes to
@@ -50,7 +52,11 @@ nobodyRead b = record { codes = []; pins = []; bench = b }
 -- one reply
 abbrev pub pinRead : PinsFound → ℕ → Access → PinsFound
 pinRead f code a =
-    if eqb (a .refusal) accepted then record { codes = f .codes ++ (code ∷ []); pins = f .pins ++ (pinsShown (a .pad) ∷ []); bench = a .bench }
+    if eqb (a .refusal) accepted then record {
+      codes = f .codes ++ (code ∷ []);
+      pins = f .pins ++ (pinsShown (a .pad) ∷ []);
+      bench = a .bench;
+    }
     else record { codes = f .codes; pins = f .pins; bench = a .bench }
 
 abbrev pub pinsStep : PinsFound → ℕ → PinsFound
@@ -84,7 +90,8 @@ abbrev pub notPinned : ℕ → Bench → PinsOutcome
 notPinned n b = record { refusal = n; found = nobodyRead b }
 
 abbrev pub pinsSearched : Outcome → PinsOutcome
-pinsSearched o = if eqb (o .refusal) accepted then record { refusal = accepted; found = pinsReadAt o } else notPinned (o .refusal) (o .bench)
+pinsSearched o = if eqb (o .refusal) accepted then record { refusal = accepted; found = pinsReadAt o }
+    else notPinned (o .refusal) (o .bench)
 
 unfoldable pub pinsOutcome : Bench → ℕ → PinsOutcome
 pinsOutcome b places =

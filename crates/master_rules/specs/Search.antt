@@ -1,10 +1,15 @@
--- Search and alarm search (the scope, "The master"): what they list, the frames of their resets and slots, and the bench where the last slot leaves it.
---     frameShown presence lines            the frame of a reset and the slots after it; frameOf lines, the same with presence
---     Outcome                              what a search comes to: the refusal, the codes listed, the frames, and the bench
---     searchOutcome command b p r          the search by this command on bench b, with a list of p places and a recording of r bytes
+-- Search and alarm search (the scope, "The master"): what they list, the frames of their resets and slots, and the
+-- bench where the last slot leaves it.
+--     frameShown presence lines            the frame of a reset and the slots after it; frameOf lines, the same with
+--                                          presence
+--     Outcome                              what a search comes to: the refusal, the codes listed, the frames, and the
+--                                          bench
+--     searchOutcome command b p r          the search by this command on bench b, with a list of p places and a
+--                                          recording of r bytes
 --     passesIn, slotsIn                    the passes are the frames with presence, the slots those of all frames
 --     answerOf, listAfter, recordingAfter  what the caller gets: the numbers, the list and the recording
--- The passes are those of the search by slots: at a conflict the first takes 0, each later one departs at the last conflict not yet taken at 1.
+-- The passes are those of the search by slots: at a conflict the first takes 0, each later one departs at the last
+-- conflict not yet taken at 1.
 use Prim.Native.Nat.{ℕ, _+_}
 use mathlib.Core.Bool.{Bool, true, false, not, _||_}
 use mathlib.Core.List.{List, [], _∷_, map}
@@ -61,7 +66,12 @@ lonelyOutcome b = record { refusal = accepted; listed = []; frames = blankFrame 
 
 -- passes, one frame each
 abbrev pub foundOutcome : Search Bench → Outcome
-foundOutcome r = record { refusal = accepted; listed = map numberOf (r .codes); frames = map frameOf (r .lines); bench = r .devices }
+foundOutcome r = record {
+  refusal = accepted;
+  listed = map numberOf (r .codes);
+  frames = map frameOf (r .lines);
+  bench = r .devices;
+}
 
 -- the search by slots on the bench's own calls
 abbrev pub searchRun : ℕ → Bench → Search Bench

@@ -1,5 +1,5 @@
--- The ways a search can end, in the order of their tests: a list or a recording that is too short is refused whatever the wire does, a held wire is refused whoever
--- is on the bench, and with nobody there is no pass.
+-- The ways a search can end, in the order of their tests: a list or a recording that is too short is refused whatever
+-- the wire does, a held wire is refused whoever is on the bench, and with nobody there is no pass.
 use Prim.Native.Nat.{ℕ, _<_, _≤_}
 use mathlib.Core.Bool.{Bool, true, false, or-true}
 use mathlib.Core.List.{List}
@@ -12,7 +12,8 @@ use Rattle.frame.specs.Recording.{writeAll}
 use Rattle.bench.specs.Bench.{free}
 use Rattle.bench.specs.Slot.{resetDone}
 use Rattle.bench.specs.declared.Bench.{Bench}
-use Rattle.master_rules.specs.Search.{fewestPlaces, fewestBytes, Outcome, refusedOutcome, lonelyOutcome, foundOutcome, searchRun, searchOutcome, listAfter, recordingAfter}
+use Rattle.master_rules.specs.Search.{fewestPlaces, fewestBytes, Outcome, refusedOutcome, lonelyOutcome}
+use Rattle.master_rules.specs.Search.{foundOutcome, searchRun, searchOutcome, listAfter, recordingAfter}
 
 module _ (command : ℕ) (b : Bench) (places room : ℕ) where
   pub few-places : places < fewestPlaces → searchOutcome command b places room ≡ refusedOutcome noRoom b
@@ -28,11 +29,13 @@ module _ (command : ℕ) (b : Bench) (places room : ℕ) where
     unfolding searchOutcome
     wire-held h = rw (le-ltb places fewestPlaces wide, le-ltb room fewestBytes long, h)
 
-    pub nobody-there : free b ≡ true → resetDone b .presence ≡ false → searchOutcome command b places room ≡ lonelyOutcome (resetDone b .bench)
+    pub nobody-there : free b ≡ true → resetDone b .presence ≡ false
+        → searchOutcome command b places room ≡ lonelyOutcome (resetDone b .bench)
     unfolding searchOutcome
     nobody-there h p = rw (le-ltb places fewestPlaces wide, le-ltb room fewestBytes long, h, p)
 
-    pub passes-made : free b ≡ true → resetDone b .presence ≡ true → searchOutcome command b places room ≡ foundOutcome (searchRun command b)
+    pub passes-made : free b ≡ true → resetDone b .presence ≡ true
+        → searchOutcome command b places room ≡ foundOutcome (searchRun command b)
     unfolding searchOutcome
     passes-made h p = rw (le-ltb places fewestPlaces wide, le-ltb room fewestBytes long, h, p)
 
@@ -48,6 +51,7 @@ module _ (command : ℕ) (b : Bench) (places room : ℕ) where
 pub refused-list : (n : ℕ) (b : Bench) (list : List ℕ) → listAfter list (refusedOutcome n b) ≡ list
 refused-list n b list = sym (laid-none list 0)
 
-pub refused-recording : (n : ℕ) (b : Bench) (recording : List ℕ) → recordingAfter recording (refusedOutcome n b) ≡ recording
+pub refused-recording : (n : ℕ) (b : Bench) (recording : List ℕ)
+    → recordingAfter recording (refusedOutcome n b) ≡ recording
 unfolding writeAll
 refused-recording n b recording = sym (laid-none recording 0)

@@ -1,5 +1,6 @@
--- The thermometers as a search sees them (the scope, "One slot", F0h and ECh): one by one they meet the laws that a search asks of a device, for F0h
--- all of them, for ECh those whose flag is set; and in the course of a search nothing of a device changes but its stage.
+-- The thermometers as a search sees them (the scope, "One slot", F0h and ECh): one by one they meet the laws that a
+-- search asks of a device, for F0h all of them, for ECh those whose flag is set; and in the course of a search nothing
+-- of a device changes but its stage.
 --     thermometers           what a device offers, what it becomes in a slot and at a reset
 --     searchBits, alarmBits  the command as the line shows it
 --     everybody, flagged     the laws for either command
@@ -62,17 +63,21 @@ goes-on : (j : ℕ) → j < 64 → afterBit (λ i. Search i SendBit) j ≡ comes
 goes-on j h = by-test (ltb j 63) refl
   where
     by-test : (t : Bool) → ltb j 63 ≡ t → afterBit (λ i. Search i SendBit) j ≡ comesTo (suc j)
-    by-test true e = let l = ltb-true j 63 e in let k : suc j < 64 = omega arith in rw (e, lt-ltb (suc j) 64 k, add-one j)
+    by-test true e = let l = ltb-true j 63 e in let k : suc j < 64 = omega arith in
+        rw (e, lt-ltb (suc j) 64 k, add-one j)
     by-test false e = let l = ltb-false j 63 e in let k : j ≡ 63 = omega arith in rw k
 
 own-offers : (j : ℕ) → j < 64 → (d : Device) → d .stage ≡ comesTo j → offerOf d ≡ getD (codeOf d) j false
-own-offers j l d h = let e : d .stage ≡ Search j SendBit = h ∙ comes-to j l in rw (e, lt-ltb j 64 l, bits-at 64 (d .code) j l)
+own-offers j l d h = let e : d .stage ≡ Search j SendBit = h ∙ comes-to j l in
+    rw (e, lt-ltb j 64 l, bits-at 64 (d .code) j l)
 
-own-hears : (j : ℕ) → j < 64 → (x : Bool) (d : Device) → d .stage ≡ comesTo j → hearOf d x .stage ≡ Search j SendComplement
+own-hears : (j : ℕ) → j < 64 → (x : Bool) (d : Device) → d .stage ≡ comesTo j
+    → hearOf d x .stage ≡ Search j SendComplement
 unfolding hearOf
 own-hears j l x d h = let e : d .stage ≡ Search j SendBit = h ∙ comes-to j l in rw e
 
-co-offers : (j : ℕ) → j < 64 → (d : Device) → d .stage ≡ Search j SendComplement → offerOf d ≡ not (getD (codeOf d) j false)
+co-offers : (j : ℕ) → j < 64 → (d : Device) → d .stage ≡ Search j SendComplement
+    → offerOf d ≡ not (getD (codeOf d) j false)
 co-offers j l d h = rw (h, lt-ltb j 64 l, bits-at 64 (d .code) j l)
 
 co-hears : (j : ℕ) (x : Bool) (d : Device) → d .stage ≡ Search j SendComplement → hearOf d x .stage ≡ Search j TakeBit
@@ -84,17 +89,20 @@ way-hears : (j : ℕ) → j < 64 → (x : Bool) (d : Device) → d .stage ≡ Se
 unfolding hearOf
 way-hears j l x d h = rw (h, goes-on j l, bits-at 64 (d .code) j l) (by-test (Bool·beq (bitAt (d .code) j) x))
   where
-    by-test : (t : Bool) → cond t ((if t then comesTo (suc j) else Quiet) ≡ comesTo (suc j)) ((if t then comesTo (suc j) else Quiet) ≡ Quiet)
+    by-test : (t : Bool) → cond t ((if t then comesTo (suc j) else Quiet)
+        ≡ comesTo (suc j)) ((if t then comesTo (suc j) else Quiet) ≡ Quiet)
     by-test true = refl
     by-test false = refl
 
 -- ## The laws of a search
 
 -- either command, by who takes part: whether a device does goes by what no slot changes
-module _ (command : List Bool) (joins : Device → Bool) (hear-joins : (x : Bool) (d : Device) → joins (hearOf d x) ≡ joins d)
+module _ (command : List Bool) (joins : Device → Bool) (hear-joins : (x : Bool) (d : Device)
+    → joins (hearOf d x) ≡ joins d)
     (restart-joins : (d : Device) → joins (resetOf d) ≡ joins d)
   where
-    abbrev searchersBy : ((d : Device) → Takes thermometers (λ e. cond (joins e) (e .stage ≡ comesTo 0) (e .stage ≡ Quiet)) command (resetOf d))
+    abbrev searchersBy : ((d : Device) → Takes thermometers
+        (λ e. cond (joins e) (e .stage ≡ comesTo 0) (e .stage ≡ Quiet)) command (resetOf d))
         → Searchers thermometers command 64
     searchersBy taken = record {
       code = codeOf;
@@ -120,14 +128,17 @@ module _ (command : List Bool) (joins : Device → Bool) (hear-joins : (x : Bool
 
 pub everybody : Searchers thermometers searchBits 64
 unfolding bitsOf hearOf
-everybody = searchersBy searchBits (λ d. true) (λ x d. refl) (λ d. refl) (λ d. (refl, (refl, (refl, (refl, (refl, (refl, (refl, (refl, refl)))))))))
+everybody = searchersBy searchBits (λ d. true) (λ x d. refl) (λ d. refl)
+    (λ d. (refl, (refl, (refl, (refl, (refl, (refl, (refl, (refl, refl)))))))))
 
 pub flagged : Searchers thermometers alarmBits 64
 unfolding bitsOf hearOf
 flagged =
-    searchersBy alarmBits (λ d. d .alarm) (λ x d. hear-alarm d x) (λ d. refl) (λ d. (refl, (refl, (refl, (refl, (refl, (refl, (refl, (refl, starts (d .alarm))))))))))
+    searchersBy alarmBits (λ d. d .alarm) (λ x d. hear-alarm d x) (λ d. refl)
+    (λ d. (refl, (refl, (refl, (refl, (refl, (refl, (refl, (refl, starts (d .alarm))))))))))
   where
-    starts : (t : Bool) → cond t ((if t then Search 0 SendBit else Quiet) ≡ Search 0 SendBit) ((if t then Search 0 SendBit else Quiet) ≡ Quiet)
+    starts : (t : Bool) → cond t ((if t then Search 0 SendBit else Quiet)
+        ≡ Search 0 SendBit) ((if t then Search 0 SendBit else Quiet) ≡ Quiet)
     starts true = refl
     starts false = refl
 
@@ -168,7 +179,19 @@ Moving d = onlyMoves (d .stage) ≡ true
 pub everybody-course : Course everybody Moving
 unfolding bitsOf hearOf everybody
 everybody-course = record {
-  at-command = λ d. (refl, (refl, (refl, (refl, (refl, (refl, (refl, (refl, (refl, (refl, (refl, (refl, (refl, (refl, (refl, (refl, tt))))))))))))))));
+  at-command = λ d. (
+    refl,
+    (
+      refl,
+      (
+        refl,
+        (
+          refl,
+          (refl, (refl, (refl, (refl, (refl, (refl, (refl, (refl, (refl, (refl, (refl, (refl, tt)))))))))))),
+        ),
+      ),
+    ),
+  );
   at-own = moves-own;
   at-co = λ j l d h. rw h;
   at-way = λ j l d h. rw h;
@@ -178,7 +201,19 @@ everybody-course = record {
 pub flagged-course : Course flagged Moving
 unfolding bitsOf hearOf flagged
 flagged-course = record {
-  at-command = λ d. (refl, (refl, (refl, (refl, (refl, (refl, (refl, (refl, (refl, (refl, (refl, (refl, (refl, (refl, (refl, (refl, tt))))))))))))))));
+  at-command = λ d. (
+    refl,
+    (
+      refl,
+      (
+        refl,
+        (
+          refl,
+          (refl, (refl, (refl, (refl, (refl, (refl, (refl, (refl, (refl, (refl, (refl, (refl, tt)))))))))))),
+        ),
+      ),
+    ),
+  );
   at-own = moves-own;
   at-co = λ j l d h. rw h;
   at-way = λ j l d h. rw h;
@@ -197,8 +232,10 @@ codes-bits (d ∷ ds) = let i = codes-bits ds in rw i
 
 pub everybody-codes : (ds : List Device) → participants everybody ds ≡ map (bitsOf 64) (numbersOf ds)
 unfolding everybody
-everybody-codes ds = participants-those everybody ds ∙ rw (those-all (λ (d : Device). true) (λ d. refl) ds) (codes-bits ds)
+everybody-codes ds = participants-those everybody ds
+    ∙ rw (those-all (λ (d : Device). true) (λ d. refl) ds) (codes-bits ds)
 
-pub flagged-codes : (ds : List Device) → participants flagged ds ≡ map (bitsOf 64) (numbersOf (those (λ d. d .alarm) ds))
+pub flagged-codes : (ds : List Device) → participants flagged ds
+    ≡ map (bitsOf 64) (numbersOf (those (λ d. d .alarm) ds))
 unfolding flagged
 flagged-codes ds = participants-those flagged ds ∙ codes-bits (those (λ d. d .alarm) ds)

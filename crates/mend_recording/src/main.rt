@@ -71,8 +71,10 @@ fn tell_lines(report: &[u8], before: u64) -> u64 {
 
 // Mends the lines that have their feed.
 fn mend_piece(bytes: &mut [u8], left: &mut [u8], report: &mut [u8], lines: u64) -> Piece
-    ensures answer { λ r. ⌜ (r .held ≡ pieceAnswer (now (bytes .entry)) (now (left .entry)) (now (report .entry)) .held) × (r .held ≤ length (now (bytes .entry))) ⌝ }
-    ensures kept { λ r. ⌜ now (bytes .exit) ≡ pieceKept (now (bytes .entry)) (now (left .entry)) (now (report .entry)) ⌝ }
+    ensures answer { λ r. ⌜ (r .held ≡ pieceAnswer (now (bytes .entry)) (now (left .entry)) (now (report .entry)) .held)
+        × (r .held ≤ length (now (bytes .entry))) ⌝ }
+    ensures kept { λ r. ⌜ now (bytes .exit) ≡ pieceKept (now (bytes .entry)) (now (left .entry))
+        (now (report .entry)) ⌝ }
 {
     let fed = texts::feed(bytes, left, report);
     let end = fed.written;
@@ -93,9 +95,11 @@ fn next_piece(
     report: &mut [u8],
     lines: u64,
 ) -> Piece
-    requires { ⌜ (held ≤ length (now buffer)) × (length (now buffer) ≤ length (now left)) × (length (now buffer) ≤ length (now report)) ⌝ }
+    requires { ⌜ (held ≤ length (now buffer)) × (length (now buffer) ≤ length (now left))
+        × (length (now buffer) ≤ length (now report)) ⌝ }
     ensures answer { λ r. ⌜ r .held ≤ length (now (buffer .entry)) ⌝ }
-    ensures kept { λ r. ⌜ Stepped mostHeldOfMending (take held (now (buffer .entry))) (take (r .held) (now (buffer .exit))) ⌝ }
+    ensures kept { λ r. ⌜ Stepped mostHeldOfMending (take held (now (buffer .entry)))
+        (take (r .held) (now (buffer .exit))) ⌝ }
 {
     let filled = read_behind(buffer, held);
     if filled == held {

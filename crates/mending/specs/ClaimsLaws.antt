@@ -18,7 +18,8 @@ use Rattle.text.specs.LinesLaws.{lines-bytes, lines-cut, line-bytes-append, dig
 use Rattle.pieces.specs.Pieces.{sayAll, together, Enough}
 use Rattle.pieces.specs.Cuts.{any-cuts}
 use Rattle.pieces.specs.Walk.{Short}
-use Rattle.mending.specs.Mending.{mendedChars, alteredBy, lineRefusal, mendedLine, longestMended, Fate, kept, mended, dropped, fateOf, reportByte, left, linesLeft, mendedBytes, mendedText}
+use Rattle.mending.specs.Mending.{mendedChars, alteredBy, lineRefusal, mendedLine, longestMended, Fate, kept}
+use Rattle.mending.specs.Mending.{mended, dropped, fateOf, reportByte, left, linesLeft, mendedBytes, mendedText}
 use Rattle.mending.specs.Repair.{mended-fewer}
 use Rattle.mending.specs.LineLaws.{reading, fate-kept, fate-long}
 use Rattle.mending.specs.Claims.{leftOf, MendingClaim, mostHeldOfMending, reportSaid, CutsClaim}
@@ -30,11 +31,13 @@ Readable l = lineRefusal l ≡ accepted
 
 line-reads : (l : Line) → Each Readable (linesLeft l)
 unfolding fateOf
-line-reads l = by-tests (ltb longestMended (length (l .chars))) (not (l .fed)) (eqb (lineRefusal l) accepted) (eqb (lineRefusal (mendedLine l)) accepted) refl refl
+line-reads l = by-tests (ltb longestMended (length (l .chars))) (not (l .fed)) (eqb (lineRefusal l) accepted)
+    (eqb (lineRefusal (mendedLine l)) accepted) refl refl
   where
     by-tests : (t u v w : Bool) → eqb (lineRefusal l) accepted ≡ v → eqb (lineRefusal (mendedLine l)) accepted ≡ w
         → Each Readable
-        (left l (if t then dropped malformed else if u then dropped notHex else if v then kept else if w then mended (alteredBy (l .chars)) else dropped (lineRefusal (mendedLine l))))
+        (left l (if t then dropped malformed else if u then dropped notHex else if v then kept else if w
+        then mended (alteredBy (l .chars)) else dropped (lineRefusal (mendedLine l))))
     by-tests true u v w p q = tt
     by-tests false true v w p q = tt
     by-tests false false true w p q = (eqb-true (lineRefusal l) accepted p, tt)
@@ -59,22 +62,26 @@ cut-back [] e = refl
 cut-back (m ∷ ms) e =
     let r = reading m (e .0) in
     let whole : lineBytes m ++ linesBytes ms ≡ (m .chars ++ (lineFeed ∷ [])) ++ linesBytes ms = rw (r .ended) in
-    let fed : record { chars = m .chars; fed = true } ≡ m = ap (λ (t : Bool). record { chars = m .chars; fed = t }) (sym (r .ended)) in
-    ap linesOf whole ∙ lines-cut (m .chars) (linesBytes ms) (digits-no-feed 16 (m .chars) (lit≤ tt) (r .digital)) ∙ ap (λ (ls : List Line). record { chars = m .chars; fed = true } ∷ ls) (cut-back ms (e .1))
+    let fed : record { chars = m .chars; fed = true } ≡ m =
+    ap (λ (t : Bool). record { chars = m .chars; fed = t }) (sym (r .ended)) in
+    ap linesOf whole ∙ lines-cut (m .chars) (linesBytes ms) (digits-no-feed 16 (m .chars) (lit≤ tt) (r .digital))
+    ∙ ap (λ (ls : List Line). record { chars = m .chars; fed = true } ∷ ls) (cut-back ms (e .1))
     ∙ ap (λ (x : Line). x ∷ ms) fed
 
 -- and are kept
 kept-all : (ms : List Line) → Each Readable ms → (leftOf ms ≡ ms) × (map reportByte ms ≡ replicate (length ms) 0)
 unfolding leftOf
 kept-all [] e = (refl, refl)
-kept-all (m ∷ ms) e = let i = kept-all ms (e .1) in rw (fate-kept m (e .0)) (ap (λ (ls : List Line). m ∷ ls) (i .0), ap (λ (bs : List ℕ). 0 ∷ bs) (i .1))
+kept-all (m ∷ ms) e = let i = kept-all ms (e .1) in
+    rw (fate-kept m (e .0)) (ap (λ (ls : List Line). m ∷ ls) (i .0), ap (λ (bs : List ℕ). 0 ∷ bs) (i .1))
 
 -- ## What is written is no longer than what was read
 
 bytes-width : (l : Line) → length (lineBytes l) ≡ width l
 bytes-width l = by-test (l .fed)
   where
-    by-test : (t : Bool) → length (if t then l .chars ++ (lineFeed ∷ []) else l .chars) ≡ (if t then length (l .chars) + 1 else length (l .chars))
+    by-test : (t : Bool) → length (if t then l .chars ++ (lineFeed ∷ []) else l .chars)
+        ≡ (if t then length (l .chars) + 1 else length (l .chars))
     by-test true = length-append (l .chars) (lineFeed ∷ [])
     by-test false = refl
 
@@ -82,7 +89,8 @@ mended-width : (l : Line) → width (mendedLine l) ≤ width l
 mended-width l = by-test (l .fed) (mended-fewer (l .chars))
   where
     by-test : (t : Bool) → length (mendedChars (l .chars)) ≤ length (l .chars)
-        → (if t then length (mendedChars (l .chars)) + 1 else length (mendedChars (l .chars))) ≤ (if t then length (l .chars) + 1 else length (l .chars))
+        → (if t then length (mendedChars (l .chars)) + 1 else length (mendedChars (l .chars))) ≤ (if t
+        then length (l .chars) + 1 else length (l .chars))
     by-test true h = omega arith
     by-test false h = h
 
@@ -108,7 +116,10 @@ text-fits (l ∷ ls) =
     let one = line-fits l in
     let size = bytes-width l in
     let others = text-fits ls in
-    rw (length-append (mendedBytes l) (sayAll mendedBytes ls), length-append (lineBytes l) (linesBytes ls)) (omega arith)
+    rw (
+      length-append (mendedBytes l) (sayAll mendedBytes ls),
+      length-append (lineBytes l) (linesBytes ls),
+    ) (omega arith)
 
 -- ## The claim of every text
 

@@ -19,7 +19,8 @@ use Rattle.text.specs.Laying.{layAnswer, layLeaves}
 use Rattle.text.specs.LayingLaws.{lay-behind}
 use Rattle.pieces.specs.Pieces.{sayAll, said, whole, rest, saidWhole, carried, Sayable, of-lines, of-all}
 use Rattle.pieces.specs.Cuts.{parts, rest-plain, alone-open}
-use Rattle.pieces.specs.Walk.{Told, Running, running-start, here-room, here-within, running-more, running-done, running-open}
+use Rattle.pieces.specs.Walk.{Told, Running, running-start, here-room, here-within, running-more, running-done}
+use Rattle.pieces.specs.Walk.{running-open}
 use Rattle.mending.specs.Mending.{mendedBytes, mendedText, reportByte}
 use Rattle.mending.specs.Claims.{mostHeldOfMending, reportSaid}
 use Rattle.mending.specs.ClaimsLaws.{mended-short, report-short, reports-said}
@@ -27,7 +28,8 @@ use Rattle.mending.specs.LineLaws.{open-dropped}
 use Rattle.mending.specs.declared.texts.LinesMended.{LinesMended}
 use Rattle.mending.specs.declared.texts.PieceMended.{PieceMended}
 use Rattle.mending.specs.declared.texts.TextMended.{TextMended}
-use Rattle.mending.specs.MendingText.{textRoom, textAnswer, textWritten, textReported, TextWithin, pieceAnswer, pieceKept, pieceWritten, pieceReported, PieceWithin}
+use Rattle.mending.specs.MendingText.{textRoom, textAnswer, textWritten, textReported, TextWithin, pieceAnswer}
+use Rattle.mending.specs.MendingText.{pieceKept, pieceWritten, pieceReported, PieceWithin}
 
 pub record Through (s : List ℕ) (p : LinesMended) : Type 0 where
   pub text : Told mendedBytes 1 s record { written = p .written; next = p .next }
@@ -39,7 +41,10 @@ pub record MendingWalk (s out₀ report₀ : List ℕ) (at written lines : ℕ) 
   pub noted : Running reportSaid 1 s report₀ at lines report
 
 pub walking-start : (s out report : List ℕ) → MendingWalk s out report 0 0 0 out report
-walking-start s out report = record { text = running-start mendedBytes 1 s out; noted = running-start reportSaid 1 s report }
+walking-start s out report = record {
+  text = running-start mendedBytes 1 s out;
+  noted = running-start reportSaid 1 s report;
+}
 
 -- the lines that have their feed are some of the lines
 pub whole-fewer : (ls : List Line) → length (whole ls) ≤ length ls
@@ -57,26 +62,35 @@ unfolding sayAll
 notes-length [] = refl
 notes-length (l ∷ ls) = let i = notes-length ls in omega arith
 
-module _ (s out₀ report₀ : List ℕ) (room : length s ≤ length out₀) (places : length (linesOf s) ≤ length report₀) (at written lines : ℕ) (out report : List ℕ)
+module _ (s out₀ report₀ : List ℕ) (room : length s ≤ length out₀) (places : length (linesOf s) ≤ length report₀)
+    (at written lines : ℕ) (out report : List ℕ)
     (w : MendingWalk s out₀ report₀ at written lines out report) where
   -- the line that ends at e, with its feed
   pub walking-more : (e : ℕ) → at < length s → at + feedAt (drop at s) ≡ e → e < length s →
       let l : Line = record { chars = take (e - at) (drop at s); fed = true } in
-      (x : Written) (next : List ℕ) → x ≡ layAnswer out written (mendedBytes l) → next ≡ layLeaves out written (mendedBytes l)
-      → (y : Written) (noted : List ℕ) → y ≡ layAnswer report lines (reportByte l ∷ []) → noted ≡ layLeaves report lines (reportByte l ∷ [])
+      (x : Written) (next : List ℕ) → x ≡ layAnswer out written (mendedBytes l)
+      → next ≡ layLeaves out written (mendedBytes l)
+      → (y : Written) (noted : List ℕ) → y ≡ layAnswer report lines (reportByte l ∷ [])
+      → noted ≡ layLeaves report lines (reportByte l ∷ [])
       → MendingWalk s out₀ report₀ (e + 1) (x .next) (y .next) next noted
   walking-more e before ends fed x next p q y noted r t =
-      let all-noted : length (saidWhole reportSaid s) ≤ length report₀ = let a = notes-length (whole (linesOf s)) in let b = whole-fewer (linesOf s) in omega arith in
-      let in-text = here-room mendedBytes 1 mended-short s out₀ at written out (w .text) e before ends fed (omega arith) in
-      let in-report = here-within reportSaid 1 report-short s report₀ at lines report (w .noted) e before ends fed all-noted in
+      let all-noted : length (saidWhole reportSaid s) ≤ length report₀ = let a = notes-length (whole (linesOf s)) in
+      let b = whole-fewer (linesOf s) in omega arith in
+      let in-text = here-room mendedBytes 1 mended-short s out₀ at written out (w .text) e before ends fed
+      (omega arith) in
+      let in-report = here-within reportSaid 1 report-short s report₀ at lines report (w .noted) e before ends fed
+      all-noted in
       record {
-        text = running-more mendedBytes 1 mended-short s out₀ at written out (w .text) e before ends fed in-text x next p q;
-        noted = running-more reportSaid 1 report-short s report₀ at lines report (w .noted) e before ends fed in-report y noted r t;
+        text = running-more mendedBytes 1 mended-short s out₀ at written out (w .text) e before ends fed in-text x
+            next p q;
+        noted = running-more reportSaid 1 report-short s report₀ at lines report (w .noted) e before ends fed in-report
+            y noted r t;
       }
 
   -- no line with a feed is left
   abbrev Ended : Type 0
-  Ended = Through s record { written = written; lines = lines; next = at } × ((out ≡ laid out₀ 0 (saidWhole mendedBytes s)) × (report ≡ laid report₀ 0 (saidWhole reportSaid s)))
+  Ended = Through s record { written = written; lines = lines; next = at }
+      × ((out ≡ laid out₀ 0 (saidWhole mendedBytes s)) × (report ≡ laid report₀ 0 (saidWhole reportSaid s)))
 
   pub walking-done : length s ≤ at → Ended
   walking-done h =
@@ -102,28 +116,43 @@ laid-nothing d at = by-test (leb (at + 0) (length d))
 
 module _ (s out report : List ℕ) where
   pub text-short : length out < length s
-      → ((record { refusal = noRoom; written = 0; lines = 0 } ≡ textAnswer s out report) × TextWithin out report record { refusal = noRoom; written = 0; lines = 0 })
+      → ((record { refusal = noRoom; written = 0; lines = 0 } ≡ textAnswer s out report)
+      × TextWithin out report record { refusal = noRoom; written = 0; lines = 0 })
       × ((out ≡ textWritten s out report) × (report ≡ textReported s out report))
-  text-short h = rw (lt-leb (length s) (length out) h) ((refl, record { text = omega arith; noted = omega arith }), (refl, refl))
+  text-short h = rw (lt-leb (length s) (length out) h) (
+    (refl, record { text = omega arith; noted = omega arith }),
+    (refl, refl),
+  )
 
   pub report-few : length report < length (linesOf s)
-      → ((record { refusal = noRoom; written = 0; lines = 0 } ≡ textAnswer s out report) × TextWithin out report record { refusal = noRoom; written = 0; lines = 0 })
+      → ((record { refusal = noRoom; written = 0; lines = 0 } ≡ textAnswer s out report)
+      × TextWithin out report record { refusal = noRoom; written = 0; lines = 0 })
       × ((out ≡ textWritten s out report) × (report ≡ textReported s out report))
-  report-few h = rw (lt-leb (length (linesOf s)) (length report) h, and-false (leb (length s) (length out))) ((refl, record { text = omega arith; noted = omega arith }), (refl, refl))
+  report-few h = rw (
+    lt-leb (length (linesOf s)) (length report) h,
+    and-false (leb (length s) (length out)),
+  ) (
+    (refl, record { text = omega arith; noted = omega arith }),
+    (refl, refl),
+  )
 
   pub piece-short : length out < length s
-      → ((record { refusal = noRoom; written = 0; lines = 0; held = 0 } ≡ pieceAnswer s out report) × PieceWithin s out report record { refusal = noRoom; written = 0; lines = 0; held = 0 })
+      → ((record { refusal = noRoom; written = 0; lines = 0; held = 0 } ≡ pieceAnswer s out report)
+      × PieceWithin s out report record { refusal = noRoom; written = 0; lines = 0; held = 0 })
       × ((s ≡ pieceKept s out report) × ((out ≡ pieceWritten s out report) × (report ≡ pieceReported s out report)))
-  piece-short h = rw (lt-leb (length s) (length out) h) ((refl, record { text = omega arith; noted = omega arith; carries = omega arith }), (refl, (refl, refl)))
+  piece-short h = rw (lt-leb (length s) (length out) h)
+      ((refl, record { text = omega arith; noted = omega arith; carries = omega arith }), (refl, (refl, refl)))
 
   pub piece-few : length report < length (linesOf s)
-      → ((record { refusal = noRoom; written = 0; lines = 0; held = 0 } ≡ pieceAnswer s out report) × PieceWithin s out report record { refusal = noRoom; written = 0; lines = 0; held = 0 })
+      → ((record { refusal = noRoom; written = 0; lines = 0; held = 0 } ≡ pieceAnswer s out report)
+      × PieceWithin s out report record { refusal = noRoom; written = 0; lines = 0; held = 0 })
       × ((s ≡ pieceKept s out report) × ((out ≡ pieceWritten s out report) × (report ≡ pieceReported s out report)))
   piece-few h =
       rw (lt-leb (length (linesOf s)) (length report) h, and-false (leb (length s) (length out)))
       ((refl, record { text = omega arith; noted = omega arith; carries = omega arith }), (refl, (refl, refl)))
 
-  module _ (room : length s ≤ length out) (places : length (linesOf s) ≤ length report) (p : LinesMended) (through : Through s p) where
+  module _ (room : length s ≤ length out) (places : length (linesOf s) ≤ length report) (p : LinesMended)
+      (through : Through s p) where
     -- what was written, and what was noted, is within the buffers
     written-within : p .written ≤ length out
     written-within = let few = through .text .few in let w = through .text .within in omega arith
@@ -135,48 +164,73 @@ module _ (s out report : List ℕ) where
         let c = through .noted .text in
         (omega arith, omega arith)
 
-    pub piece-done : (held : ℕ) (kept : List ℕ) → held ≡ length (take mostHeldOfMending (drop (p .next) s)) → kept ≡ laid s 0 (take mostHeldOfMending (drop (p .next) s)) →
+    pub piece-done : (held : ℕ) (kept : List ℕ) → held ≡ length (take mostHeldOfMending (drop (p .next) s))
+        → kept ≡ laid s 0 (take mostHeldOfMending (drop (p .next) s)) →
         let r : PieceMended = record { refusal = accepted; written = p .written; lines = p .lines; held = held } in
         ((r ≡ pieceAnswer s out report) × PieceWithin s out report r)
-        × ((kept ≡ pieceKept s out report) × ((laid out 0 (saidWhole mendedBytes s) ≡ pieceWritten s out report) × (laid report 0 (saidWhole reportSaid s) ≡ pieceReported s out report)))
+        × ((kept ≡ pieceKept s out report) × ((laid out 0 (saidWhole mendedBytes s) ≡ pieceWritten s out report)
+        × (laid report 0 (saidWhole reportSaid s) ≡ pieceReported s out report)))
     piece-done held kept h k =
         let a = rw (through .text .left) at h in
         let b = rw (through .text .left) at k in
         let size = length-take mostHeldOfMending (drop (p .next) s) in
         let back = length-drop (p .next) s in
         let lines = noted-within in
-        let ok : PieceWithin s out report record { refusal = accepted; written = p .written; lines = p .lines; held = held } = record { text = written-within; noted = lines .1; carries = omega arith } in
-        rw (le-leb (length s) (length out) room, le-leb (length (linesOf s)) (length report) places) ((rw (through .text .text, lines .0, a) refl, ok), (b, (refl, refl)))
+        let ok : PieceWithin s out report record {
+          refusal = accepted;
+          written = p .written;
+          lines = p .lines;
+          held = held;
+        } = record { text = written-within; noted = lines .1; carries = omega arith } in
+        rw (
+          le-leb (length s) (length out) room,
+          le-leb (length (linesOf s)) (length report) places,
+        ) (
+          (rw (through .text .text, lines .0, a) refl, ok),
+          (b, (refl, refl)),
+        )
 
     -- what is said for the whole is that of the lines with a feed, and that of the rest
     no-rest : (say : Line → List ℕ) → rest (linesOf s) ≡ [] → said say s ≡ saidWhole say s
     unfolding sayAll linesOf
     no-rest say e = parts say s ∙ ap (λ (u : List ℕ). saidWhole say s ++ said say u) e ∙ append-nil (saidWhole say s)
 
-    last-rest : (say : Line → List ℕ) → p .next < length s → said say s ≡ saidWhole say s ++ say record { chars = drop (p .next) s; fed = false }
+    last-rest : (say : Line → List ℕ) → p .next < length s
+        → said say s ≡ saidWhole say s ++ say record { chars = drop (p .next) s; fed = false }
     last-rest say h =
         let u = drop (p .next) s in
         let some : 0 < length u = let l = length-drop (p .next) s in omega arith in
         let same = through .text .left in
-        parts say s ∙ ap (λ (v : List ℕ). saidWhole say s ++ said say v) (sym same) ∙ ap (λ (v : List ℕ). saidWhole say s ++ v) (alone-open say u some (rw same (rest-plain s)))
+        parts say s ∙ ap (λ (v : List ℕ). saidWhole say s ++ said say v) (sym same)
+        ∙ ap (λ (v : List ℕ). saidWhole say s ++ v) (alone-open say u some (rw same (rest-plain s)))
 
     -- the answer to a whole text, by what is laid
-    done : said mendedBytes s ≡ saidWhole mendedBytes s → (lines : ℕ) → lines ≡ length (linesOf s) → (out' report' : List ℕ)
+    done : said mendedBytes s ≡ saidWhole mendedBytes s → (lines : ℕ) → lines ≡ length (linesOf s)
+        → (out' report' : List ℕ)
         → out' ≡ laid out 0 (saidWhole mendedBytes s) → report' ≡ laid report 0 (said reportSaid s) →
         let r : TextMended = record { refusal = accepted; written = p .written; lines = lines } in
-        ((r ≡ textAnswer s out report) × TextWithin out report r) × ((out' ≡ textWritten s out report) × (report' ≡ textReported s out report))
+        ((r ≡ textAnswer s out report) × TextWithin out report r)
+        × ((out' ≡ textWritten s out report) × (report' ≡ textReported s out report))
     done same lines count out' report' text noted =
-        let ok : TextWithin out report record { refusal = accepted; written = p .written; lines = lines } = record { text = written-within; noted = omega arith } in
-        rw (le-leb (length s) (length out) room, le-leb (length (linesOf s)) (length report) places, ← reports-said (linesOf s), same) ((rw (through .text .text, count) refl, ok), (text, noted))
+        let ok : TextWithin out report record { refusal = accepted; written = p .written; lines = lines } =
+        record { text = written-within; noted = omega arith } in
+        rw (
+          le-leb (length s) (length out) room,
+          le-leb (length (linesOf s)) (length report) places,
+          ← reports-said (linesOf s),
+          same,
+        ) ((rw (through .text .text, count) refl, ok), (text, noted))
 
     -- every line had its feed
     pub text-done : length s ≤ p .next → (lines : ℕ) → lines ≡ length (linesOf s) → (out' report' : List ℕ)
         → out' ≡ laid out 0 (saidWhole mendedBytes s) → report' ≡ laid report 0 (saidWhole reportSaid s) →
         let r : TextMended = record { refusal = accepted; written = p .written; lines = lines } in
-        ((r ≡ textAnswer s out report) × TextWithin out report r) × ((out' ≡ textWritten s out report) × (report' ≡ textReported s out report))
+        ((r ≡ textAnswer s out report) × TextWithin out report r)
+        × ((out' ≡ textWritten s out report) × (report' ≡ textReported s out report))
     text-done h lines count out' report' text noted =
         let none : rest (linesOf s) ≡ [] = sym (through .text .left) ∙ drop-of-length-le s h in
-        done (no-rest mendedBytes none) lines count out' report' text (noted ∙ ap (laid report 0) (sym (no-rest reportSaid none)))
+        done (no-rest mendedBytes none) lines count out' report' text (noted
+        ∙ ap (laid report 0) (sym (no-rest reportSaid none)))
 
     -- the last one had none: it is dropped, and reported
     module _ (h : p .next < length s) where
@@ -189,18 +243,24 @@ module _ (s out report : List ℕ) where
 
       pub text-open : (lines : ℕ) → lines ≡ length (linesOf s) → (out₁ out' report₁ report' : List ℕ)
           → out₁ ≡ laid out 0 (saidWhole mendedBytes s) → report₁ ≡ laid report 0 (saidWhole reportSaid s)
-          → out' ≡ layLeaves out₁ (p .written) (mendedBytes last) → report' ≡ layLeaves report₁ (p .lines) (reportSaid last) →
+          → out' ≡ layLeaves out₁ (p .written) (mendedBytes last)
+          → report' ≡ layLeaves report₁ (p .lines) (reportSaid last) →
           let r : TextMended = record { refusal = accepted; written = p .written; lines = lines } in
-          ((r ≡ textAnswer s out report) × TextWithin out report r) × ((out' ≡ textWritten s out report) × (report' ≡ textReported s out report))
+          ((r ≡ textAnswer s out report) × TextWithin out report r)
+          × ((out' ≡ textWritten s out report) × (report' ≡ textReported s out report))
       text-open lines count out₁ out' report₁ report' text noted a b =
-          let same : said mendedBytes s ≡ saidWhole mendedBytes s = last-rest mendedBytes h ∙ ap (λ (x : List ℕ). saidWhole mendedBytes s ++ x) nothing-left ∙ append-nil (saidWhole mendedBytes s) in
-          let stays : out' ≡ laid out 0 (saidWhole mendedBytes s) = a ∙ ap (layLeaves out₁ (p .written)) nothing-left ∙ laid-nothing out₁ (p .written) ∙ text in
+          let same : said mendedBytes s ≡ saidWhole mendedBytes s =
+          last-rest mendedBytes h ∙ ap (λ (x : List ℕ). saidWhole mendedBytes s ++ x) nothing-left
+          ∙ append-nil (saidWhole mendedBytes s) in
+          let stays : out' ≡ laid out 0 (saidWhole mendedBytes s) =
+          a ∙ ap (layLeaves out₁ (p .written)) nothing-left ∙ laid-nothing out₁ (p .written) ∙ text in
           let all = last-rest reportSaid h in
           let size = ap length all ∙ length-append (saidWhole reportSaid s) (reportSaid last) in
           let total = notes-length (linesOf s) in
           let place = through .noted .text in
           let more : report' ≡ laid report 0 (said reportSaid s) =
-          b ∙ ap (λ (d : List ℕ). layLeaves d (p .lines) (reportSaid last)) noted ∙ lay-behind report 0 (saidWhole reportSaid s) (reportSaid last) (p .lines) (omega arith) (omega arith)
+          b ∙ ap (λ (d : List ℕ). layLeaves d (p .lines) (reportSaid last)) noted
+          ∙ lay-behind report 0 (saidWhole reportSaid s) (reportSaid last) (p .lines) (omega arith) (omega arith)
           ∙ ap (laid report 0) (sym all) in
           done same lines count out' report' stays more
 
@@ -211,7 +271,8 @@ module _ (s out report : List ℕ) where
   front x = laid-read out 0 x (omega arith)
 
   -- what a call left at the front of its output may be handed out, so much of it as the call answered
-  pub piece-said : (n : ℕ) (after : List ℕ) → n ≡ pieceAnswer s out report .written → after ≡ pieceWritten s out report → Sayable mendedBytes (take n after)
+  pub piece-said : (n : ℕ) (after : List ℕ) → n ≡ pieceAnswer s out report .written → after ≡ pieceWritten s out report
+      → Sayable mendedBytes (take n after)
   unfolding sayAll whole linesOf
   piece-said n after h k = by-test (textRoom s out report) refl
     where
@@ -222,7 +283,8 @@ module _ (s out report : List ℕ) where
           of-lines s (rw (count, laid-there) (front (saidWhole mendedBytes s)))
       by-test false e = let none : n ≡ 0 = h ∙ rw e refl in of-lines [] (rw none refl)
 
-  pub text-said : (n : ℕ) (after : List ℕ) → n ≡ textAnswer s out report .written → after ≡ textWritten s out report → Sayable mendedBytes (take n after)
+  pub text-said : (n : ℕ) (after : List ℕ) → n ≡ textAnswer s out report .written → after ≡ textWritten s out report
+      → Sayable mendedBytes (take n after)
   unfolding sayAll linesOf
   text-said n after h k = by-test (textRoom s out report) refl
     where
@@ -235,13 +297,19 @@ module _ (s out report : List ℕ) where
 
   -- what a call leaves at the front of its buffer is what is carried over, whatever stands behind the piece
   pub front-held : length s ≤ length out → length (linesOf s) ≤ length report → (held : ℕ) (kept behind : List ℕ)
-      → held ≡ pieceAnswer s out report .held → kept ≡ pieceKept s out report → take held (kept ++ behind) ≡ carried mostHeldOfMending s
+      → held ≡ pieceAnswer s out report .held → kept ≡ pieceKept s out report
+      → take held (kept ++ behind) ≡ carried mostHeldOfMending s
   unfolding laid
   front-held room places held kept behind h k =
       let x = carried mostHeldOfMending s in
-      let size : held ≡ length x = h ∙ rw (le-leb (length s) (length out) room, le-leb (length (linesOf s)) (length report) places) refl in
-      let laid-there : kept ≡ x ++ drop (0 + length x) s = k ∙ rw (le-leb (length s) (length out) room, le-leb (length (linesOf s)) (length report) places) refl in
-      rw (size, laid-there, append-assoc x (drop (0 + length x) s) behind) (take-append-seam x (drop (0 + length x) s ++ behind))
+      let size : held ≡ length x = h ∙ rw (
+        le-leb (length s) (length out) room,
+        le-leb (length (linesOf s)) (length report) places,
+      ) refl in
+      let laid-there : kept ≡ x ++ drop (0 + length x) s =
+      k ∙ rw (le-leb (length s) (length out) room, le-leb (length (linesOf s)) (length report) places) refl in
+      rw (size, laid-there, append-assoc x (drop (0 + length x) s) behind)
+      (take-append-seam x (drop (0 + length x) s ++ behind))
 
 -- a text has no more lines than bytes
 pub lines-few : (s : List ℕ) → length (linesOf s) ≤ length s
@@ -249,7 +317,8 @@ unfolding linesOf
 lines-few [] = omega arith
 lines-few (c ∷ s) = by-test (eqb c lineFeed) (linesOf s) (lines-few s)
   where
-    by-test : (t : Bool) (ls : List Line) → length ls ≤ length s → length (if t then record { chars = []; fed = true } ∷ ls else longer c ls) ≤ length (c ∷ s)
+    by-test : (t : Bool) (ls : List Line) → length ls ≤ length s
+        → length (if t then record { chars = []; fed = true } ∷ ls else longer c ls) ≤ length (c ∷ s)
     by-test true ls h = omega arith
     by-test false [] h = omega arith
     by-test false (l ∷ ls) h = omega arith

@@ -1,4 +1,5 @@
--- What becomes of a line, by its length, its feed, and how it reads once mended: a line that reads is not altered, so that it is enough to read it mended.
+-- What becomes of a line, by its length, its feed, and how it reads once mended: a line that reads is not altered, so
+-- that it is enough to read it mended.
 use Prim.Native.Nat.{ℕ, _+_, _<_, _≤_}
 use mathlib.Core.Path.{_≡_, refl, sym, ap, _∙_}
 use mathlib.Core.Bool.{Bool, true, false}
@@ -14,7 +15,9 @@ use Rattle.text.specs.Lines.{Line, lineFeed, linesBytes}
 use Rattle.text.specs.Laying.{layAnswer, layLeaves}
 use Rattle.frame.specs.ReadLine.{LineContent, carries, noFrame, readLine, longestLine, found, lineAnswerOf}
 use Rattle.frame.specs.ReadLineLaws.{read-accepted, refused-number}
-use Rattle.mending.specs.Mending.{mendedChars, alteredBy, contentRefusal, lineRefusal, mendedLine, longestMended, Fate, kept, mended, dropped, fateOf, fateByte, left, linesLeft, mendedBytes, lineMended}
+use Rattle.mending.specs.Mending.{mendedChars, alteredBy, contentRefusal, lineRefusal, mendedLine, longestMended}
+use Rattle.mending.specs.Mending.{Fate, kept, mended, dropped, fateOf, fateByte, left, linesLeft, mendedBytes}
+use Rattle.mending.specs.Mending.{lineMended}
 use Rattle.mending.specs.StepLaws.{digits-unaltered, unaltered-same}
 
 -- ## A line that reads
@@ -28,7 +31,8 @@ pub reading : (l : Line) → lineRefusal l ≡ accepted → Reads l
 reading l h = by-content (readLine l) refl h
   where
     by-content : (r : LineContent) → readLine l ≡ r → contentRefusal r ≡ accepted → Reads l
-    by-content (carries f) e k = let a = read-accepted l f e in record { few = a .short; digital = a .digital; ended = a .ended }
+    by-content (carries f) e k = let a = read-accepted l f e in
+        record { few = a .short; digital = a .digital; ended = a .ended }
     by-content (noFrame n) e k = let b = refused-number l n e .0 in absurd (omega arith)
 
 -- a line is refused with a small number
@@ -75,19 +79,25 @@ module _ (l : Line) where
       rw (eq-eqb (lineRefusal l) accepted h, le-ltb longestMended (length (l .chars)) short, r .ended)
 
   module _ (short : length (l .chars) ≤ longestMended) (fed : l .fed ≡ true) where
-    fate-other : (lineRefusal l ≡ accepted → ⊥) → fateOf l ≡ (if eqb (lineRefusal (mendedLine l)) accepted then mended (alteredBy (l .chars)) else dropped (lineRefusal (mendedLine l)))
+    fate-other : (lineRefusal l ≡ accepted → ⊥)
+        → fateOf l ≡ (if eqb (lineRefusal (mendedLine l)) accepted then mended (alteredBy (l .chars))
+        else dropped (lineRefusal (mendedLine l)))
     unfolding fateOf
     fate-other unread = rw (ne-eqb (lineRefusal l) accepted unread, le-ltb longestMended (length (l .chars)) short, fed)
 
     pub fate-dropped : (n : ℕ) → lineRefusal (mendedLine l) ≡ n → (n ≡ accepted → ⊥) → fateOf l ≡ dropped n
     fate-dropped n e other =
-        let not-kept : lineRefusal l ≡ accepted → ⊥ = λ h. other (sym e ∙ ap lineRefusal (reads-unaltered l h .0) ∙ h) in
+        let not-kept : lineRefusal l ≡ accepted → ⊥ =
+        λ h. other (sym e ∙ ap lineRefusal (reads-unaltered l h .0) ∙ h) in
         fate-other not-kept ∙ rw (e, ne-eqb n accepted other)
 
-    pub fate-mended : lineRefusal (mendedLine l) ≡ accepted → (alteredBy (l .chars) ≡ 0 → ⊥) → fateOf l ≡ mended (alteredBy (l .chars))
-    fate-mended e some = fate-other (λ h. some (reads-unaltered l h .1)) ∙ rw (eq-eqb (lineRefusal (mendedLine l)) accepted e)
+    pub fate-mended : lineRefusal (mendedLine l) ≡ accepted → (alteredBy (l .chars) ≡ 0 → ⊥)
+        → fateOf l ≡ mended (alteredBy (l .chars))
+    fate-mended e some = fate-other (λ h. some (reads-unaltered l h .1))
+        ∙ rw (eq-eqb (lineRefusal (mendedLine l)) accepted e)
 
-    pub fate-same : lineRefusal (mendedLine l) ≡ accepted → alteredBy (l .chars) ≡ 0 → (fateOf l ≡ kept) × (mendedLine l ≡ l)
+    pub fate-same : lineRefusal (mendedLine l) ≡ accepted → alteredBy (l .chars) ≡ 0
+        → (fateOf l ≡ kept) × (mendedLine l ≡ l)
     fate-same e none =
         let one = same-line l (unaltered-same (l .chars) none) in
         (fate-kept (ap lineRefusal (sym one) ∙ e), one)
@@ -101,30 +111,39 @@ answer-refusal (noFrame n) next = refl
 
 module _ (l : Line) (out : List ℕ) (at : ℕ) where
   by-fate : (o : Fate) → fateOf l ≡ o → (text : List ℕ) → text ≡ linesBytes (left l o)
-      → (record { report = fateByte o; written = layAnswer out at text } ≡ lineMended l out at) × (layLeaves out at text ≡ layLeaves out at (mendedBytes l))
+      → (record { report = fateByte o; written = layAnswer out at text } ≡ lineMended l out at)
+      × (layLeaves out at text ≡ layLeaves out at (mendedBytes l))
   by-fate o e text t = rw (e, t) (refl, refl)
 
   pub line-dropped : (n : ℕ) → fateOf l ≡ dropped n
-      → (record { report = 32 + n; written = layAnswer out at [] } ≡ lineMended l out at) × (layLeaves out at [] ≡ layLeaves out at (mendedBytes l))
+      → (record { report = 32 + n; written = layAnswer out at [] } ≡ lineMended l out at)
+      × (layLeaves out at [] ≡ layLeaves out at (mendedBytes l))
   unfolding linesBytes
   line-dropped n e = by-fate (dropped n) e [] refl
 
   -- a line that reads once mended
-  module _ (short : length (l .chars) ≤ longestMended) (fed : l .fed ≡ true) (reads : lineRefusal (mendedLine l) ≡ accepted) where
+  module _ (short : length (l .chars) ≤ longestMended) (fed : l .fed ≡ true) (reads : lineRefusal (mendedLine l)
+      ≡ accepted) where
     one-line : (cs : List ℕ) → cs ++ (lineFeed ∷ []) ≡ linesBytes (record { chars = cs; fed = l .fed } ∷ [])
     unfolding linesBytes
     one-line cs = rw (fed, append-nil (cs ++ (lineFeed ∷ [])))
 
     pub line-written : let text = mendedChars (l .chars) ++ (lineFeed ∷ []) in let by = alteredBy (l .chars) in
-        (record { report = if eqb by 0 then 0 else 16 + by; written = layAnswer out at text } ≡ lineMended l out at) × (layLeaves out at text ≡ layLeaves out at (mendedBytes l))
+        (record { report = if eqb by 0 then 0 else 16 + by; written = layAnswer out at text } ≡ lineMended l out at)
+        × (layLeaves out at text ≡ layLeaves out at (mendedBytes l))
     line-written = by-test (eqb (alteredBy (l .chars)) 0) refl
       where
-        by-test : (t : Bool) → eqb (alteredBy (l .chars)) 0 ≡ t → let text = mendedChars (l .chars) ++ (lineFeed ∷ []) in
-            (record { report = if t then 0 else 16 + alteredBy (l .chars); written = layAnswer out at text } ≡ lineMended l out at)
+        by-test : (t : Bool) → eqb (alteredBy (l .chars)) 0 ≡ t → let text =
+            mendedChars (l .chars) ++ (lineFeed ∷ []) in
+            (record { report = if t then 0 else 16 + alteredBy (l .chars); written = layAnswer out at text }
+            ≡ lineMended l out at)
             × (layLeaves out at text ≡ layLeaves out at (mendedBytes l))
         by-test true e =
             let o = fate-same l short fed reads (eqb-true (alteredBy (l .chars)) 0 e) in
-            by-fate kept (o .0) (mendedChars (l .chars) ++ (lineFeed ∷ [])) (one-line (mendedChars (l .chars)) ∙ ap (λ (m : Line). linesBytes (m ∷ [])) (o .1))
+            by-fate kept (o .0) (mendedChars (l .chars) ++ (lineFeed ∷ [])) (one-line (mendedChars (l .chars))
+            ∙ ap (λ (m : Line). linesBytes (m ∷ [])) (o .1))
         by-test false e =
-            by-fate (mended (alteredBy (l .chars))) (fate-mended l short fed reads (eqb-false (alteredBy (l .chars)) 0 e)) (mendedChars (l .chars) ++ (lineFeed ∷ []))
+            by-fate (mended (alteredBy (l .chars)))
+            (fate-mended l short fed reads (eqb-false (alteredBy (l .chars)) 0 e)) (mendedChars (l .chars)
+            ++ (lineFeed ∷ []))
             (one-line (mendedChars (l .chars)))

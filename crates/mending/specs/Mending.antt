@@ -1,5 +1,6 @@
--- Mending of a recording that went through an editor (document 02, E8): three things, in this order. A line that reads as it stands is kept, one that reads
--- once mended is written so, any other is dropped. Reading gives only the refusals 2 and 3.
+-- Mending of a recording that went through an editor (document 02, E8): three things, in this order. A line that reads
+-- as it stands is kept, one that reads once mended is written so, any other is dropped. Reading gives only the refusals
+-- 2 and 3.
 --     raised c                 a to f raised to A to F; any other character as it is
 --     unreturned cs            without one carriage return at the end
 --     unspaced cs              without the spaces at the end
@@ -51,7 +52,8 @@ stepMark step before after = if same before after then 0 else step
 
 abbrev pub alteredBy : List ℕ → ℕ
 alteredBy cs =
-    stepMark 1 cs (map raised cs) + stepMark 2 (map raised cs) (unreturned (map raised cs)) + stepMark 4 (unreturned (map raised cs)) (mendedChars cs)
+    stepMark 1 cs (map raised cs) + stepMark 2 (map raised cs) (unreturned (map raised cs))
+    + stepMark 4 (unreturned (map raised cs)) (mendedChars cs)
 
 -- ## What becomes of a line
 

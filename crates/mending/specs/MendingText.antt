@@ -1,8 +1,9 @@
--- What the calls on a whole text and on a piece of one answer and leave. Both are refused with 1, and change nothing, where the output is shorter than the
--- text or the report has fewer places than the text has lines.
+-- What the calls on a whole text and on a piece of one answer and leave. Both are refused with 1, and change nothing,
+-- where the output is shorter than the text or the report has fewer places than the text has lines.
 --     textRoom s out report                              whether there is room
 --     textAnswer, textWritten, textReported              of a whole text: the answer, the output, the report
---     pieceAnswer, pieceKept, pieceWritten, pieceReported        of a piece: the answer, its own buffer, the output, the report
+--     pieceAnswer, pieceKept, pieceWritten, pieceReported        of a piece: the answer, its own buffer, the output,
+--                                                                the report
 --     TextWithin, PieceWithin                            that what is answered is within the buffers
 use Prim.Native.Nat.{ℕ, _≤_}
 use mathlib.Core.Bool.{Bool, _&&_}
@@ -41,7 +42,12 @@ module _ (s out report : List ℕ) where
 
   abbrev pub pieceAnswer : PieceMended
   pieceAnswer =
-      if textRoom then record { refusal = accepted; written = length (saidWhole mendedBytes s); lines = length (whole (linesOf s)); held = length (carried mostHeldOfMending s) }
+      if textRoom then record {
+        refusal = accepted;
+        written = length (saidWhole mendedBytes s);
+        lines = length (whole (linesOf s));
+        held = length (carried mostHeldOfMending s);
+      }
       else record { refusal = noRoom; written = 0; lines = 0; held = 0 }
 
   abbrev pub pieceKept : List ℕ

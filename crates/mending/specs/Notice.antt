@@ -1,8 +1,11 @@
--- The line `N BYTE` that tells what became of a line that was not kept: its number, and the byte of its report, both in plain decimal.
+-- The line `N BYTE` that tells what became of a line that was not kept: its number, and the byte of its report, both in
+-- plain decimal.
 --     noticeLine n b                the two fields
 --     noticeOf n b                  the line; nothing for a line that was kept, whose byte is 0
---     noticesOf n bs                what is told of lines by their bytes, one after the other, behind n lines before them
---     noticesAnswer, noticesLeaves  what a call on a report answers and leaves; refused with 1 unless the buffer has 25 bytes for each line
+--     noticesOf n bs                what is told of lines by their bytes, one after the other, behind n lines before
+--                                   them
+--     noticesAnswer, noticesLeaves  what a call on a report answers and leaves; refused with 1 unless the buffer has 25
+--                                   bytes for each line
 --     Tellable n bs t               bytes that a program may hand out for them
 use Prim.Native.Nat.{ℕ, _+_, _/_, _%_, _^_}
 use mathlib.Core.Path.{_≡_}
@@ -44,13 +47,18 @@ module _ (before : ℕ) (report out : List ℕ) where
   -- how much is told, and how many lines there were in all
   abbrev pub noticesAnswer : Noticed
   noticesAnswer =
-      if noticesRoom then record { refusal = accepted; written = length (noticesOf before report); lines = (before + length report) % 2 ^ 64 }
+      if noticesRoom then record {
+        refusal = accepted;
+        written = length (noticesOf before report);
+        lines = (before + length report) % 2 ^ 64;
+      }
       else record { refusal = noRoom; written = 0; lines = 0 }
 
   abbrev pub noticesLeaves : List ℕ
   noticesLeaves = if noticesRoom then laid out 0 (noticesOf before report) else out
 
--- bytes that a program may hand out for a report behind so many lines: what is told of its lines, or nothing where there was no room
+-- bytes that a program may hand out for a report behind so many lines: what is told of its lines, or nothing where
+-- there was no room
 pub data Tellable (before : ℕ) (report t : List ℕ) : Type 0 where
   of-report : t ≡ noticesOf before report → Tellable before report t
   no-room : t ≡ [] → Tellable before report t

@@ -38,12 +38,14 @@ notice-most n b h k = by-test (eqb b 0)
     by-test false = line-most n b h k
 
 pub notice-none : (out : List ℕ) (n b : ℕ) → b ≡ 0 → hasRoom out 0 lineRoom ≡ true
-    → (record { refusal = accepted; next = 0 } ≡ lineAnswer out 0 (noticeOf n b)) × (out ≡ lineLeaves out 0 (noticeOf n b))
+    → (record { refusal = accepted; next = 0 } ≡ lineAnswer out 0 (noticeOf n b))
+    × (out ≡ lineLeaves out 0 (noticeOf n b))
 notice-none out n b e room = rw (room, eq-eqb b 0 e) (refl, laid-none out 0)
 
 -- what a call left at the front of its buffer, so much of it as the call answered
 pub notice-read : (out : List ℕ) (n b : ℕ) (w : Written) (after : List ℕ) → hasRoom out 0 lineRoom ≡ true
-    → w ≡ lineAnswer out 0 (noticeOf n b) → after ≡ lineLeaves out 0 (noticeOf n b) → take (w .next) after ≡ noticeOf n b
+    → w ≡ lineAnswer out 0 (noticeOf n b) → after ≡ lineLeaves out 0 (noticeOf n b)
+    → take (w .next) after ≡ noticeOf n b
 notice-read out n b w after room answer leaves =
     let x = noticeOf n b in
     let size : w .next ≡ length x = ap (λ (v : Written). v .next) answer ∙ rw room (omega arith) in

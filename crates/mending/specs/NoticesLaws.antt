@@ -18,7 +18,8 @@ use Rattle.text.specs.Laying.{layAnswer, layLeaves}
 use Rattle.text.specs.LayingLaws.{lay-fits, lay-behind}
 use Rattle.mending.specs.declared.answers.Noticed.{Noticed}
 use Rattle.mending.specs.NoticeLaws.{notice-most}
-use Rattle.mending.specs.Notice.{noticeOf, lineNumber, noticesOf, mostTold, noticesRoom, noticesAnswer, noticesLeaves, Tellable, of-report, no-room}
+use Rattle.mending.specs.Notice.{noticeOf, lineNumber, noticesOf, mostTold, noticesRoom, noticesAnswer}
+use Rattle.mending.specs.Notice.{noticesLeaves, Tellable, of-report, no-room}
 
 -- ## A report in parts
 
@@ -27,7 +28,8 @@ unfolding noticesOf
 notices-append n [] t = let e : n + 0 ≡ n = omega arith in rw e
 notices-append n (b ∷ r) t =
     let e : n + suc (length r) ≡ n + 1 + length r = omega arith in
-    rw (e, notices-append (n + 1) r t) (sym (append-assoc (noticeOf (lineNumber n) b) (noticesOf (n + 1) r) (noticesOf (n + 1 + length r) t)))
+    rw (e, notices-append (n + 1) r t) (sym (append-assoc (noticeOf (lineNumber n) b) (noticesOf (n + 1) r)
+    (noticesOf (n + 1 + length r) t)))
 
 -- numbers that agree in 64 bits number the lines alike
 same-numbers : (r : List ℕ) (n m : ℕ) → n % 2 ^ 64 ≡ m % 2 ^ 64 → noticesOf n r ≡ noticesOf m r
@@ -63,9 +65,11 @@ noting-start before report out h = record {
   text = laid-none out 0;
 }
 
-module _ (before : ℕ) (report out₀ : List ℕ) (room : mostTold * length report ≤ length out₀) (i number written : ℕ) (out : List ℕ) (s : Noting before report out₀ i number written out) where
+module _ (before : ℕ) (report out₀ : List ℕ) (room : mostTold * length report ≤ length out₀) (i number written : ℕ)
+    (out : List ℕ) (s : Noting before report out₀ i number written out) where
   -- the line at i
-  module _ (h : i < length report) (next : ℕ) (counted : next ≡ (number + 1) % 2 ^ 64) (small : getD report i 0 < 256) where
+  module _ (h : i < length report) (next : ℕ) (counted : next
+      ≡ (number + 1) % 2 ^ 64) (small : getD report i 0 < 256) where
     abbrev told : List ℕ
     told = noticeOf next (getD report i 0)
 
@@ -75,11 +79,15 @@ module _ (before : ℕ) (report out₀ : List ℕ) (room : mostTold * length rep
         let c = s .count in
         let l = length-take-le i report (s .within) in
         let e : lineNumber (before + length (take i report)) ≡ next = omega arith in
-        let last : take (i + 1) report ≡ take i report ++ (getD report i 0 ∷ []) = rw (add-one i) (take-suc report i 0 h) in
-        let there : noticesOf (before + length (take i report)) (getD report i 0 ∷ []) ≡ told = rw e (append-nil told) in
-        ap (noticesOf before) last ∙ notices-append before (take i report) (getD report i 0 ∷ []) ∙ ap (λ (x : List ℕ). noticesOf before (take i report) ++ x) there
+        let last : take (i + 1) report ≡ take i report ++ (getD report i 0 ∷ []) =
+        rw (add-one i) (take-suc report i 0 h) in
+        let there : noticesOf (before + length (take i report)) (getD report i 0 ∷ []) ≡ told =
+        rw e (append-nil told) in
+        ap (noticesOf before) last ∙ notices-append before (take i report) (getD report i 0 ∷ [])
+        ∙ ap (λ (x : List ℕ). noticesOf before (take i report) ++ x) there
 
-    pub noting-more : (w : Written) (out' : List ℕ) → w ≡ layAnswer out written told → out' ≡ layLeaves out written told → Noting before report out₀ (i + 1) next (w .next) out'
+    pub noting-more : (w : Written) (out' : List ℕ) → w ≡ layAnswer out written told → out' ≡ layLeaves out written told
+        → Noting before report out₀ (i + 1) next (w .next) out'
     noting-more w out' a b =
         let c = s .count in
         let z = s .size in
@@ -91,7 +99,9 @@ module _ (before : ℕ) (report out₀ : List ℕ) (room : mostTold * length rep
         let place : w .next ≡ written + length told = ap (λ (v : Written). v .next) (a ∙ done .0) in
         let both = ap length one-more ∙ length-append (noticesOf before (take i report)) told in
         let text : out' ≡ laid out₀ 0 (noticesOf before (take (i + 1) report)) =
-        b ∙ ap (λ (d : List ℕ). layLeaves d written told) (s .text) ∙ lay-behind out₀ 0 (noticesOf before (take i report)) told written (omega arith) (omega arith) ∙ ap (laid out₀ 0) (sym one-more) in
+        b ∙ ap (λ (d : List ℕ). layLeaves d written told) (s .text)
+        ∙ lay-behind out₀ 0 (noticesOf before (take i report)) told written (omega arith) (omega arith)
+        ∙ ap (laid out₀ 0) (sym one-more) in
         record {
           within = omega arith;
           size = rw b (rw (done .1) (laid-length out written told fits) ∙ z);
@@ -104,23 +114,31 @@ module _ (before : ℕ) (report out₀ : List ℕ) (room : mostTold * length rep
   -- no line is left
   pub noting-done : length report ≤ i →
       let r : Noticed = record { refusal = accepted; written = written; lines = number } in
-      length report ≤ length out₀ / mostTold → ((r ≡ noticesAnswer before report out₀) × (written ≤ length out₀)) × (out ≡ noticesLeaves before report out₀)
+      length report ≤ length out₀ / mostTold → ((r ≡ noticesAnswer before report out₀) × (written ≤ length out₀))
+      × (out ≡ noticesLeaves before report out₀)
   noting-done h k =
       let w = s .within in
       let f = s .few in
       let all : take i report ≡ report = take-all i report h in
       let at-end : i ≡ length report = omega arith in
-      let place : written ≡ length (noticesOf before report) = s .place ∙ ap (λ (r : List ℕ). length (noticesOf before r)) all in
-      let count : number ≡ (before + length report) % 2 ^ 64 = s .count ∙ ap (λ (n : ℕ). (before + n) % 2 ^ 64) at-end in
-      rw (le-leb (length report) (length out₀ / mostTold) k) ((rw (place, count) refl, omega arith), s .text ∙ ap (λ (r : List ℕ). laid out₀ 0 (noticesOf before r)) all)
+      let place : written ≡ length (noticesOf before report) =
+      s .place ∙ ap (λ (r : List ℕ). length (noticesOf before r)) all in
+      let count : number ≡ (before + length report) % 2 ^ 64 =
+      s .count ∙ ap (λ (n : ℕ). (before + n) % 2 ^ 64) at-end in
+      rw (le-leb (length report) (length out₀ / mostTold) k) (
+        (rw (place, count) refl, omega arith),
+        s .text ∙ ap (λ (r : List ℕ). laid out₀ 0 (noticesOf before r)) all,
+      )
 
 -- refused without room
 pub notices-short : (before : ℕ) (report out : List ℕ) → length out / mostTold < length report
-    → ((record { refusal = noRoom; written = 0; lines = 0 } ≡ noticesAnswer before report out) × (0 ≤ length out)) × (out ≡ noticesLeaves before report out)
+    → ((record { refusal = noRoom; written = 0; lines = 0 } ≡ noticesAnswer before report out) × (0 ≤ length out))
+    × (out ≡ noticesLeaves before report out)
 notices-short before report out h = rw (lt-leb (length report) (length out / mostTold) h) ((refl, omega arith), refl)
 
 -- what a call left at the front of its buffer may be handed out, so much of it as the call answered
-pub notices-tellable : (before : ℕ) (report out : List ℕ) (n : ℕ) (after : List ℕ) → n ≡ noticesAnswer before report out .written → after ≡ noticesLeaves before report out
+pub notices-tellable : (before : ℕ) (report out : List ℕ) (n : ℕ) (after : List ℕ)
+    → n ≡ noticesAnswer before report out .written → after ≡ noticesLeaves before report out
     → Tellable before report (take n after)
 notices-tellable before report out n after h k = by-test (noticesRoom before report out) refl
   where

@@ -37,13 +37,15 @@ module _ (cs chars : List ℕ) (laid-there : take (length cs) chars ≡ map rais
       let r = map raised cs in
       let size = length-map cs raised in
       let fewer = unreturned-take r .0 in
-      sym (take-take (length (unreturned r)) (length cs) chars (omega arith)) ∙ ap (take (length (unreturned r))) laid-there ∙ sym (unreturned-take r .1)
+      sym (take-take (length (unreturned r)) (length cs) chars (omega arith))
+      ∙ ap (take (length (unreturned r))) laid-there ∙ sym (unreturned-take r .1)
 
   pub spaces-part : take (length (mendedChars cs)) chars ≡ mendedChars cs
   spaces-part =
       let u = unreturned (map raised cs) in
       let fewer = unspaced-take u .0 in
-      sym (take-take (length (unspaced u)) (length u) chars (omega arith)) ∙ ap (take (length (unspaced u))) return-part ∙ sym (unspaced-take u .1)
+      sym (take-take (length (unspaced u)) (length u) chars (omega arith)) ∙ ap (take (length (unspaced u))) return-part
+      ∙ sym (unspaced-take u .1)
 
 -- no step makes a line longer
 pub mended-fewer : (cs : List ℕ) → length (mendedChars cs) ≤ length cs
@@ -55,16 +57,20 @@ mended-fewer cs =
     omega arith
 
 -- what the code finds, call by call: where the return and the spaces stand, and which step altered the line
-module _ (cs chars : List ℕ) (laid-there : take (length cs) chars ≡ map raised cs) (returned : ℕ) (r : returned ≡ length (unreturned (take (length cs) chars))) where
+module _ (cs chars : List ℕ) (laid-there : take (length cs) chars ≡ map raised cs) (returned : ℕ) (r : returned
+    ≡ length (unreturned (take (length cs) chars))) where
   pub return-place : (returned ≡ length (unreturned (map raised cs))) × (returned ≤ length cs)
   return-place =
-      let place : returned ≡ length (unreturned (map raised cs)) = r ∙ ap (λ (x : List ℕ). length (unreturned x)) laid-there in
+      let place : returned ≡ length (unreturned (map raised cs)) =
+      r ∙ ap (λ (x : List ℕ). length (unreturned x)) laid-there in
       let fewer = unreturned-take (map raised cs) .0 in
       let size = length-map cs raised in
       (place, omega arith)
 
-  pub repaired : length cs ≤ 256 → length chars ≡ 257 → (spaced : ℕ) → spaced ≡ length (unspaced (take returned chars)) → (one two four : ℕ)
-      → one ≡ (if same cs (take (length cs) chars) then 0 else 1) → two ≡ (if eqb returned (length cs) then 0 else 2) → four ≡ (if eqb spaced returned then 0 else 4)
+  pub repaired : length cs ≤ 256 → length chars ≡ 257 → (spaced : ℕ) → spaced ≡ length (unspaced (take returned chars))
+      → (one two four : ℕ)
+      → one ≡ (if same cs (take (length cs) chars) then 0 else 1) → two ≡ (if eqb returned (length cs) then 0 else 2)
+      → four ≡ (if eqb spaced returned then 0 else 4)
       → Repaired cs record { chars = chars; end = spaced; altered = one + two + four }
   repaired short full spaced s one two four p q w =
       let raise = map raised cs in
@@ -74,10 +80,12 @@ module _ (cs chars : List ℕ) (laid-there : take (length cs) chars ≡ map rais
       let at-spaces : spaced ≡ length (unspaced u) = s ∙ ap (λ (x : List ℕ). length (unspaced x)) part in
       let first : one ≡ stepMark 1 cs raise = p ∙ ap (λ (x : List ℕ). stepMark 1 cs x) laid-there in
       let second : two ≡ stepMark 2 raise u =
-      q ∙ ap (λ (n : ℕ). if eqb n (length cs) then 0 else 2) at-return ∙ ap (λ (n : ℕ). if eqb (length u) n then 0 else 2) (sym (length-map cs raised))
+      q ∙ ap (λ (n : ℕ). if eqb n (length cs) then 0 else 2) at-return
+      ∙ ap (λ (n : ℕ). if eqb (length u) n then 0 else 2) (sym (length-map cs raised))
       ∙ sym (altered-shorter 2 raise u (unreturned-take raise .0) (unreturned-take raise .1)) in
       let third : four ≡ stepMark 4 u (unspaced u) =
-      w ∙ ap (λ (n : ℕ). if eqb n returned then 0 else 4) at-spaces ∙ ap (λ (n : ℕ). if eqb (length (unspaced u)) n then 0 else 4) at-return
+      w ∙ ap (λ (n : ℕ). if eqb n returned then 0 else 4) at-spaces
+      ∙ ap (λ (n : ℕ). if eqb (length (unspaced u)) n then 0 else 4) at-return
       ∙ sym (altered-shorter 4 u (unspaced u) (unspaced-take u .0) (unspaced-take u .1)) in
       record {
         front = ap (λ (n : ℕ). take n chars) at-spaces ∙ spaces-part cs chars laid-there;

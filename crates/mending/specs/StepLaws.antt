@@ -29,7 +29,8 @@ snoc-space : (l : List ℕ) (x : ℕ) → isSpace x ≡ true → unspaced (l ++ 
 unfolding unspaced all
 snoc-space [] x e = rw e
 snoc-space (c ∷ l) x e =
-    let t : all isSpace (l ++ (x ∷ [])) ≡ all isSpace l = all-append isSpace l (x ∷ []) ∙ rw e (and-true (all isSpace l)) in
+    let t : all isSpace (l ++ (x ∷ [])) ≡ all isSpace l =
+    all-append isSpace l (x ∷ []) ∙ rw e (and-true (all isSpace l)) in
     rw (t, snoc-space l x e)
   where
     and-true : (t : Bool) → (t && true) ≡ t
@@ -66,16 +67,19 @@ unspaced-take (c ∷ cs) = by-test (all isSpace (c ∷ cs)) (unspaced-take cs)
 
 -- ## The return
 
-pub unreturned-take : (cs : List ℕ) → (length (unreturned cs) ≤ length cs) × (unreturned cs ≡ take (length (unreturned cs)) cs)
+pub unreturned-take : (cs : List ℕ) → (length (unreturned cs) ≤ length cs)
+    × (unreturned cs ≡ take (length (unreturned cs)) cs)
 unreturned-take cs = by-test (eqb (getD cs (length cs - 1) 0) carriageReturn)
   where
-    by-test : (t : Bool) → let x = if t then take (length cs - 1) cs else cs in (length x ≤ length cs) × (x ≡ take (length x) cs)
+    by-test : (t : Bool) → let x = if t then take (length cs - 1) cs else cs in
+        (length x ≤ length cs) × (x ≡ take (length x) cs)
     by-test true = let l = length-take-le (length cs - 1) cs (omega arith) in (omega arith, rw l)
     by-test false = (omega arith, sym (take-all (length cs) cs (omega arith)))
 
 -- ## Which step altered the line
 
-pub altered-shorter : (step : ℕ) (before after : List ℕ) → length after ≤ length before → after ≡ take (length after) before
+pub altered-shorter : (step : ℕ) (before after : List ℕ) → length after ≤ length before
+    → after ≡ take (length after) before
     → stepMark step before after ≡ (if eqb (length after) (length before) then 0 else step)
 altered-shorter step before after fewer front = by-test (eqb (length after) (length before)) refl
   where
@@ -101,7 +105,8 @@ unaltered-same cs e =
     let one : stepMark 1 cs r ≡ 0 = omega arith in
     let two : stepMark 2 r (unreturned r) ≡ 0 = omega arith in
     let four : stepMark 4 (unreturned r) (mendedChars cs) ≡ 0 = omega arith in
-    altered-none 4 (unreturned r) (mendedChars cs) (omega arith) four ∙ altered-none 2 r (unreturned r) (omega arith) two ∙ altered-none 1 cs r (omega arith) one
+    altered-none 4 (unreturned r) (mendedChars cs) (omega arith) four
+    ∙ altered-none 2 r (unreturned r) (omega arith) two ∙ altered-none 1 cs r (omega arith) one
 
 -- ## A line of digits
 
@@ -112,11 +117,13 @@ module _ (c : ℕ) (d : isDigit 16 c ≡ true) where
     where
       least : (t : Bool) → leb 0x30 c ≡ t → 0x30 ≤ c
       least true e = leb-true 0x30 c e
-      least false e = let v = value-below c (leb-false 0x30 c e) in let b = ltb-true (valueOf c) 16 d in absurd (omega arith)
+      least false e = let v = value-below c (leb-false 0x30 c e) in let b = ltb-true (valueOf c) 16 d in
+          absurd (omega arith)
 
       most : (t : Bool) → leb c 0x46 ≡ t → c ≤ 0x46
       most true e = leb-true c 0x46 e
-      most false e = let v = value-above c (leb-false c 0x46 e) in let b = ltb-true (valueOf c) 16 d in absurd (omega arith)
+      most false e = let v = value-above c (leb-false c 0x46 e) in let b = ltb-true (valueOf c) 16 d in
+          absurd (omega arith)
 
   digit-raised : raised c ≡ c
   digit-raised = let b = digit-between .1 in rw (lt-leb 0x61 c (omega arith))
@@ -127,13 +134,19 @@ module _ (c : ℕ) (d : isDigit 16 c ≡ true) where
 digits-raised : (cs : List ℕ) → spells 16 cs ≡ true → map raised cs ≡ cs
 unfolding all
 digits-raised [] d = refl
-digits-raised (c ∷ cs) d = rw (digit-raised c (and-left (isDigit 16 c) (spells 16 cs) d), digits-raised cs (and-right (isDigit 16 c) (spells 16 cs) d))
+digits-raised (c ∷ cs) d = rw (
+  digit-raised c (and-left (isDigit 16 c) (spells 16 cs) d),
+  digits-raised cs (and-right (isDigit 16 c) (spells 16 cs) d),
+)
 
 digits-unspaced : (cs : List ℕ) → spells 16 cs ≡ true → unspaced cs ≡ cs
 unfolding unspaced all
 digits-unspaced [] d = refl
 digits-unspaced (c ∷ cs) d =
-    rw (digit-other c (and-left (isDigit 16 c) (spells 16 cs) d) space (lit< tt), digits-unspaced cs (and-right (isDigit 16 c) (spells 16 cs) d))
+    rw (
+      digit-other c (and-left (isDigit 16 c) (spells 16 cs) d) space (lit< tt),
+      digits-unspaced cs (and-right (isDigit 16 c) (spells 16 cs) d),
+    )
 
 digits-unreturned : (cs : List ℕ) → spells 16 cs ≡ true → unreturned cs ≡ cs
 digits-unreturned [] d = refl
@@ -168,7 +181,8 @@ return-none (c ∷ cs) e = absurd (omega arith)
 
 module _ (cs : List ℕ) where
   pub return-off : getD cs (length cs - 1) 0 ≡ carriageReturn → length cs - 1 ≡ length (unreturned cs)
-  return-off e = rw (eq-eqb (getD cs (length cs - 1) 0) carriageReturn e) (sym (length-take-le (length cs - 1) cs (omega arith)))
+  return-off e = rw (eq-eqb (getD cs (length cs - 1) 0) carriageReturn e)
+      (sym (length-take-le (length cs - 1) cs (omega arith)))
 
   pub return-kept : (getD cs (length cs - 1) 0 ≡ carriageReturn → ⊥) → length cs ≡ length (unreturned cs)
   return-kept e = rw (ne-eqb (getD cs (length cs - 1) 0) carriageReturn e)
@@ -188,7 +202,8 @@ module _ (s : List ℕ) (n : ℕ) (within : n ≤ length s) (so-far : unspaced (
     pub spaces-stop : (getD s (n - 1) 0 ≡ space → ⊥) → n ≡ length (unspaced s)
     spaces-stop e =
         let all-left : unspaced (take n s) ≡ take n s =
-        ap (λ (k : ℕ). unspaced (take k s)) (sym last-place) ∙ space-none s (n - 1) last-within e ∙ ap (λ (k : ℕ). take k s) last-place in
+        ap (λ (k : ℕ). unspaced (take k s)) (sym last-place) ∙ space-none s (n - 1) last-within e
+        ∙ ap (λ (k : ℕ). take k s) last-place in
         sym (ap length (sym so-far ∙ all-left) ∙ length-take-le n s within)
 
   pub spaces-gone : n ≤ 0 → n ≡ length (unspaced s)

@@ -26,7 +26,8 @@ pub struct Noticed {
 
 // The two fields of the line, each with the character behind it.
 fn put_fields(out: &mut [u8], number: u64, report: u8) -> usize
-    ensures { λ r. ⌜ Puts (now (out .entry)) 0 (noticeLine number report) (now (out .exit)) r × (length (noticeLine number report) ≤ lineRoom) ⌝ }
+    ensures { λ r. ⌜ Puts (now (out .entry)) 0 (noticeLine number report) (now (out .exit)) r
+        × (length (noticeLine number report) ≤ lineRoom) ⌝ }
 {
     let behind_number = putting::put_number(out, 0, number, SPACE);
     putting::put_number(out, behind_number, report as u64, LINE_FEED)
@@ -34,7 +35,8 @@ fn put_fields(out: &mut [u8], number: u64, report: u8) -> usize
 
 // The number of a line and its report, at the front of a buffer; nothing for a line that was kept.
 fn notice(out: &mut [u8], number: u64, report: u8) -> Written
-    ensures answer { λ r. ⌜ (r ≡ lineAnswer (now (out .entry)) 0 (noticeOf number report)) × (r .next ≤ length (now (out .entry))) ⌝ }
+    ensures answer { λ r. ⌜ (r ≡ lineAnswer (now (out .entry)) 0 (noticeOf number report))
+        × (r .next ≤ length (now (out .entry))) ⌝ }
     ensures written { λ r. ⌜ now (out .exit) ≡ lineLeaves (now (out .entry)) 0 (noticeOf number report) ⌝ }
 {
     let room = laying::has_room(out, 0, LINE_ROOM);
@@ -60,7 +62,8 @@ fn lay_notice(out: &mut [u8], at: usize, number: u64, report: u8) -> Written
 
 // What is told of lines by their reports, behind so many lines before them, at the front of a buffer.
 pub fn notices(out: &mut [u8], report: &[u8], before: u64) -> Noticed
-    ensures answer { λ r. ⌜ (r ≡ noticesAnswer before (now (report .entry)) (now (out .entry))) × (r .written ≤ length (now (out .entry))) ⌝ }
+    ensures answer { λ r. ⌜ (r ≡ noticesAnswer before (now (report .entry)) (now (out .entry)))
+        × (r .written ≤ length (now (out .entry))) ⌝ }
     ensures written { λ r. ⌜ now (out .exit) ≡ noticesLeaves before (now (report .entry)) (now (out .entry)) ⌝ }
 {
     if out.len() / MOST_TOLD < report.len() {

@@ -150,7 +150,8 @@ fn report_written(altered: u8) -> u8
 fn mend_fed(out: &mut [u8], at: usize, line: &[u8]) -> LineMended
     requires { ⌜ length (now line) ≤ longestMended ⌝ }
     ensures answer { λ r. ⌜ r ≡ lineMended record { chars = now (line .entry); fed = true } (now (out .entry)) at ⌝ }
-    ensures written { λ r. ⌜ now (out .exit) ≡ layLeaves (now (out .entry)) at (mendedBytes record { chars = now (line .entry); fed = true }) ⌝ }
+    ensures written { λ r. ⌜ now (out .exit) ≡ layLeaves (now (out .entry)) at
+        (mendedBytes record { chars = now (line .entry); fed = true }) ⌝ }
 {
     let repair = mend_chars(line);
     let mut chars = repair.chars;
@@ -171,7 +172,8 @@ fn mend_fed(out: &mut [u8], at: usize, line: &[u8]) -> LineMended
 // is laid at a place.
 pub fn mend_line(out: &mut [u8], at: usize, line: &[u8], fed: bool) -> LineMended
     ensures answer { λ r. ⌜ r ≡ lineMended record { chars = now (line .entry); fed = fed } (now (out .entry)) at ⌝ }
-    ensures written { λ r. ⌜ now (out .exit) ≡ layLeaves (now (out .entry)) at (mendedBytes record { chars = now (line .entry); fed = fed }) ⌝ }
+    ensures written { λ r. ⌜ now (out .exit) ≡ layLeaves (now (out .entry)) at
+        (mendedBytes record { chars = now (line .entry); fed = fed }) ⌝ }
 {
     if LONGEST < line.len() {
         return drop_line(out, at, line, refusals::MALFORMED);

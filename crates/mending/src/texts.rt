@@ -11,7 +11,8 @@ ghost use Rattle.text.specs.Laying.{layLeaves};
 ghost use Rattle.pieces.specs.Pieces.{saidWhole};
 ghost use Rattle.mending.specs.Mending.{mendedBytes};
 ghost use Rattle.mending.specs.Claims.{reportSaid};
-ghost use Rattle.mending.specs.MendingText.{textAnswer, textWritten, textReported, TextWithin, pieceAnswer, pieceKept, pieceWritten, pieceReported, PieceWithin};
+ghost use Rattle.mending.specs.MendingText.{textAnswer, textWritten, textReported, TextWithin, pieceAnswer};
+ghost use Rattle.mending.specs.MendingText.{pieceKept, pieceWritten, pieceReported, PieceWithin};
 ghost use Rattle.mending.specs.Laws.{Through};
 use text::laying;
 
@@ -49,7 +50,8 @@ fn mend_whole(s: &[u8], out: &mut [u8], report: &mut [u8]) -> LinesMended
     requires { ⌜ (length (now s) ≤ length (now out)) × (length (linesOf (now s)) ≤ length (now report)) ⌝ }
     ensures answer { λ r. ⌜ Through (now (s .entry)) r ⌝ }
     ensures written { λ r. ⌜ now (out .exit) ≡ laid (now (out .entry)) 0 (saidWhole mendedBytes (now (s .entry))) ⌝ }
-    ensures reported { λ r. ⌜ now (report .exit) ≡ laid (now (report .entry)) 0 (saidWhole reportSaid (now (s .entry))) ⌝ }
+    ensures reported { λ r. ⌜ now (report .exit)
+        ≡ laid (now (report .entry)) 0 (saidWhole reportSaid (now (s .entry))) ⌝ }
 {
     let mut at: usize = 0;
     let mut written: usize = 0;
@@ -91,10 +93,13 @@ fn no_room() -> PieceMended
 
 // One piece: its lines that have their feed, and what is carried over moved to the front.
 pub fn feed(s: &mut [u8], out: &mut [u8], report: &mut [u8]) -> PieceMended
-    ensures answer { λ r. ⌜ (r ≡ pieceAnswer (now (s .entry)) (now (out .entry)) (now (report .entry))) × PieceWithin (now (s .entry)) (now (out .entry)) (now (report .entry)) r ⌝ }
+    ensures answer { λ r. ⌜ (r ≡ pieceAnswer (now (s .entry)) (now (out .entry)) (now (report .entry)))
+        × PieceWithin (now (s .entry)) (now (out .entry)) (now (report .entry)) r ⌝ }
     ensures kept { λ r. ⌜ now (s .exit) ≡ pieceKept (now (s .entry)) (now (out .entry)) (now (report .entry)) ⌝ }
-    ensures written { λ r. ⌜ now (out .exit) ≡ pieceWritten (now (s .entry)) (now (out .entry)) (now (report .entry)) ⌝ }
-    ensures reported { λ r. ⌜ now (report .exit) ≡ pieceReported (now (s .entry)) (now (out .entry)) (now (report .entry)) ⌝ }
+    ensures written { λ r. ⌜ now (out .exit) ≡ pieceWritten (now (s .entry)) (now (out .entry))
+        (now (report .entry)) ⌝ }
+    ensures reported { λ r. ⌜ now (report .exit)
+        ≡ pieceReported (now (s .entry)) (now (out .entry)) (now (report .entry)) ⌝ }
 {
     if out.len() < s.len() {
         return no_room();
@@ -125,8 +130,10 @@ fn refuse_text() -> TextMended
 
 // A last line without a feed, and the report on it.
 fn mend_last(line: &[u8], out: &mut [u8], written: usize, report: &mut [u8], lines: usize)
-    ensures written { λ r. ⌜ now (out .exit) ≡ layLeaves (now (out .entry)) written (mendedBytes record { chars = now (line .entry); fed = false }) ⌝ }
-    ensures reported { λ r. ⌜ now (report .exit) ≡ layLeaves (now (report .entry)) lines (reportSaid record { chars = now (line .entry); fed = false }) ⌝ }
+    ensures written { λ r. ⌜ now (out .exit) ≡ layLeaves (now (out .entry)) written
+        (mendedBytes record { chars = now (line .entry); fed = false }) ⌝ }
+    ensures reported { λ r. ⌜ now (report .exit)
+        ≡ layLeaves (now (report .entry)) lines (reportSaid record { chars = now (line .entry); fed = false }) ⌝ }
 {
     let mended = crate::mend_line(out, written, line, false);
     let note = [mended.report];
@@ -136,9 +143,11 @@ fn mend_last(line: &[u8], out: &mut [u8], written: usize, report: &mut [u8], lin
 // A whole text: the lines that are left of it, and the report on each of its lines. A text in pieces
 // ends with this, on what is carried over from the last piece.
 pub fn mend(s: &[u8], out: &mut [u8], report: &mut [u8]) -> TextMended
-    ensures answer { λ r. ⌜ (r ≡ textAnswer (now (s .entry)) (now (out .entry)) (now (report .entry))) × TextWithin (now (out .entry)) (now (report .entry)) r ⌝ }
+    ensures answer { λ r. ⌜ (r ≡ textAnswer (now (s .entry)) (now (out .entry)) (now (report .entry)))
+        × TextWithin (now (out .entry)) (now (report .entry)) r ⌝ }
     ensures written { λ r. ⌜ now (out .exit) ≡ textWritten (now (s .entry)) (now (out .entry)) (now (report .entry)) ⌝ }
-    ensures reported { λ r. ⌜ now (report .exit) ≡ textReported (now (s .entry)) (now (out .entry)) (now (report .entry)) ⌝ }
+    ensures reported { λ r. ⌜ now (report .exit)
+        ≡ textReported (now (s .entry)) (now (out .entry)) (now (report .entry)) ⌝ }
 {
     if out.len() < s.len() {
         return refuse_text();

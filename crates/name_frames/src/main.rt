@@ -41,9 +41,12 @@ fn write_said(said: &[u8]) -> bool
 
 // Prints the lines that have their feed.
 fn print_piece(bytes: &mut [u8], text: &mut [u8]) -> Piece
-    ensures answer { λ r. ⌜ (r .held ≡ feedAnswer printedLine mostPrinted mostHeldOfRecording (now (bytes .entry)) (now (text .entry)) .held) × (r .held ≤ length (now (bytes .entry))) ⌝ }
-    ensures kept { λ r. ⌜ now (bytes .exit) ≡ feedKept printedLine mostPrinted mostHeldOfRecording (now (bytes .entry)) (now (text .entry)) ⌝ }
-    ensures written { λ r. ⌜ now (text .exit) ≡ feedWritten printedLine mostPrinted mostHeldOfRecording (now (bytes .entry)) (now (text .entry)) ⌝ }
+    ensures answer { λ r. ⌜ (r .held ≡ feedAnswer printedLine mostPrinted mostHeldOfRecording (now (bytes .entry))
+        (now (text .entry)) .held) × (r .held ≤ length (now (bytes .entry))) ⌝ }
+    ensures kept { λ r. ⌜ now (bytes .exit) ≡ feedKept printedLine mostPrinted mostHeldOfRecording (now (bytes .entry))
+        (now (text .entry)) ⌝ }
+    ensures written { λ r. ⌜ now (text .exit)
+        ≡ feedWritten printedLine mostPrinted mostHeldOfRecording (now (bytes .entry)) (now (text .entry)) ⌝ }
 {
     let fed = streaming::feed(bytes, text);
     let end = fed.written;
@@ -57,7 +60,8 @@ fn print_piece(bytes: &mut [u8], text: &mut [u8]) -> Piece
 fn next_piece(buffer: &mut [u8], held: usize, text: &mut [u8]) -> Piece
     requires { ⌜ (held ≤ length (now buffer)) × (mostPrinted * length (now buffer) ≤ length (now text)) ⌝ }
     ensures answer { λ r. ⌜ r .held ≤ length (now (buffer .entry)) ⌝ }
-    ensures kept { λ r. ⌜ Stepped mostHeldOfRecording (take held (now (buffer .entry))) (take (r .held) (now (buffer .exit))) ⌝ }
+    ensures kept { λ r. ⌜ Stepped mostHeldOfRecording (take held (now (buffer .entry)))
+        (take (r .held) (now (buffer .exit))) ⌝ }
 {
     let filled = read_behind(buffer, held);
     if filled == held {
@@ -88,7 +92,8 @@ fn print_pieces(buffer: &mut [u8], text: &mut [u8]) -> usize
 
 // Prints what is left at the end of the input: a last line without a feed.
 fn print_last(bytes: &[u8], text: &mut [u8])
-    ensures written { λ r. ⌜ now (text .exit) ≡ finishWritten printedLine mostPrinted (now (bytes .entry)) (now (text .entry)) ⌝ }
+    ensures written { λ r. ⌜ now (text .exit)
+        ≡ finishWritten printedLine mostPrinted (now (bytes .entry)) (now (text .entry)) ⌝ }
 {
     let last = streaming::finish(bytes, text);
     let end = last.next;

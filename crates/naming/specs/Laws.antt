@@ -1,5 +1,6 @@
--- Laws that the proofs of naming rest on: triples along a loop from the last to the first, and the number of bytes along such a loop; and that a
--- refusal is a small number; and that the name of what a reader answers is that of the line.
+-- Laws that the proofs of naming rest on: triples along a loop from the last to the first, and the number of bytes
+-- along such a loop; and that a refusal is a small number; and that the name of what a reader answers is that of the
+-- line.
 use Prim.Native.Nat.{ℕ, zero, suc, _+_, _-_, _*_, _/_, _^_, _<_, _≤_}
 use mathlib.Core.Path.{_≡_, refl, ap, _∙_}
 use mathlib.Core.Bool.{Bool, true, false, not, _&&_, and-false}
@@ -14,7 +15,8 @@ use Rattle.basic_laws.specs.Choice.{if_then_else_}
 use Rattle.basic_laws.specs.Bits.{bitNumber, bitsOf, numberOf, bytesBits}
 use Rattle.basic_laws.specs.BitsLaws.{number-lt, bytes-length}
 use Rattle.commands.specs.Commands.{searchRom, alarmSearch}
-use Rattle.refusals.specs.Refusals.{accepted, notHex, malformed, wrongCrc, allZero, wrongKind, outOfRange, badTriple, wrongCounts}
+use Rattle.refusals.specs.Refusals.{accepted, notHex, malformed, wrongCrc, allZero, wrongKind, outOfRange, badTriple}
+use Rattle.refusals.specs.Refusals.{wrongCounts}
 use Rattle.family.specs.Families.{propertiesOf}
 use Rattle.family.specs.declared.Properties.{Properties}
 use Rattle.crc.specs.Crc.{crcBits}
@@ -25,11 +27,14 @@ use Rattle.scratchpad.specs.Stored.{readingIn, fineIn}
 use Rattle.text.specs.Digits.{spells}
 use Rattle.text.specs.Lines.{Line}
 use Rattle.frame.specs.declared.Frame.{Frame}
-use Rattle.frame.specs.ReadLine.{longestLine, wellFormed, frameIn, carries, noFrame, readDigits, readLine, found, lineAnswerOf}
+use Rattle.frame.specs.ReadLine.{longestLine, wellFormed, frameIn, carries, noFrame, readDigits, readLine, found}
+use Rattle.frame.specs.ReadLine.{lineAnswerOf}
 use Rattle.naming.specs.declared.Name.{Name}
 use Rattle.naming.specs.declared.Name.the-variants.{Empty, Search, Alarm, Nobody, Pad, Other}
 use Rattle.naming.specs.declared.PassRead.{PassRead}
-use Rattle.naming.specs.Naming.{named, plain, refusedName, sends, tripleAllowed, triplesAllowed, thirds, passSlots, passRead, coded, namedPass, isNobody, isPad, lowFirst, codeMatched, padIn, rawOf, namedPad, readNamed, lineNamed, nameOfRead}
+use Rattle.naming.specs.Naming.{named, plain, refusedName, sends, tripleAllowed, triplesAllowed, thirds}
+use Rattle.naming.specs.Naming.{passSlots, passRead, coded, namedPass, isNobody, isPad, lowFirst, codeMatched}
+use Rattle.naming.specs.Naming.{padIn, rawOf, namedPad, readNamed, lineNamed, nameOfRead}
 
 pub one-at-most : (b : Bool) → bitNumber b ≤ 1
 one-at-most true = omega arith
@@ -68,15 +73,18 @@ module _ (bytes : List ℕ) (size : length bytes ≡ 64) where
   pass-length = let b = bytes-length bytes in simp (length-drop, length-take) (omega arith)
 
   pass-slot : (k : ℕ) → k < 192 → getD (passSlots bytes) k false ≡ getD (bytesBits bytes) (8 + k) false
-  pass-slot k h = let l : 8 + k < 200 = omega arith in getD-drop 8 (take 200 (bytesBits bytes)) k false ∙ getD-take 200 (bytesBits bytes) (8 + k) false l
+  pass-slot k h = let l : 8 + k < 200 = omega arith in
+      getD-drop 8 (take 200 (bytesBits bytes)) k false ∙ getD-take 200 (bytesBits bytes) (8 + k) false l
 
   pub pass-end : drop (3 * 64) (passSlots bytes) ≡ []
-  pass-end = let l = pass-length in let h : length (passSlots bytes) ≤ 192 = omega arith in drop-of-length-le (passSlots bytes) h
+  pass-end = let l = pass-length in let h : length (passSlots bytes) ≤ 192 = omega arith in
+      drop-of-length-le (passSlots bytes) h
 
   -- the triple at i, and those after it
   pass-triple : (i : ℕ) → i < 64
       → drop (3 * i) (passSlots bytes)
-      ≡ getD (bytesBits bytes) (8 + 3 * i) false ∷ getD (bytesBits bytes) (8 + 3 * i + 1) false ∷ getD (bytesBits bytes) (8 + 3 * i + 2) false
+      ≡ getD (bytesBits bytes) (8 + 3 * i) false ∷ getD (bytesBits bytes) (8 + 3 * i + 1) false
+      ∷ getD (bytesBits bytes) (8 + 3 * i + 2) false
       ∷ drop (3 * (i + 1)) (passSlots bytes)
   pass-triple i h =
       let s = passSlots bytes in
@@ -87,13 +95,23 @@ module _ (bytes : List ℕ) (size : length bytes ≡ 64) where
       let e : 3 * (i + 1) ≡ suc (suc (suc (3 * i))) = omega arith in
       let p : 8 + suc (3 * i) ≡ 8 + 3 * i + 1 = omega arith in
       let q : 8 + suc (suc (3 * i)) ≡ 8 + 3 * i + 2 = omega arith in
-      rw
-      (e, drop-cons s (3 * i) false a, drop-cons s (suc (3 * i)) false b, drop-cons s (suc (suc (3 * i))) false c, pass-slot (3 * i) (omega arith), pass-slot (suc (3 * i)) (omega arith), pass-slot (suc (suc (3 * i))) (omega arith), p, q)
+      rw (
+        e,
+        drop-cons s (3 * i) false a,
+        drop-cons s (suc (3 * i)) false b,
+        drop-cons s (suc (suc (3 * i))) false c,
+        pass-slot (3 * i) (omega arith),
+        pass-slot (suc (3 * i)) (omega arith),
+        pass-slot (suc (suc (3 * i))) (omega arith),
+        p,
+        q,
+      )
 
   -- the same where a loop has come down to n
   pub pass-before : (n : ℕ) → 0 < n → n ≤ 64
       → drop (3 * (n - 1)) (passSlots bytes)
-      ≡ getD (bytesBits bytes) (8 + 3 * (n - 1)) false ∷ getD (bytesBits bytes) (8 + 3 * (n - 1) + 1) false ∷ getD (bytesBits bytes) (8 + 3 * (n - 1) + 2) false
+      ≡ getD (bytesBits bytes) (8 + 3 * (n - 1)) false ∷ getD (bytesBits bytes) (8 + 3 * (n - 1) + 1) false
+      ∷ getD (bytesBits bytes) (8 + 3 * (n - 1) + 2) false
       ∷ drop (3 * n) (passSlots bytes)
   pass-before n h k =
       let e : n - 1 + 1 ≡ n = omega arith in let l : n - 1 < 64 = omega arith in
@@ -138,7 +156,8 @@ module _ (bytes : List ℕ) (size : length bytes ≡ 64) where
       let h : length (take 8 (drop 1 bytes)) ≤ 8 = simp (length-take, length-drop) (omega arith) in
       rw (drop-of-length-le (take 8 (drop 1 bytes)) h)
 
-  code-more : (i : ℕ) → i < 8 → lowFirst (drop i (take 8 (drop 1 bytes))) ≡ getD bytes (i + 1) 0 + 256 * lowFirst (drop (i + 1) (take 8 (drop 1 bytes)))
+  code-more : (i : ℕ) → i < 8 → lowFirst (drop i (take 8 (drop 1 bytes)))
+      ≡ getD bytes (i + 1) 0 + 256 * lowFirst (drop (i + 1) (take 8 (drop 1 bytes)))
   unfolding lowFirst
   code-more i h =
       let s = take 8 (drop 1 bytes) in
@@ -147,7 +166,8 @@ module _ (bytes : List ℕ) (size : length bytes ≡ 64) where
       rw (drop-cons s i 0 l, getD-take 8 (drop 1 bytes) i 0 h, getD-drop 1 bytes i 0, e, add-one i)
 
   pub code-before : (n : ℕ) → 0 < n → n ≤ 8
-      → 256 * lowFirst (drop n (take 8 (drop 1 bytes))) + getD bytes n 0 ≡ lowFirst (drop (n - 1) (take 8 (drop 1 bytes)))
+      → 256 * lowFirst (drop n (take 8 (drop 1 bytes))) + getD bytes n 0
+      ≡ lowFirst (drop (n - 1) (take 8 (drop 1 bytes)))
   code-before n h k =
       let e : n - 1 + 1 ≡ n = omega arith in let l : n - 1 < 8 = omega arith in
       let m = rw e at (code-more (n - 1) l) in
@@ -155,10 +175,22 @@ module _ (bytes : List ℕ) (size : length bytes ≡ 64) where
 
   -- ## The scratchpad in bytes 10 to 18
 
-  pub pad-bytes : getD bytes 10 0 ∷ getD bytes 11 0 ∷ getD bytes 12 0 ∷ getD bytes 13 0 ∷ getD bytes 14 0 ∷ getD bytes 15 0 ∷ getD bytes 16 0 ∷ getD bytes 17 0 ∷ getD bytes 18 0 ∷ [] ≡ padIn bytes
+  pub pad-bytes : getD bytes 10 0 ∷ getD bytes 11 0 ∷ getD bytes 12 0 ∷ getD bytes 13 0 ∷ getD bytes 14 0
+      ∷ getD bytes 15 0 ∷ getD bytes 16 0 ∷ getD bytes 17 0 ∷ getD bytes 18 0 ∷ [] ≡ padIn bytes
   pad-bytes =
-      let at : (i : ℕ) → i < 64 → drop i bytes ≡ getD bytes i 0 ∷ drop (suc i) bytes = λ i h. drop-cons bytes i 0 (omega arith) in
-      rw (at 10 (omega arith), at 11 (omega arith), at 12 (omega arith), at 13 (omega arith), at 14 (omega arith), at 15 (omega arith), at 16 (omega arith), at 17 (omega arith), at 18 (omega arith))
+      let at : (i : ℕ) → i < 64 → drop i bytes ≡ getD bytes i 0 ∷ drop (suc i) bytes =
+      λ i h. drop-cons bytes i 0 (omega arith) in
+      rw (
+        at 10 (omega arith),
+        at 11 (omega arith),
+        at 12 (omega arith),
+        at 13 (omega arith),
+        at 14 (omega arith),
+        at 15 (omega arith),
+        at 16 (omega arith),
+        at 17 (omega arith),
+        at 18 (omega arith),
+      )
 
 -- ## A refusal is a small number
 
@@ -173,13 +205,15 @@ code-small c = by-test (not (eqb (crcByteOf c) (crcBits 0 (bitsOf 56 c)))) (not 
 
 judged-small : (family : ℕ) (pad : List ℕ) → judged family pad .refusal < 100
 unfolding judged
-judged-small family pad = by-test (not (crcRight pad)) (allZeros pad) (not (kindRight row pad)) (not (inRange (readingIn row pad))) (not (countsBelieved row pad))
+judged-small family pad = by-test (not (crcRight pad)) (allZeros pad) (not (kindRight row pad))
+    (not (inRange (readingIn row pad))) (not (countsBelieved row pad))
   where
     row : Properties
     row = propertiesOf family
 
     by-test : (t u v w x : Bool)
-        → (if t then refusedPad wrongCrc else if u then refusedPad allZero else if v then refusedPad wrongKind else if w then refusedPad outOfRange else if x then refusedPad wrongCounts
+        → (if t then refusedPad wrongCrc else if u then refusedPad allZero else if v then refusedPad wrongKind else if w
+        then refusedPad outOfRange else if x then refusedPad wrongCounts
         else record { refusal = accepted; reading = readingIn row pad; fine = fineIn row pad }) .refusal < 100
     by-test true u v w x = lit< tt
     by-test false true v w x = lit< tt
@@ -191,7 +225,8 @@ judged-small family pad = by-test (not (crcRight pad)) (allZeros pad) (not (kind
 coded-small : (n : Name) (c : ℕ) → coded n c .refusal < 100
 coded-small n c = by-test (eqb (codeRefusal c) accepted)
   where
-    by-test : (t : Bool) → (if t then record { refusal = accepted; name = n; code = c; raw = 0 } else refusedName (codeRefusal c)) .refusal < 100
+    by-test : (t : Bool) → (if t then record { refusal = accepted; name = n; code = c; raw = 0 }
+        else refusedName (codeRefusal c)) .refusal < 100
     by-test true = lit< tt
     by-test false = code-small c
 
@@ -206,7 +241,9 @@ scratchpad-small : (c : ℕ) (pad : List ℕ) → namedPad c pad .refusal < 100
 scratchpad-small c pad = by-test (eqb (codeRefusal c) wrongCrc) (eqb (judged (familyOf c) pad .refusal) accepted)
   where
     by-test : (t u : Bool)
-        → (if t then refusedName wrongCrc else if u then record { refusal = accepted; name = Pad; code = c; raw = rawOf pad } else refusedName (judged (familyOf c) pad .refusal)) .refusal < 100
+        → (if t then refusedName wrongCrc else if u
+        then record { refusal = accepted; name = Pad; code = c; raw = rawOf pad }
+        else refusedName (judged (familyOf c) pad .refusal)) .refusal < 100
     by-test true u = lit< tt
     by-test false true = lit< tt
     by-test false false = judged-small (familyOf c) pad
@@ -216,8 +253,10 @@ unfolding named
 named-small f = by-test (not (f .presence)) (sends f 200 searchRom) (sends f 200 alarmSearch) (isNobody f) (isPad f)
   where
     by-test : (t u v w x : Bool)
-        → (if t then plain Empty else if u then namedPass Search (passRead (passSlots (f .bits))) else if v then namedPass Alarm (passRead (passSlots (f .bits)))
-        else if w then plain Nobody else if x then namedPad (codeMatched (f .bits)) (padIn (f .bits)) else plain Other) .refusal < 100
+        → (if t then plain Empty else if u then namedPass Search (passRead (passSlots (f .bits))) else if v
+        then namedPass Alarm (passRead (passSlots (f .bits)))
+        else if w then plain Nobody else if x then namedPad (codeMatched (f .bits)) (padIn (f .bits))
+        else plain Other) .refusal < 100
     by-test true u v w x = lit< tt
     by-test false true v w x = pass-small Search (passRead (passSlots (f .bits)))
     by-test false false true w x = pass-small Alarm (passRead (passSlots (f .bits)))
@@ -229,10 +268,12 @@ named-small f = by-test (not (f .presence)) (sends f 200 searchRom) (sends f 200
 
 pub line-read : (next : ℕ) (l : Line) → nameOfRead (lineAnswerOf (found (readLine l) next)) ≡ lineNamed l
 unfolding readLine readDigits
-line-read next l = by-test (ltb longestLine (length (l .chars))) (spells 16 (l .chars) && l .fed) (wellFormed (l .chars))
+line-read next l = by-test (ltb longestLine (length (l .chars))) (spells 16 (l .chars)
+    && l .fed) (wellFormed (l .chars))
   where
     by-test : (t u v : Bool) →
-        let r = if t then noFrame malformed else if u then (if v then carries (frameIn (l .chars)) else noFrame malformed) else noFrame notHex in
+        let r = if t then noFrame malformed else if u
+        then (if v then carries (frameIn (l .chars)) else noFrame malformed) else noFrame notHex in
         nameOfRead (lineAnswerOf (found r next)) ≡ readNamed r
     by-test true u v = refl
     by-test false true true = refl

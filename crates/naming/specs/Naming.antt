@@ -1,5 +1,6 @@
--- What a frame is named (the scope, "Frames"): EMPTY, SEARCH, ALARM, NOBODY, PAD or OTHER, with the code and the raw reading it shows, or the
--- refusal 14, 5, 6, 7, 11 or 20, the first of these that anything in the frame gives. EMPTY, NOBODY and OTHER give no refusal.
+-- What a frame is named (the scope, "Frames"): EMPTY, SEARCH, ALARM, NOBODY, PAD or OTHER, with the code and the raw
+-- reading it shows, or the refusal 14, 5, 6, 7, 11 or 20, the first of these that anything in the frame gives. EMPTY,
+-- NOBODY and OTHER give no refusal.
 --     nameNumber n           the number of a name, 1 to 6 in the scope's order
 --     named f                what a frame is named
 --     frameNumber f          the number of a frame's name; that of OTHER on a refusal
@@ -80,11 +81,13 @@ passSlots bytes = drop 8 (take 200 (bytesBits bytes))
 
 -- what the triples say: whether all are allowed, and then the code of their third bits
 abbrev pub passRead : List Bool → PassRead
-passRead ss = if triplesAllowed ss then record { allowed = true; code = numberOf (thirds ss) } else record { allowed = false; code = 0 }
+passRead ss = if triplesAllowed ss then record { allowed = true; code = numberOf (thirds ss) }
+    else record { allowed = false; code = 0 }
 
 -- a name with a code, which must be sound
 abbrev pub coded : Name → ℕ → Named
-coded n c = if eqb (codeRefusal c) accepted then record { refusal = accepted; name = n; code = c; raw = 0 } else refusedName (codeRefusal c)
+coded n c = if eqb (codeRefusal c) accepted then record { refusal = accepted; name = n; code = c; raw = 0 }
+    else refusedName (codeRefusal c)
 
 -- all triples are looked at before the code
 abbrev pub namedPass : Name → PassRead → Named
@@ -121,7 +124,8 @@ rawOf pad = getD pad readingLowPlace 0 + 256 * getD pad readingHighPlace 0
 
 -- the scratchpad's own judgement
 abbrev pub believed : ℕ → List ℕ → Judged → Named
-believed c pad j = if eqb (j .refusal) accepted then record { refusal = accepted; name = Pad; code = c; raw = rawOf pad } else refusedName (j .refusal)
+believed c pad j = if eqb (j .refusal) accepted
+    then record { refusal = accepted; name = Pad; code = c; raw = rawOf pad } else refusedName (j .refusal)
 
 -- 5 for the code's CRC or the scratchpad's, then 6, 7, 11 and 20, an unknown family of the code among the 7
 abbrev pub namedPad : ℕ → List ℕ → Named

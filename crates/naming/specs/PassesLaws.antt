@@ -1,5 +1,6 @@
--- How the frames of a search are named: a pass that lists a sound code is SEARCH or ALARM with that code, a search that nobody answers is NOBODY, and a
--- reset without presence is EMPTY. A frame is taken by its slots, as the master records them.
+-- How the frames of a search are named: a pass that lists a sound code is SEARCH or ALARM with that code, a search that
+-- nobody answers is NOBODY, and a reset without presence is EMPTY. A frame is taken by its slots, as the master records
+-- them.
 use Prim.Native.Nat.{ℕ, _<_, _≤_}
 use mathlib.Core.Path.{_≡_, refl, sym, ap, _∙_}
 use mathlib.Core.Bool.{Bool, true, false}
@@ -18,7 +19,8 @@ use Rattle.naming.specs.Naming.{named, plain, byteOf, searches, thirds, 
 use Rattle.naming.specs.Passes.{listsCode, PassListing}
 
 -- the first byte of a frame is what its first eight slots send
-first-byte : (command : ℕ) (ss : List Bool) (f : Frame) → command < 256 → Recorded (bitsOf 8 command ++ ss) f → byteOf f 0 ≡ command
+first-byte : (command : ℕ) (ss : List Bool) (f : Frame) → command < 256 → Recorded (bitsOf 8 command ++ ss) f
+    → byteOf f 0 ≡ command
 unfolding bytesBits
 first-byte command ss f h r = by-bytes (f .bits) refl
   where
@@ -29,8 +31,10 @@ first-byte command ss f h r = by-bytes (f .bits) refl
         let w : 8 ≤ f .count = omega arith in
         let small : b < 256 = rw e at (r .held .bytes 0) in
         let front : take 8 (slotsOf f) ≡ bitsOf 8 b =
-        take-take 8 (f .count) (bytesBits (f .bits)) w ∙ ap (λ (m : List ℕ). take 8 (bytesBits m)) e ∙ take-at (bitsOf 8 b) (bytesBits l) 8 (bits-length 8 b) in
-        let same : bitsOf 8 b ≡ bitsOf 8 command = sym front ∙ ap (take 8) (r .slots) ∙ take-at (bitsOf 8 command) ss 8 (bits-length 8 command) in
+        take-take 8 (f .count) (bytesBits (f .bits)) w ∙ ap (λ (m : List ℕ). take 8 (bytesBits m)) e
+        ∙ take-at (bitsOf 8 b) (bytesBits l) 8 (bits-length 8 b) in
+        let same : bitsOf 8 b ≡ bitsOf 8 command =
+        sym front ∙ ap (take 8) (r .slots) ∙ take-at (bitsOf 8 command) ss 8 (bits-length 8 command) in
         sym (number-bits 8 b small) ∙ ap numberOf same ∙ number-bits 8 command h
 
 module _ (code : ℕ) (ss : List Bool) (l : PassListing code ss) (f : Frame) where
@@ -41,7 +45,8 @@ module _ (code : ℕ) (ss : List Bool) (l : PassListing code ss) (f : Frame) whe
 
   pass-read : (command : ℕ) → Recorded (bitsOf 8 command ++ ss) f → passSlots (f .bits) ≡ ss
   pass-read command r =
-      ap (λ (k : ℕ). drop 8 (take k (bytesBits (f .bits)))) (sym (pass-count command r)) ∙ ap (drop 8) (r .slots) ∙ drop-at (bitsOf 8 command) ss 8 (bits-length 8 command)
+      ap (λ (k : ℕ). drop 8 (take k (bytesBits (f .bits)))) (sym (pass-count command r)) ∙ ap (drop 8) (r .slots)
+      ∙ drop-at (bitsOf 8 command) ss 8 (bits-length 8 command)
 
   code-read : numberOf (thirds ss) ≡ code
   code-read = ap numberOf (l .bits-are) ∙ number-bits 64 code (l .small)
@@ -50,13 +55,29 @@ module _ (code : ℕ) (ss : List Bool) (l : PassListing code ss) (f : Frame) whe
   pub search-named : Recorded (bitsOf 8 searchRom ++ ss) f → named f ≡ listsCode Search code
   unfolding named
   search-named r =
-      rw (r .shown, pass-count searchRom r, first-byte searchRom ss f (lit< tt) r, pass-read searchRom r, l .allowed, code-read, l .sound)
+      rw (
+        r .shown,
+        pass-count searchRom r,
+        first-byte searchRom ss f (lit< tt) r,
+        pass-read searchRom r,
+        l .allowed,
+        code-read,
+        l .sound,
+      )
 
   -- a pass of an alarm search is named ALARM with the code it lists
   pub alarm-named : Recorded (bitsOf 8 alarmSearch ++ ss) f → named f ≡ listsCode Alarm code
   unfolding named
   alarm-named r =
-      rw (r .shown, pass-count alarmSearch r, first-byte alarmSearch ss f (lit< tt) r, pass-read alarmSearch r, l .allowed, code-read, l .sound)
+      rw (
+        r .shown,
+        pass-count alarmSearch r,
+        first-byte alarmSearch ss f (lit< tt) r,
+        pass-read alarmSearch r,
+        l .allowed,
+        code-read,
+        l .sound,
+      )
 
 -- an alarm search that nobody answers
 pub nobody-named : (f : Frame) → Recorded (bitsOf 8 alarmSearch ++ (true ∷ true ∷ [])) f → named f ≡ plain Nobody

@@ -1,6 +1,6 @@
--- What is printed for one line of a recording (the scope, "Frames"): the name; for SEARCH, ALARM and PAD a space and the sixteen digits of the
--- code, high byte first; for PAD also a space and the four digits of the raw reading, byte 1 first; or REFUSED, a space and the number. A line
--- feed ends it.
+-- What is printed for one line of a recording (the scope, "Frames"): the name; for SEARCH, ALARM and PAD a space and
+-- the sixteen digits of the code, high byte first; for PAD also a space and the four digits of the raw reading, byte 1
+-- first; or REFUSED, a space and the number. A line feed ends it.
 --     word n                 the scope's word for a name
 --     detail n code raw      what stands behind the word
 --     refusedText n          REFUSED and the number
@@ -49,7 +49,8 @@ abbrev pub refusedText : ℕ → List ℕ
 refusedText n = refusedWord ++ decimal n
 
 abbrev pub described : Named → List ℕ
-described n = if eqb (n .refusal) accepted then word (n .name) ++ detail (n .name) (n .code) (n .raw) else refusedText (n .refusal)
+described n = if eqb (n .refusal) accepted then word (n .name) ++ detail (n .name) (n .code) (n .raw)
+    else refusedText (n .refusal)
 
 unfoldable pub printedName : Named → List ℕ
 printedName n = described n ++ (lineFeed ∷ [])

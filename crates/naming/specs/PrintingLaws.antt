@@ -23,7 +23,8 @@ use Rattle.naming.specs.declared.Name.the-variants.{Empty, Search, Alarm
 use Rattle.naming.specs.declared.Named.{Named}
 use Rattle.naming.specs.declared.printing.Text.{Text}
 use Rattle.text.specs.Lines.{space}
-use Rattle.naming.specs.Printing.{word, refusedWord, refusedText, detail, described, printedName, blankText, printedText}
+use Rattle.naming.specs.Printing.{word, refusedWord, refusedText, detail, described, printedName, blankText}
+use Rattle.naming.specs.Printing.{printedText}
 
 -- ## How long the details are
 
@@ -31,7 +32,8 @@ pub spaced-length : (n x : ℕ) → length (space ∷ hexDigits n x) ≡ suc n
 spaced-length n x = ap suc (digits-length 16 n x)
 
 pub pad-length : (code raw : ℕ) → length (detail Pad code raw) ≡ 22
-pad-length code raw = length-append (space ∷ hexDigits 16 code) (space ∷ hexDigits 4 raw) ∙ rw (digits-length 16 16 code, digits-length 16 4 raw)
+pad-length code raw = length-append (space ∷ hexDigits 16 code) (space ∷ hexDigits 4 raw)
+    ∙ rw (digits-length 16 16 code, digits-length 16 4 raw)
 
 -- nothing laid, by the place behind it
 pub place-none : (at : ℕ) → at ≡ at + 0
@@ -78,12 +80,14 @@ module _ (n : ℕ) (small : n < 256) where
         let size = laid-length s 0 refusedWord (omega arith) in
         let fits = behind in
         let room-left : 8 + length (decimal n) ≤ length (laid s 0 refusedWord) = omega arith in
-        rw (first, lay-fits (laid s 0 refusedWord) 8 (decimal n) room-left .0) (sym (length-append refusedWord (decimal n)))
+        rw (first, lay-fits (laid s 0 refusedWord) 8 (decimal n) room-left .0)
+        (sym (length-append refusedWord (decimal n)))
 
 pub described-length : (n : Named) → n .refusal < 256 → length (described n) ≤ 28
 described-length n small = by-test (eqb (n .refusal) accepted)
   where
-    by-test : (t : Bool) → length (if t then word (n .name) ++ detail (n .name) (n .code) (n .raw) else refusedText (n .refusal)) ≤ 28
+    by-test : (t : Bool) → length (if t then word (n .name) ++ detail (n .name) (n .code) (n .raw)
+        else refusedText (n .refusal)) ≤ 28
     by-test true =
         let w = word-length (n .name) in let d = detail-length (n .name) (n .code) (n .raw) in
         rw (length-append (word (n .name)) (detail (n .name) (n .code) (n .raw))) (omega arith)
@@ -117,7 +121,8 @@ module _ (s : List ℕ) (n : Named) (room : 28 ≤ length s) where
 
 -- ## A printed line in the front of 32 bytes
 
-pub text-made : (n : Named) → n .refusal < 256 → (s : List ℕ) (e : ℕ) → e ≡ length (described n) → s ≡ laid blankText 0 (described n)
+pub text-made : (n : Named) → n .refusal < 256 → (s : List ℕ) (e : ℕ) → e ≡ length (described n)
+    → s ≡ laid blankText 0 (described n)
     → _≡_ {A = Text} record { bytes = set s e lineFeed; count = e + 1 } (printedText n)
 unfolding printedName
 text-made n small s e k h =
@@ -126,12 +131,14 @@ text-made n small s e k h =
     let r : e < length blankText = omega arith in
     let b : set s e lineFeed ≡ laid blankText 0 (described n ++ (lineFeed ∷ [])) =
     rw h (laid-store blankText 0 (described n) lineFeed e p r) in
-    let c : e + 1 ≡ length (described n ++ (lineFeed ∷ [])) = rw (length-append (described n) (lineFeed ∷ [])) (omega arith) in
+    let c : e + 1 ≡ length (described n ++ (lineFeed ∷ [])) =
+    rw (length-append (described n) (lineFeed ∷ [])) (omega arith) in
     rw (b, c)
 
 pub printed-length : (n : Named) → n .refusal < 256 → length (printedName n) ≤ 29
 unfolding printedName
-printed-length n small = let l = described-length n small in rw (length-append (described n) (lineFeed ∷ [])) (omega arith)
+printed-length n small = let l = described-length n small in
+    rw (length-append (described n) (lineFeed ∷ [])) (omega arith)
 
 pub text-fits : (n : Named) → n .refusal < 256 → printedText n .count ≤ length (printedText n .bytes)
 text-fits n small =

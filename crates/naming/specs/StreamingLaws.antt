@@ -1,5 +1,5 @@
--- What printing adds to a text in pieces: a line's text takes at most ten bytes for each byte of the line, and 135 characters of a line tell what is
--- printed for it. So a recording in pieces prints what it prints as a whole.
+-- What printing adds to a text in pieces: a line's text takes at most ten bytes for each byte of the line, and 135
+-- characters of a line tell what is printed for it. So a recording in pieces prints what it prints as a whole.
 --     recording-cuts         the theorem
 use Prim.Native.Nat.{ℕ, _+_, _*_, _<_, _≤_}
 use mathlib.Core.Path.{_≡_, refl, sym, ap, _∙_}
@@ -36,9 +36,13 @@ refused-short n h =
     let one : length (decimal n) ≡ 1 = decimal-length n ∙ length-small n h in
     by-test (eqb n accepted) one
   where
-    by-test : (t : Bool) → length (decimal n) ≡ 1 → length ((if t then word Other ++ [] else refusedText n) ++ (lineFeed ∷ [])) ≤ 10
+    by-test : (t : Bool) → length (decimal n) ≡ 1
+        → length ((if t then word Other ++ [] else refusedText n) ++ (lineFeed ∷ [])) ≤ 10
     by-test true one = lit≤ tt
-    by-test false one = rw (length-append (refusedText n) (lineFeed ∷ []), length-append refusedWord (decimal n)) (omega arith)
+    by-test false one = rw (
+      length-append (refusedText n) (lineFeed ∷ []),
+      length-append refusedWord (decimal n),
+    ) (omega arith)
 
 pub text-short : Short printedLine mostPrinted
 text-short l h = by-reading (readLine l) refl
@@ -48,16 +52,20 @@ text-short l h = by-reading (readLine l) refl
     by-reading (carries f) e =
         let a = read-accepted l f e in
         let cs = l .chars in
-        let head = and-left (leb (presenceIn cs) 1 && eqb (length cs) (6 + 2 * bytesFor (slotCountIn cs))) (lineable (frameIn cs)) (a .formed) in
-        let size = eqb-true (length cs) (6 + 2 * bytesFor (slotCountIn cs)) (and-right (leb (presenceIn cs) 1) (eqb (length cs) (6 + 2 * bytesFor (slotCountIn cs))) head) in
+        let head = and-left (leb (presenceIn cs) 1
+        && eqb (length cs) (6 + 2 * bytesFor (slotCountIn cs))) (lineable (frameIn cs)) (a .formed) in
+        let size = eqb-true (length cs) (6 + 2 * bytesFor (slotCountIn cs))
+        (and-right (leb (presenceIn cs) 1) (eqb (length cs) (6 + 2 * bytesFor (slotCountIn cs))) head) in
         let w : width l ≡ length cs + 1 = rw (a .ended) in
         let k = printed-length (named f) (omega (arith, named-small f)) in
         omega arith
 
 -- ## Over-long lines print the same, whatever stands in them
 
-long-printed : (l : Line) → mostHeldOfRecording ≤ length (l .chars) → printedLine l ≡ printedName (refusedName malformed)
-long-printed l h = let k : longestLine < length (l .chars) = omega arith in ap (λ (r : LineContent). printedName (readNamed r)) (read-long l k)
+long-printed : (l : Line) → mostHeldOfRecording ≤ length (l .chars)
+    → printedLine l ≡ printedName (refusedName malformed)
+long-printed l h = let k : longestLine < length (l .chars) = omega arith in
+    ap (λ (r : LineContent). printedName (readNamed r)) (read-long l k)
 
 pub carried-tells : Enough printedLine mostHeldOfRecording
 carried-tells = record { some = lit< tt; same = λ l m a b agree fed. long-printed l a ∙ sym (long-printed m b) }

@@ -7,7 +7,8 @@ ghost use Rattle.basic_laws.specs.Laid.{laid};
 ghost use Rattle.text.specs.Digits.{hexDigits};
 ghost use Rattle.text.specs.Laying.{layAnswer, layLeaves};
 ghost use Rattle.text.specs.Lines.{space};
-ghost use Rattle.naming.specs.Printing.{word, detail, refusedText, described, printedName, printedLine, printedText};
+ghost use Rattle.naming.specs.Printing.{word, detail, refusedText, described, printedName, printedLine};
+ghost use Rattle.naming.specs.Printing.{printedText};
 use crate::Name;
 use crate::Named;
 use text::laying;
@@ -122,8 +123,10 @@ pub fn print_named(out: &mut [u8], at: usize, named: Named) -> Written
 // What is printed for a line, by its characters before the feed or the end and whether there is a
 // feed, written at a place.
 pub fn print_line(out: &mut [u8], at: usize, line: &[u8], fed: bool) -> Written
-    ensures answer { λ r. ⌜ r ≡ layAnswer (now (out .entry)) at (printedLine record { chars = now (line .entry); fed = fed }) ⌝ }
-    ensures written { λ r. ⌜ now (out .exit) ≡ layLeaves (now (out .entry)) at (printedLine record { chars = now (line .entry); fed = fed }) ⌝ }
+    ensures answer { λ r. ⌜ r ≡ layAnswer (now (out .entry)) at
+        (printedLine record { chars = now (line .entry); fed = fed }) ⌝ }
+    ensures written { λ r. ⌜ now (out .exit) ≡ layLeaves (now (out .entry)) at
+        (printedLine record { chars = now (line .entry); fed = fed }) ⌝ }
 {
     print_named(out, at, crate::name_line(line, fed))
 }

@@ -4,7 +4,8 @@ ghost use mathlib.Core.Path.{_≡_};
 ghost use Prim.Native.Nat.{_*_, _≤_};
 ghost use lib.ListN.{length};
 ghost use Rattle.basic_laws.specs.Laid.{laid};
-ghost use Rattle.pieces.specs.Pieces.{FeedWithin, saidWhole, feedAnswer, feedKept, feedWritten, finishAnswer, finishWritten};
+ghost use Rattle.pieces.specs.Pieces.{FeedWithin, saidWhole, feedAnswer, feedKept, feedWritten, finishAnswer};
+ghost use Rattle.pieces.specs.Pieces.{finishWritten};
 ghost use Rattle.pieces.specs.Walk.{Told};
 ghost use Rattle.naming.specs.Printing.{printedLine};
 ghost use Rattle.naming.specs.Streaming.{mostPrinted, mostHeldOfRecording};
@@ -42,9 +43,12 @@ fn print_whole(s: &[u8], out: &mut [u8]) -> Progress
 // One piece: the text of its whole lines, and what is carried over moved to the front. The buffer for
 // the text must have ten bytes for each byte of the piece.
 pub fn feed(s: &mut [u8], out: &mut [u8]) -> Fed
-    ensures answer { λ r. ⌜ (r ≡ feedAnswer printedLine mostPrinted mostHeldOfRecording (now (s .entry)) (now (out .entry))) × FeedWithin (now (s .entry)) (now (out .entry)) r ⌝ }
-    ensures kept { λ r. ⌜ now (s .exit) ≡ feedKept printedLine mostPrinted mostHeldOfRecording (now (s .entry)) (now (out .entry)) ⌝ }
-    ensures written { λ r. ⌜ now (out .exit) ≡ feedWritten printedLine mostPrinted mostHeldOfRecording (now (s .entry)) (now (out .entry)) ⌝ }
+    ensures answer { λ r. ⌜ (r ≡ feedAnswer printedLine mostPrinted mostHeldOfRecording (now (s .entry))
+        (now (out .entry))) × FeedWithin (now (s .entry)) (now (out .entry)) r ⌝ }
+    ensures kept { λ r. ⌜ now (s .exit) ≡ feedKept printedLine mostPrinted mostHeldOfRecording (now (s .entry))
+        (now (out .entry)) ⌝ }
+    ensures written { λ r. ⌜ now (out .exit) ≡ feedWritten printedLine mostPrinted mostHeldOfRecording (now (s .entry))
+        (now (out .entry)) ⌝ }
 {
     if out.len() / MOST_PRINTED < s.len() {
         return Fed {
@@ -64,8 +68,10 @@ pub fn feed(s: &mut [u8], out: &mut [u8]) -> Fed
 
 // The end of the recording: the text of what was carried over, a last line without a feed among it.
 pub fn finish(s: &[u8], out: &mut [u8]) -> Written
-    ensures answer { λ r. ⌜ (r ≡ finishAnswer printedLine mostPrinted (now (s .entry)) (now (out .entry))) × (r .next ≤ length (now (out .entry))) ⌝ }
-    ensures written { λ r. ⌜ now (out .exit) ≡ finishWritten printedLine mostPrinted (now (s .entry)) (now (out .entry)) ⌝ }
+    ensures answer { λ r. ⌜ (r ≡ finishAnswer printedLine mostPrinted (now (s .entry)) (now (out .entry)))
+        × (r .next ≤ length (now (out .entry))) ⌝ }
+    ensures written { λ r. ⌜ now (out .exit) ≡ finishWritten printedLine mostPrinted (now (s .entry))
+        (now (out .entry)) ⌝ }
 {
     if out.len() / MOST_PRINTED < s.len() {
         return Written {

@@ -1,12 +1,18 @@
--- How much noise a CRC can let pass, as one statement in five parts: `NoiseClaim`. Noise is a string of bits that is added to what was sent: a 1 turns the bit at its place.
+-- How much noise a CRC can let pass, as one statement in five parts: `NoiseClaim`. Noise is a string of bits that is
+-- added to what was sent: a 1 turns the bit at its place.
 --     Linear                         the CRC of the bitwise sum of two strings of equal length is the sum of their CRCs
---     Distance                       two different strings of equal length that both bring the register to zero: up to 127 bits they differ in at least four places, and at any
---                                    length not only within eight neighbours
---     polynomialAt i k               the polynomial X^8 + X^5 + X^4 + 1 as noise: its terms, the highest first, behind i bits and before k that stay
+--     Distance                       two different strings of equal length that both bring the register to zero: up to
+--                                    127 bits they differ in at least four places, and at any length not only within
+--                                    eight neighbours
+--     polynomialAt i k               the polynomial X^8 + X^5 + X^4 + 1 as noise: its terms, the highest first, behind
+--                                    i bits and before k that stay
 --     firstAndLast                   noise on 128 bits that turns the first and the last
---     Hides n noise                  this noise turns n bits of any string of its length and leaves the register as it was
---     Tight                          no larger number can be promised: the polynomial hides anywhere, four bits within nine neighbours; among 128 bits two can hide
---     Noticed X Is sent refusal      what this means for things of X, those that Is admits, that are sent as bits and may be refused with 5
+--     Hides n noise                  this noise turns n bits of any string of its length and leaves the register as it
+--                                    was
+--     Tight                          no larger number can be promised: the polynomial hides anywhere, four bits within
+--                                    nine neighbours; among 128 bits two can hide
+--     Noticed X Is sent refusal      what this means for things of X, those that Is admits, that are sent as bits and
+--                                    may be refused with 5
 --     NineBytes pad                  nine bytes, as `judge` takes them
 --     ScratchpadsNoticed             of scratchpads, by the refusal of `judged` for any family
 --     CodesNoticed                   of codes, by `codeRefusal`
@@ -34,7 +40,8 @@ Linear = (a b : List Bool) → length a ≡ length b → crcBits 0 (sum a b) ≡
 pub record Distance : Type 0 where
   pub four-places : (a b : List Bool) → length a ≡ length b → length a ≤ 127
       → crcBits 0 a ≡ 0 → crcBits 0 b ≡ 0 → (a ≡ b → ⊥) → 4 ≤ differences a b
-  pub no-burst : (a b : List Bool) → length a ≡ length b → crcBits 0 a ≡ 0 → crcBits 0 b ≡ 0 → (a ≡ b → ⊥) → OnlyWithin 8 a b → ⊥
+  pub no-burst : (a b : List Bool) → length a ≡ length b → crcBits 0 a ≡ 0 → crcBits 0 b ≡ 0 → (a ≡ b → ⊥)
+      → OnlyWithin 8 a b → ⊥
 
 -- ## Noise that hides
 
@@ -49,7 +56,8 @@ firstAndLast = true ∷ replicate 126 false ++ (true ∷ [])
 
 abbrev pub Hides : ℕ → List Bool → Type 0
 Hides n noise =
-    (a : List Bool) → length a ≡ length noise → (crcBits 0 (sum a noise) ≡ crcBits 0 a) × (differences a (sum a noise) ≡ n)
+    (a : List Bool) → length a ≡ length noise
+    → (crcBits 0 (sum a noise) ≡ crcBits 0 a) × (differences a (sum a noise) ≡ n)
 
 pub record Tight : Type 0 where
   pub polynomial-hides : (i k : ℕ) → Hides 4 (polynomialAt i k)

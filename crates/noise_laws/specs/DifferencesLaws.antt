@@ -57,14 +57,17 @@ plus-none : (t : Bool) → t ≡ plus t false
 plus-none true = refl
 plus-none false = refl
 
-pub ones-within : (k : ℕ) (a b : List Bool) (w : OnlyWithin k a b) (j : ℕ) → getD (sum a b) j false ≡ true → (w .0 ≤ j) × (j < w .0 + k)
+pub ones-within : (k : ℕ) (a b : List Bool) (w : OnlyWithin k a b) (j : ℕ) → getD (sum a b) j false ≡ true
+    → (w .0 ≤ j) × (j < w .0 + k)
 ones-within k a b w j t =
     let differ : getD a j false ≡ getD b j false → ⊥
     = λ same.
-    false≢true (sym (plus-self (getD b j false)) ∙ ap (λ (u : Bool). plus u (getD b j false)) (sym same) ∙ sym (sum-at a b j) ∙ t) in
+    false≢true (sym (plus-self (getD b j false)) ∙ ap (λ (u : Bool). plus u (getD b j false)) (sym same)
+    ∙ sym (sum-at a b j) ∙ t) in
     w .1 j differ
 
-pub sum-within : (k i : ℕ) (a n : List Bool) → ((j : ℕ) → getD n j false ≡ true → (i ≤ j) × (j < i + k)) → OnlyWithin k a (sum a n)
+pub sum-within : (k i : ℕ) (a n : List Bool) → ((j : ℕ) → getD n j false ≡ true → (i ≤ j) × (j < i + k))
+    → OnlyWithin k a (sum a n)
 sum-within k i a n h = (i, within)
   where
     within : (j : ℕ) → (getD a j false ≡ getD (sum a n) j false → ⊥) → (i ≤ j) × (j < i + k)
@@ -72,4 +75,5 @@ sum-within k i a n h = (i, within)
       where
         by-bit : (t : Bool) → getD n j false ≡ t → getD n j false ≡ true
         by-bit true e = e
-        by-bit false e = absurd (d (plus-none (getD a j false) ∙ ap (plus (getD a j false)) (sym e) ∙ sym (sum-at a n j)))
+        by-bit false e = absurd (d (plus-none (getD a j false) ∙ ap (plus (getD a j false)) (sym e)
+            ∙ sym (sum-at a n j)))

@@ -1,8 +1,11 @@
--- Two different strings of equal length that both bring the register to zero are apart: `distance`. So does their sum, whose ones are the differences; from there on the proofs speak of the
--- ones of one string. Leading zeros leave the register at zero, and trailing ones may be dropped (`quiet`), so that no place has to be named.
---     four-ones       up to 127 bits it has four ones at least: an even number (`even-ones`), and not two, for a first 1 makes the register the taps, a second must find it at 1, and none of the
---                     126 registers from the taps on is 1, which is the one computed test
---     neighbours      at any length they are not within eight neighbours: eight bits are a number below 256, which goes in as zeros do from that number, and only 0 comes to zero
+-- Two different strings of equal length that both bring the register to zero are apart: `distance`. So does their sum,
+-- whose ones are the differences; from there on the proofs speak of the ones of one string. Leading zeros leave the
+-- register at zero, and trailing ones may be dropped (`quiet`), so that no place has to be named.
+--     four-ones       up to 127 bits it has four ones at least: an even number (`even-ones`), and not two, for a first
+--                     1 makes the register the taps, a second must find it at 1, and none of the 126 registers from the
+--                     taps on is 1, which is the one computed test
+--     neighbours      at any length they are not within eight neighbours: eight bits are a number below 256, which goes
+--                     in as zeros do from that number, and only 0 comes to zero
 use Prim.Native.Nat.{ℕ, zero, suc, _+_, _<_, _≤_}
 use mathlib.Core.Path.{_≡_, refl, sym, ap, _∙_}
 use mathlib.Core.Bool.{Bool, true, false, not, _&&_, false≢true}
@@ -47,7 +50,8 @@ fewer (suc k) zero y h t = absurd (omega arith)
 fewer (suc k) (suc n) y h t = by-test (not (eqb y 1)) t (fewer k n (crcBit y false) (omega arith))
   where
     by-test : (u : Bool) → (u && never-one n (crcBit y false)) ≡ true
-        → (never-one n (crcBit y false) ≡ true → never-one k (crcBit y false) ≡ true) → (u && never-one k (crcBit y false)) ≡ true
+        → (never-one n (crcBit y false) ≡ true → never-one k (crcBit y false) ≡ true)
+        → (u && never-one k (crcBit y false)) ≡ true
     by-test true t f = f t
     by-test false t f = t
 
@@ -63,7 +67,8 @@ one-place y (false ∷ l) h t n e =
     let k : ones l ≡ 1 = omega arith in
     one-place (crcBit y false) l (crc-bit-lt y false h) (second (not (eqb y 1)) t) k (sym (crc-more y false l) ∙ e)
   where
-    second : (u : Bool) → (u && never-one (length l) (crcBit y false)) ≡ true → never-one (length l) (crcBit y false) ≡ true
+    second : (u : Bool) → (u && never-one (length l) (crcBit y false)) ≡ true
+        → never-one (length l) (crcBit y false) ≡ true
     second true t = t
     second false t = absurd (false≢true t)
 
@@ -103,14 +108,16 @@ short w h e =
     let z : x ≡ 0 = quiet x (bitsOf (length w) 0) lt (ones-zeros (length w)) fed in
     ap ones (sym same) ∙ ap (λ (y : ℕ). ones (bitsOf (length w) y)) z ∙ ones-zeros (length w)
 
-neighbours : (i : ℕ) (l : List Bool) → ((j : ℕ) → getD l j false ≡ true → (i ≤ j) × (j < i + 8)) → crcBits 0 l ≡ 0 → ones l ≡ 0
+neighbours : (i : ℕ) (l : List Bool) → ((j : ℕ) → getD l j false ≡ true → (i ≤ j) × (j < i + 8)) → crcBits 0 l ≡ 0
+    → ones l ≡ 0
 unfolding ones
 neighbours zero l h e =
     let parts = take-append-drop 8 l in
     let rest : ones (drop 8 l) ≡ 0
     = none-anywhere (drop 8 l) (λ (j : ℕ) (t : getD (drop 8 l) j false ≡ true).
     let k = h (8 + j) (sym (getD-drop 8 l j false) ∙ t) .1 in omega arith) in
-    let fed : crcBits (crcBits 0 (take 8 l)) (drop 8 l) ≡ 0 = sym (crc-append 0 (take 8 l) (drop 8 l)) ∙ ap (crcBits 0) parts ∙ e in
+    let fed : crcBits (crcBits 0 (take 8 l)) (drop 8 l) ≡ 0 =
+    sym (crc-append 0 (take 8 l) (drop 8 l)) ∙ ap (crcBits 0) parts ∙ e in
     let z = quiet (crcBits 0 (take 8 l)) (drop 8 l) (crc-lt 0 (take 8 l) (lit< tt)) rest fed in
     let m : length (take 8 l) ≤ 8 = omega (arith, length-take 8 l) in
     let front = short (take 8 l) m z in

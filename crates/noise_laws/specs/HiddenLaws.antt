@@ -1,5 +1,6 @@
--- What hides, so that no promise can be larger: noise that leaves the register at zero by itself is added to a string without moving its register (`hides`), and such are the polynomial anywhere
--- (`polynomial-hides`) and two bits with 126 between them: `tight`.
+-- What hides, so that no promise can be larger: noise that leaves the register at zero by itself is added to a string
+-- without moving its register (`hides`), and such are the polynomial anywhere (`polynomial-hides`) and two bits with
+-- 126 between them: `tight`.
 use Prim.Native.Nat.{ℕ, zero, suc, _+_, _-_, _<_, _≤_}
 use mathlib.Core.Path.{_≡_, refl, sym, ap, _∙_}
 use mathlib.Core.Bool.{Bool, true, false, false≢true}
@@ -91,6 +92,7 @@ pub tight : Tight
 unfolding crcBits fold ones
 tight = record {
   polynomial-hides = polynomial-hides;
-  nine-neighbours = λ i k a. sum-within _ i a (polynomialAt i k) (λ j t. let p = its-ones i k j t in (p .0, omega arith));
+  nine-neighbours = λ i k a. sum-within _ i a (polynomialAt i k) (λ j t. let p = its-ones i k j t in
+      (p .0, omega arith));
   two-hide = (refl, hides 2 firstAndLast refl refl);
 }

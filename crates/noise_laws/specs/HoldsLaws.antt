@@ -1,5 +1,7 @@
--- "The last byte is the CRC of what is before it" and "the register over everything ends at zero" are the same. Half of a byte is below 128 and the taps are not, so a register goes to zero by
--- a bit 0 only from 0, and by a bit 1 only from 1. So bits that are all 0 bring no other register than 0 to zero; and a byte goes in as eight zeros do, from the register with the byte added.
+-- "The last byte is the CRC of what is before it" and "the register over everything ends at zero" are the same. Half of
+-- a byte is below 128 and the taps are not, so a register goes to zero by a bit 0 only from 0, and by a bit 1 only from
+-- 1. So bits that are all 0 bring no other register than 0 to zero; and a byte goes in as eight zeros do, from the
+-- register with the byte added.
 --     from-zero, from-one           the one register that a bit 0, or a bit 1, brings to zero
 --     quiet                         bits that are all 0 bring no register but 0 to zero
 --     holds-bits, holds-bytes       bits, or bytes, followed by a byte
@@ -56,7 +58,8 @@ pub holds-bits : (l : List Bool) (x : ℕ) → x < 256 → (x ≡ crcBits 0 l) �
 holds-bits l x h =
     let c = crc-lt 0 l (lit< tt) in (
       λ (e : x ≡ crcBits 0 l). crc-append 0 l (bitsOf 8 x) ∙ own-byte (crcBits 0 l) x c e,
-      λ (e : crcBits 0 (l ++ bitsOf 8 x) ≡ 0). byte-own (crcBits 0 l) x c (omega arith) (sym (crc-append 0 l (bitsOf 8 x)) ∙ e),
+      λ (e : crcBits 0 (l ++ bitsOf 8 x) ≡ 0). byte-own (crcBits 0 l) x c (omega arith)
+          (sym (crc-append 0 l (bitsOf 8 x)) ∙ e),
     )
 
 pub holds-bytes : (l : List ℕ) (x : ℕ) → x < 256 → (x ≡ crcOf l) ↔ (crcOf (l ++ (x ∷ [])) ≡ 0)

@@ -1,8 +1,11 @@
--- Noise on the wire, over bits in the order in which they are sent: those of a scratchpad are `bytesBits`, byte 0 first and each byte from its lowest bit, so that bit 7 of a
--- byte and bit 0 of the next are neighbours; those of a code are `codeBits`.
---     differences a b      in how many places two strings of equal length differ: how many bits were turned if a was sent and b was heard
+-- Noise on the wire, over bits in the order in which they are sent: those of a scratchpad are `bytesBits`, byte 0 first
+-- and each byte from its lowest bit, so that bit 7 of a byte and bit 0 of the next are neighbours; those of a code are
+-- `codeBits`.
+--     differences a b      in how many places two strings of equal length differ: how many bits were turned if a was
+--                          sent and b was heard
 --     OnlyWithin k a b     every place where they differ is one of k neighbours i, i + 1, .., i + k - 1, for some i
---     Slight a b           slight noise: one, two or three bits turned, or a burst, that is at least one and all within eight neighbours
+--     Slight a b           slight noise: one, two or three bits turned, or a burst, that is at least one and all within
+--                          eight neighbours
 use Prim.Native.Nat.{ℕ, _+_, _<_, _≤_}
 use mathlib.Core.Path.{_≡_}
 use mathlib.Core.Bool.{Bool, false, Bool·beq}

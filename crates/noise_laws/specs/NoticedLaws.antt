@@ -1,5 +1,6 @@
--- Noise on what is sent as bits and refused with 5 where its CRC does not hold. First for anything whose test is "the register over all its bits ends at zero" (`notices`), then that the tests of a
--- scratchpad and of a code are that (`pad-held`, `code-held`): the byte tested is the last, and no other refusal of `judged` or `codeRefusal` is 5.
+-- Noise on what is sent as bits and refused with 5 where its CRC does not hold. First for anything whose test is "the
+-- register over all its bits ends at zero" (`notices`), then that the tests of a scratchpad and of a code are that
+-- (`pad-held`, `code-held`): the byte tested is the last, and no other refusal of `judged` or `codeRefusal` is 5.
 use Prim.Native.Nat.{ℕ, _+_, _*_, _/_, _%_, _^_, _<_, _≤_}
 use mathlib.Core.Path.{_≡_, refl, sym, ap, _∙_}
 use mathlib.Core.Bool.{Bool, true, false, not}
@@ -31,8 +32,10 @@ use Rattle.noise_laws.specs.Noise.{Slight, few, burst}
 
 -- ## Anything whose test is the register
 
-slight-noticed : (a b : List Bool) → length a ≡ length b → length a ≤ 127 → Slight a b → crcBits 0 a ≡ 0 → crcBits 0 b ≡ 0 → ⊥
-slight-noticed a b s h (few one three) e f = let k = distance .four-places a b s h e f (differ-somewhere a b (omega arith)) in omega arith
+slight-noticed : (a b : List Bool) → length a ≡ length b → length a ≤ 127 → Slight a b → crcBits 0 a ≡ 0
+    → crcBits 0 b ≡ 0 → ⊥
+slight-noticed a b s h (few one three) e f = let k =
+    distance .four-places a b s h e f (differ-somewhere a b (omega arith)) in omega arith
 slight-noticed a b s h (burst one within) e f = distance .no-burst a b s e f (differ-somewhere a b (omega arith)) within
 
 -- a number that cannot be other than n is n
@@ -54,11 +57,13 @@ module _ (X : Type 0) (Is : X → Type 0) (sent : X → List Bool) (refusal : X 
       held = held;
       noticed = λ x y p q r s.
           is-number (refusal y) wrongCrc (λ (t : refusal y ≡ wrongCrc → ⊥).
-          slight-noticed (sent x) (sent y) (long x p ∙ sym (long y q)) (omega (arith, long x p)) s (held x p .0 r) (held y q .0 t));
+          slight-noticed (sent x) (sent y) (long x p
+          ∙ sym (long y q)) (omega (arith, long x p)) s (held x p .0 r) (held y q .0 t));
       apart = λ x y p q r t d.
           let other : sent x ≡ sent y → ⊥ = λ (e : sent x ≡ sent y). d (same x y p q e) in
           let l = long x p ∙ sym (long y q) in (
-            (let f = distance .four-places (sent x) (sent y) l (omega (arith, long x p)) (held x p .0 r) (held y q .0 t) other in omega arith),
+            (let f = distance .four-places (sent x) (sent y) l (omega (arith, long x p)) (held x p .0 r) (held y q .0 t)
+                other in omega arith),
             distance .no-burst (sent x) (sent y) l (held x p .0 r) (held y q .0 t) other,
           );
       hidden = λ x y i k p q l e r.
@@ -74,13 +79,16 @@ crc-right-zero : (pad : List ℕ) → NineBytes pad → (crcRight pad ≡ true) 
 unfolding crcOf
 crc-right-zero pad p =
     let same = holds-bytes (take 8 pad) (getD pad 8 0) (p .bytes 8) in (
-      λ (e : crcRight pad ≡ true). ap crcOf (sym (last-byte pad (p .nine))) ∙ same .0 (eqb-true (getD pad 8 0) (crcOf (take 8 pad)) e),
-      λ (e : crcBits 0 (bytesBits pad) ≡ 0). eq-eqb (getD pad 8 0) (crcOf (take 8 pad)) (same .1 (ap crcOf (last-byte pad (p .nine)) ∙ e)),
+      λ (e : crcRight pad ≡ true). ap crcOf (sym (last-byte pad (p .nine)))
+          ∙ same .0 (eqb-true (getD pad 8 0) (crcOf (take 8 pad)) e),
+      λ (e : crcBits 0 (bytesBits pad) ≡ 0). eq-eqb (getD pad 8 0) (crcOf (take 8 pad))
+          (same .1 (ap crcOf (last-byte pad (p .nine)) ∙ e)),
     )
 
 -- past the test of the CRC no refusal is 5
 later-not-five : (z k r c : Bool) (j : Judged) → j .refusal ≡ accepted
-    → (if z then refusedPad allZero else if not k then refusedPad wrongKind else if not r then refusedPad outOfRange else if not c then refusedPad wrongCounts else j) .refusal ≡ wrongCrc
+    → (if z then refusedPad allZero else if not k then refusedPad wrongKind else if not r then refusedPad outOfRange
+    else if not c then refusedPad wrongCounts else j) .refusal ≡ wrongCrc
     → ⊥
 later-not-five true k r c j a e = omega arith
 later-not-five false false r c j a e = omega arith
@@ -100,7 +108,8 @@ wrong-five : (family : ℕ) (pad : List ℕ) → crcRight pad ≡ false → judg
 unfolding judged
 wrong-five family pad r = rw r
 
-pad-held : (family : ℕ) (pad : List ℕ) → NineBytes pad → (judged family pad .refusal ≡ wrongCrc → ⊥) ↔ (crcBits 0 (bytesBits pad) ≡ 0)
+pad-held : (family : ℕ) (pad : List ℕ) → NineBytes pad
+    → (judged family pad .refusal ≡ wrongCrc → ⊥) ↔ (crcBits 0 (bytesBits pad) ≡ 0)
 pad-held family pad p =
     let same = crc-right-zero pad p in (
       λ (j : judged family pad .refusal ≡ wrongCrc → ⊥). same .0 (by-test j (crcRight pad) refl),
@@ -122,7 +131,8 @@ scratchpads-noticed family =
 -- ## Codes
 
 byte-bits : (x : ℕ) → bitsOf 8 (x % 256) ≡ bitsOf 8 x
-byte-bits x = let e : x / 256 * 2 ^ 8 + x % 256 ≡ x = omega arith in sym (bits-block 8 (x / 256) (x % 256)) ∙ ap (bitsOf 8) e
+byte-bits x = let e : x / 256 * 2 ^ 8 + x % 256 ≡ x = omega arith in
+    sym (bits-block 8 (x / 256) (x % 256)) ∙ ap (bitsOf 8) e
 
 code-parts : (c : ℕ) → bitsOf 56 c ++ bitsOf 8 (crcByteOf c) ≡ codeBits c
 code-parts c = ap (λ (t : List Bool). bitsOf 56 c ++ t) (byte-bits (c / 2 ^ 56)) ∙ sym (bits-append 56 8 c)
@@ -135,8 +145,10 @@ code-right-zero c =
     let small : crcByteOf c < 256 = omega arith in
     let same = holds-bits (bitsOf 56 c) (crcByteOf c) small in
     let parts = code-parts c in (
-      λ (e : codeRight c ≡ true). ap (crcBits 0) (sym parts) ∙ same .0 (eqb-true (crcByteOf c) (crcBits 0 (bitsOf 56 c)) e),
-      λ (e : crcBits 0 (codeBits c) ≡ 0). eq-eqb (crcByteOf c) (crcBits 0 (bitsOf 56 c)) (same .1 (ap (crcBits 0) parts ∙ e)),
+      λ (e : codeRight c ≡ true). ap (crcBits 0) (sym parts)
+          ∙ same .0 (eqb-true (crcByteOf c) (crcBits 0 (bitsOf 56 c)) e),
+      λ (e : crcBits 0 (codeBits c) ≡ 0). eq-eqb (crcByteOf c) (crcBits 0 (bitsOf 56 c))
+          (same .1 (ap (crcBits 0) parts ∙ e)),
     )
 
 code-right-not-five : (c : ℕ) → codeRight c ≡ true → codeRefusal c ≡ wrongCrc → ⊥

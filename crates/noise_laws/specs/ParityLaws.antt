@@ -1,5 +1,6 @@
--- One and three turned bits: X + 1 divides the polynomial. The taps have three ones, so each bit fed changes the parity of the register's ones exactly where it is a 1, and bits that bring
--- the register from zero to zero have an even number of ones.
+-- One and three turned bits: X + 1 divides the polynomial. The taps have three ones, so each bit fed changes the parity
+-- of the register's ones exactly where it is a 1, and bits that bring the register from zero to zero have an even
+-- number of ones.
 --     weight r                      the ones of a register
 --     step-parity, crc-parity       one bit fed, any bits fed
 --     even-ones                     bits that bring the register from zero to zero
@@ -35,7 +36,8 @@ no-higher (suc n) x h =
 
 half-weight : (r : ℕ) → r < 256 → weight r ≡ bitNumber (odd r) + weight (r / 2)
 unfolding ones bitsOf
-half-weight r h = let k : r / 2 < 2 ^ 7 = omega arith in ap (λ (m : ℕ). bitNumber (odd r) + m) (sym (no-higher 7 (r / 2) k))
+half-weight r h = let k : r / 2 < 2 ^ 7 = omega arith in
+    ap (λ (m : ℕ). bitNumber (odd r) + m) (sym (no-higher 7 (r / 2) k))
 
 taps-weight : weight taps ≡ 3
 unfolding ones bitsOf

@@ -8,7 +8,8 @@ use mathlib.Core.List.{List, [], _∷_}
 use lib.ListN.{getD}
 
 abbrev pub eightAt : List ℕ → ℕ → List ℕ
-eightAt l i = getD l i 0 ∷ getD l (i + 1) 0 ∷ getD l (i + 2) 0 ∷ getD l (i + 3) 0 ∷ getD l (i + 4) 0 ∷ getD l (i + 5) 0 ∷ getD l (i + 6) 0 ∷ getD l (i + 7) 0 ∷ []
+eightAt l i = getD l i 0 ∷ getD l (i + 1) 0 ∷ getD l (i + 2) 0 ∷ getD l (i + 3) 0 ∷ getD l (i + 4) 0 ∷ getD l (i + 5) 0
+    ∷ getD l (i + 6) 0 ∷ getD l (i + 7) 0 ∷ []
 
 unfoldable pub bytesLowFirst : ℕ → ℕ → List ℕ
 bytesLowFirst zero x = []

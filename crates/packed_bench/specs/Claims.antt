@@ -1,5 +1,6 @@
 -- What holds of a bench in a table (request E12), as claims; `ClaimsLaws` proves them.
---     TableClaim     a bench packed unpacks to itself; accepted bytes pack back to themselves, and are those of records; 22 is for bytes that no records pack to
+--     TableClaim     a bench packed unpacks to itself; accepted bytes pack back to themselves, and are those of
+--                    records; 22 is for bytes that no records pack to
 use Prim.Native.Nat.{ℕ, _<_, _≤_}
 use mathlib.Core.List.{List}
 use mathlib.Core.Path.{_≡_}
@@ -20,5 +21,7 @@ pub record Records (b : Bench) : Type 0 where
 pub record TableClaim : Type 0 where
   pub bench-back : (b : Bench) (t : List ℕ) → Records b → tableBytes ≤ length t → unpacked (packedInto t b) ≡ held b
   pub bytes-back : (t : List ℕ) → unpacked t .refusal ≡ accepted → packedInto t (unpacked t .bench) ≡ t
-  pub of-records : (t : List ℕ) → ((i : ℕ) → getD t i 0 < 256) → unpacked t .refusal ≡ accepted → Records (unpacked t .bench)
-  pub of-none : (t : List ℕ) → unpacked t .refusal ≡ notATable → (b : Bench) → Records b → tableOf 32 (live b) ≡ take tableBytes t → ⊥
+  pub of-records : (t : List ℕ) → ((i : ℕ) → getD t i 0 < 256) → unpacked t .refusal ≡ accepted
+      → Records (unpacked t .bench)
+  pub of-none : (t : List ℕ) → unpacked t .refusal ≡ notATable → (b : Bench) → Records b
+      → tableOf 32 (live b) ≡ take tableBytes t → ⊥

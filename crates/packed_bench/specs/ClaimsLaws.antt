@@ -1,7 +1,8 @@
 -- The claims of a bench in a table.
 use native.Mathlib.Omega.{arith}
 use Rattle.bench.specs.Bench.{live}
-use Rattle.packed_bench.specs.TableLaws.{live-length, tabled-fits, unpack-pack, pack-unpack, unpacked-tabled, unpacked-typed, refused-none}
+use Rattle.packed_bench.specs.TableLaws.{live-length, tabled-fits, unpack-pack, pack-unpack, unpacked-tabled}
+use Rattle.packed_bench.specs.TableLaws.{unpacked-typed, refused-none}
 use Rattle.packed_bench.specs.Claims.{TableClaim}
 
 pub table-claim : TableClaim

@@ -12,7 +12,8 @@ use Rattle.device.specs.declared.Device.{Device}
 use Rattle.packed_bench.specs.Bytes.{bytesLowFirst, codeBytes}
 use Rattle.packed_bench.specs.BytesLaws.{code-back, code-below, eight-whole}
 use Rattle.packed_bench.specs.Parts.{truthByte, powerByte, stageCase, activityCase}
-use Rattle.packed_bench.specs.PartsLaws.{truth-back, power-back, reading-back, reading-in, stage-back, activity-back}
+use Rattle.packed_bench.specs.PartsLaws.{truth-back, power-back, reading-back, reading-in, stage-back}
+use Rattle.packed_bench.specs.PartsLaws.{activity-back}
 use Rattle.packed_bench.specs.Packed.{caseBytes, settingsBytes, pageBytes, packedDevice, fieldsOf}
 use Rattle.packed_bench.specs.Types.{InTypes}
 
@@ -25,7 +26,8 @@ pub packed-laid : (d : Device) → length (d .scratchpad) ≡ 8 →
     let coded = laid (replicate 48 0) 0 (codeBytes (d .code)) in
     let padded = laid coded 8 (d .scratchpad) in
     let staged = laid padded 16 (caseBytes (stageCase (d .stage)) ++ caseBytes (activityCase (d .activity))) in
-    let kept = laid staged 24 (settingsBytes (d .eeprom) ++ (powerByte (d .power) ∷ truthByte (d .alarm) ∷ 0 ∷ 0 ∷ 0 ∷ [])) in
+    let kept = laid staged 24 (settingsBytes (d .eeprom)
+    ++ (powerByte (d .power) ∷ truthByte (d .alarm) ∷ 0 ∷ 0 ∷ 0 ∷ [])) in
     laid kept 29 (pageBytes (d .page) ++ (d .pins ∷ 0 ∷ [])) ≡ packedDevice d
 unfolding laid packedDevice bytesLowFirst
 packed-laid d whole = rw (← eight-whole (d .scratchpad) whole)

@@ -29,18 +29,21 @@ pub copy-more : (e s : List ℕ) (i : ℕ) → i < length e → i < length s →
     → take (i + 1) (set e i (getD s i 0)) ≡ take (i + 1) s
 copy-more e s i h k p = rw (add-one i, take-suc-set e i (getD s i 0) h, take-suc s i 0 k, p)
 
-each-next : {A : Type 0} (P : A → Type 0) (l : List A) (i : ℕ) (z : A) → (i < length l → P (getD l i z)) → Each P (take i l) → Each P (take (suc i) l)
+each-next : {A : Type 0} (P : A → Type 0) (l : List A) (i : ℕ) (z : A) → (i < length l → P (getD l i z))
+    → Each P (take i l) → Each P (take (suc i) l)
 each-next P [] i z h e = tt
 each-next P (x ∷ l) zero z h e = (h (omega arith), tt)
 each-next P (x ∷ l) (suc i) z h e = (e .0, each-next P l i z (λ k. h (omega arith)) (e .1))
 
-pub each-more : {A : Type 0} (P : A → Type 0) (l : List A) (i : ℕ) (z : A) → (i < length l → P (getD l i z)) → Each P (take i l) → Each P (take (i + 1) l)
+pub each-more : {A : Type 0} (P : A → Type 0) (l : List A) (i : ℕ) (z : A) → (i < length l → P (getD l i z))
+    → Each P (take i l) → Each P (take (i + 1) l)
 each-more P l i z h e = rw (add-one i) (each-next P l i z h e)
 
 -- ## The entry of one place
 
 module _ (devices : List Device) (count place : ℕ) where
-  pub entry-there : (z : Device) → place < count → place < length devices → packedDevice (getD devices place z) ≡ entryBytes (drop place (take count devices))
+  pub entry-there : (z : Device) → place < count → place < length devices
+      → packedDevice (getD devices place z) ≡ entryBytes (drop place (take count devices))
   entry-there z h k =
       let few = length-take count devices in
       let l : place < length (take count devices) = omega arith in
@@ -55,14 +58,16 @@ module _ (devices : List Device) (count place : ℕ) where
 -- ## Writing, entry by entry: what stands there with the rest laid behind it is the whole
 
 pub table-turn : (t : List ℕ) (ds : List Device) (i : ℕ) → i < 32 → 48 * i + 48 ≤ length t
-    → laid t (48 * i) (tableOf (32 - i) (drop i ds)) ≡ laid (laid t (48 * i) (entryBytes (drop i ds))) (48 * (i + 1)) (tableOf (32 - (i + 1)) (drop (i + 1) ds))
+    → laid t (48 * i) (tableOf (32 - i) (drop i ds))
+    ≡ laid (laid t (48 * i) (entryBytes (drop i ds))) (48 * (i + 1)) (tableOf (32 - (i + 1)) (drop (i + 1) ds))
 unfolding tableOf
 table-turn t ds i h room =
     let n : 32 - i ≡ suc (32 - (i + 1)) = omega arith in
     let e = entry-length (drop i ds) in
     let at : 48 * i + length (entryBytes (drop i ds)) ≡ 48 * (i + 1) = omega arith in
     let l : 48 * (i + 1) ≤ length t = omega arith in
-    rw n (rw (drop-drop 1 i ds) (sym (laid-then t (48 * i) (entryBytes (drop i ds)) (tableOf (32 - (i + 1)) (drop (i + 1) ds)) (48 * (i + 1)) at l)))
+    rw n (rw (drop-drop 1 i ds) (sym (laid-then t (48 * i) (entryBytes (drop i ds))
+    (tableOf (32 - (i + 1)) (drop (i + 1) ds)) (48 * (i + 1)) at l)))
 
 pub table-end : (t : List ℕ) (ds : List Device) (i : ℕ) → i ≡ 32 → laid t (48 * i) (tableOf (32 - i) (drop i ds)) ≡ t
 unfolding tableOf
@@ -78,12 +83,14 @@ laid-whole t ds long =
 
 -- ## Reading, entry by entry: the devices so far and those of the entries that are left
 
-module _ (t : List ℕ) (devices : List Device) (i : ℕ) (d : Device) (is : d ≡ fieldsOf (take 48 (drop (48 * i) t))) (h : i < 32) where
+module _ (t : List ℕ) (devices : List Device) (i : ℕ) (d : Device) (is : d
+    ≡ fieldsOf (take 48 (drop (48 * i) t))) (h : i < 32) where
   next : 32 - i ≡ suc (32 - (i + 1))
   next = omega arith
 
   pub read-turn : length devices ≡ 32 → (d .code ≡ 0 → ⊥)
-      → take i devices ++ devicesIn (32 - i) (drop (48 * i) t) ≡ take (i + 1) (set devices i d) ++ devicesIn (32 - (i + 1)) (drop (48 * (i + 1)) t)
+      → take i devices ++ devicesIn (32 - i) (drop (48 * i) t)
+      ≡ take (i + 1) (set devices i d) ++ devicesIn (32 - (i + 1)) (drop (48 * (i + 1)) t)
   unfolding devicesIn
   read-turn long used =
       let k : i < length devices = omega arith in
@@ -95,7 +102,8 @@ module _ (t : List ℕ) (devices : List Device) (i : ℕ) (d : Device) (is : d �
   unfolding devicesIn
   read-stop none = rw (next, ← is, eq-eqb (d .code) 0 none) (append-nil (take i devices))
 
-pub read-end : (t : List ℕ) (devices : List Device) (i : ℕ) → i ≡ 32 → take i devices ++ devicesIn (32 - i) (drop (48 * i) t) ≡ take i devices
+pub read-end : (t : List ℕ) (devices : List Device) (i : ℕ) → i ≡ 32
+    → take i devices ++ devicesIn (32 - i) (drop (48 * i) t) ≡ take i devices
 unfolding devicesIn
 read-end t devices i e = let n : 32 - i ≡ 0 = omega arith in rw n (append-nil (take i devices))
 
@@ -104,9 +112,11 @@ pub vacant-turn : (devices : List Device) (i : ℕ) (d : Device) → i < 32 → 
     → drop (i + 1) (set devices i d) ≡ replicate (32 - (i + 1)) vacant
 vacant-turn devices i d h e =
     let n : 32 - i - 1 ≡ 32 - (i + 1) = omega arith in
-    drop-set-lt (i + 1) devices i d (omega arith) ∙ sym (drop-drop 1 i devices) ∙ ap (drop 1) e ∙ drop-replicate 1 (32 - i) vacant ∙ rw n refl
+    drop-set-lt (i + 1) devices i d (omega arith) ∙ sym (drop-drop 1 i devices) ∙ ap (drop 1) e
+    ∙ drop-replicate 1 (32 - i) vacant ∙ rw n refl
 
-pub bench-read : (devices : List Device) (i : ℕ) → i ≤ 32 → length devices ≡ 32 → drop i devices ≡ replicate (32 - i) vacant
+pub bench-read : (devices : List Device) (i : ℕ) → i ≤ 32 → length devices ≡ 32
+    → drop i devices ≡ replicate (32 - i) vacant
     → benchOf (take i devices) ≡ record { devices = devices; count = i }
 bench-read devices i h long rest =
     let k : i ≤ length devices = omega arith in
@@ -119,11 +129,13 @@ module _ (ds : List Device) (i : ℕ) (z : Device) (h : i < length ds) where
   unfolding codesFit
   codes-unsound e = rw (drop-cons ds i z h, e)
 
-  pub codes-twice : sound (getD ds i z .code) ≡ true → absent (getD ds i z .code) (drop (i + 1) ds) ≡ false → codesFit (drop i ds) ≡ false
+  pub codes-twice : sound (getD ds i z .code) ≡ true → absent (getD ds i z .code) (drop (i + 1) ds) ≡ false
+      → codesFit (drop i ds) ≡ false
   unfolding codesFit
   codes-twice e n = let n' = rw (add-one i) at n in rw (drop-cons ds i z h, e, n')
 
-  pub codes-onward : sound (getD ds i z .code) ≡ true → absent (getD ds i z .code) (drop (i + 1) ds) ≡ true → codesFit (drop i ds) ≡ codesFit (drop (i + 1) ds)
+  pub codes-onward : sound (getD ds i z .code) ≡ true → absent (getD ds i z .code) (drop (i + 1) ds) ≡ true
+      → codesFit (drop i ds) ≡ codesFit (drop (i + 1) ds)
   unfolding codesFit
   codes-onward e n = let n' = rw (add-one i) at n in rw (drop-cons ds i z h, e, n', add-one i)
 

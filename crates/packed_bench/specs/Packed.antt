@@ -1,8 +1,8 @@
 -- One device as 48 bytes, the layout of docs/TABLE.md.
 --     packedDevice d         the bytes of d: each field its own, then zeros
 --     fieldsOf t             the record that is read from bytes, whatever they are
--- The places: 0 the code, 8 the scratchpad, 16 the stage, 20 the activity, 24 the settings in EEPROM, 27 the power, 28 the alarm
--- flag, 29 the page (taken, unit, register, high, low), 35 the pins, 36 to 47 zeros.
+-- The places: 0 the code, 8 the scratchpad, 16 the stage, 20 the activity, 24 the settings in EEPROM, 27 the power, 28
+-- the alarm flag, 29 the page (taken, unit, register, high, low), 35 the pins, 36 to 47 zeros.
 use Prim.Native.Nat.{ℕ, _+_}
 use mathlib.Core.Bool.{Bool}
 use mathlib.Core.List.{List, [], _∷_, _++_}
@@ -14,7 +14,8 @@ use Rattle.device.specs.declared.Device.{Device}
 use Rattle.device.specs.declared.Page.{Page}
 use Rattle.device.specs.declared.Settings.{Settings}
 use Rattle.packed_bench.specs.Bytes.{eightAt, codeBytes, codeFromBytes}
-use Rattle.packed_bench.specs.Parts.{truthByte, powerByte, powerOf, unitByte, readingFrom, caseOf, stageCase, stageOf, activityCase, activityOf}
+use Rattle.packed_bench.specs.Parts.{truthByte, powerByte, powerOf, unitByte, readingFrom, caseOf, stageCase}
+use Rattle.packed_bench.specs.Parts.{stageOf, activityCase, activityOf}
 use Rattle.packed_bench.specs.declared.record_parts.Case.{Case}
 
 abbrev pub caseBytes : Case → List ℕ
@@ -58,7 +59,12 @@ abbrev pub readingAt : List ℕ → ℕ → Reading
 readingAt t i = readingFrom (getD t i 0) (getD t (i + 1) 0) (getD t (i + 2) 0)
 
 abbrev pub pageInBytes : List ℕ → ℕ → Page
-pageInBytes t i = record { taken = truthAt t i; reading = readingAt t (i + 1); high = getD t (i + 4) 0; low = getD t (i + 5) 0 }
+pageInBytes t i = record {
+  taken = truthAt t i;
+  reading = readingAt t (i + 1);
+  high = getD t (i + 4) 0;
+  low = getD t (i + 5) 0;
+}
 
 unfoldable pub fieldsOf : List ℕ → Device
 fieldsOf t = record {

@@ -1,9 +1,12 @@
 -- The parts of a device's record as bytes, and the part that bytes hold.
---     truthByte t, powerByte p, phaseByte p, unitByte r      one byte: the number of the case, in the order of the enum; a truth is 1
---     stageCase s, activityCase a                            four bytes: the number of the case, and the numbers that it holds, with 0 after them
---     powerOf, phaseOf, unitAt, stageOf, activityOf          back: a number past the last case is taken as the last one, and what a case
---                                                            does not hold is not looked at
---     readingFrom u low high                                 the reading of a unit's number and the two bytes of a register, all sixteen bits of them
+--     truthByte t, powerByte p, phaseByte p, unitByte r      one byte: the number of the case, in the order of the
+--                                                            enum; a truth is 1
+--     stageCase s, activityCase a                            four bytes: the number of the case, and the numbers that
+--                                                            it holds, with 0 after them
+--     powerOf, phaseOf, unitAt, stageOf, activityOf          back: a number past the last case is taken as the last
+--                                                            one, and what a case does not hold is not looked at
+--     readingFrom u low high                                 the reading of a unit's number and the two bytes of a
+--                                                            register, all sixteen bits of them
 -- Laws `..-back` in PartsLaws: each part comes back from its bytes.
 use Prim.Native.Nat.{ℕ}
 use mathlib.Core.Bool.{Bool, true, false}
@@ -21,7 +24,8 @@ use Rattle.device.specs.declared.Phase.the-variants.{SendBit, SendComplement, T
 use Rattle.device.specs.declared.Power.{Power}
 use Rattle.device.specs.declared.Power.the-variants.{Line, External}
 use Rattle.device.specs.declared.Stage.{Stage}
-use Rattle.device.specs.declared.Stage.the-variants.{AwaitRom, SendRom, Match, Search, AwaitFunction, TakeSettings, SendScratchpad, SendStatus, SendPower, Quiet}
+use Rattle.device.specs.declared.Stage.the-variants.{AwaitRom, SendRom, Match, Search, AwaitFunction, TakeSettings}
+use Rattle.device.specs.declared.Stage.the-variants.{SendScratchpad, SendStatus, SendPower, Quiet}
 use Rattle.packed_bench.specs.declared.record_parts.Case.{Case}
 
 abbrev pub truthByte : Bool → ℕ
@@ -71,7 +75,8 @@ stageCase Quiet = caseOf 9 0 0 0
 -- by its number, the stages but the last
 abbrev pub stages : ℕ → ℕ → ℕ → List Stage
 stages a b c =
-    AwaitRom a b ∷ SendRom a ∷ Match a ∷ Search a (phaseOf b) ∷ AwaitFunction a b ∷ TakeSettings a b c ∷ SendScratchpad a b ∷ SendStatus ∷ SendPower ∷ []
+    AwaitRom a b ∷ SendRom a ∷ Match a ∷ Search a (phaseOf b) ∷ AwaitFunction a b ∷ TakeSettings a b c
+    ∷ SendScratchpad a b ∷ SendStatus ∷ SendPower ∷ []
 
 abbrev pub stageOf : Case → Stage
 stageOf x = getD (stages (x .1) (x .2) (x .3)) (x .0) Quiet

@@ -23,8 +23,10 @@ use Rattle.device.specs.declared.Phase.the-variants.{SendBit, SendComplement, T
 use Rattle.device.specs.declared.Power.{Power}
 use Rattle.device.specs.declared.Power.the-variants.{Line, External}
 use Rattle.device.specs.declared.Stage.{Stage}
-use Rattle.device.specs.declared.Stage.the-variants.{AwaitRom, SendRom, Match, Search, AwaitFunction, TakeSettings, SendScratchpad, SendStatus, SendPower, Quiet}
-use Rattle.packed_bench.specs.Parts.{truthByte, powerByte, powerOf, phaseByte, phaseOf, unitByte, unitAt, readingFrom, stageCase, stageOf, activityCase, activityOf}
+use Rattle.device.specs.declared.Stage.the-variants.{AwaitRom, SendRom, Match, Search, AwaitFunction, TakeSettings}
+use Rattle.device.specs.declared.Stage.the-variants.{SendScratchpad, SendStatus, SendPower, Quiet}
+use Rattle.packed_bench.specs.Parts.{truthByte, powerByte, powerOf, phaseByte, phaseOf, unitByte, unitAt}
+use Rattle.packed_bench.specs.Parts.{readingFrom, stageCase, stageOf, activityCase, activityOf}
 
 pub truth-back : (t : Bool) → eqb (truthByte t) 1 ≡ t
 truth-back true = refl
@@ -43,7 +45,8 @@ unit-back : (r : Reading) → unitAt (unitByte r) ≡ unitOf r
 unit-back (InSixteenths c) = refl
 unit-back (InHalves h) = refl
 
-pub reading-back : (r : Reading) → Fits16 (countOf r) → readingFrom (unitByte r) (registerOf r .low) (registerOf r .high) ≡ r
+pub reading-back : (r : Reading) → Fits16 (countOf r)
+    → readingFrom (unitByte r) (registerOf r .low) (registerOf r .high) ≡ r
 reading-back r f = rw (unit-back r) (reading-register r f)
 
 pub reading-cleared : (r : Reading) → clearedOf r 96 ≡ r

@@ -1,13 +1,17 @@
--- The table of a bench in bytes (docs/TABLE.md): 32 entries of 48 bytes, the devices in the leading ones, zeros in the others.
+-- The table of a bench in bytes (docs/TABLE.md): 32 entries of 48 bytes, the devices in the leading ones, zeros in the
+-- others.
 --     entryBytes ds       the entry of the first of ds; 48 zeros where there is none
 --     tableOf n ds        n entries, those of ds from the first on
 --     devicesIn n t       the devices that n entries hold: as they are read, up to the first with the code 0
 --     codesFit ds         whether each device has a sound code, and one that none after it has
---     isTable t           whether t begins with the very table of the devices that are read from it, and their codes fit
+--     isTable t           whether t begins with the very table of the devices that are read from it, and their codes
+--                         fit
 --     benchOf ds          the bench of these devices; every other place is vacant
---     unpacked t          the bench that t holds; 1 for fewer than 1,536 bytes, then 22 for bytes that are no table, with the empty bench
+--     unpacked t          the bench that t holds; 1 for fewer than 1,536 bytes, then 22 for bytes that are no table,
+--                         with the empty bench
 --     packRefusal t       1 where less than a table is lent
---     packedInto t b      the lent bytes once a bench is packed into them: its table from byte 0 on, all others as they were
+--     packedInto t b      the lent bytes once a bench is packed into them: its table from byte 0 on, all others as they
+--                         were
 use Prim.Native.Nat.{ℕ, zero, suc, _-_}
 use mathlib.Core.Bool.{Bool, true, not, _&&_}
 use mathlib.Core.List.{List, [], _∷_, _++_}

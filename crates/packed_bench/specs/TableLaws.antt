@@ -32,7 +32,8 @@ use Rattle.packed_bench.specs.Laws.{packed-length, fields-back, fields-i
 use Rattle.bench.specs.Bench.{live, vacant}
 use Rattle.bench.specs.declared.Bench.{Bench}
 use Rattle.packed_bench.specs.declared.table.Unpacked.{Unpacked}
-use Rattle.packed_bench.specs.Table.{tableBytes, entryBytes, tableOf, inUse, devicesIn, absent, codesFit, isTable, benchOf, notUnpacked, held, unpacked, packedInto}
+use Rattle.packed_bench.specs.Table.{tableBytes, entryBytes, tableOf, inUse, devicesIn, absent, codesFit, isTable}
+use Rattle.packed_bench.specs.Table.{benchOf, notUnpacked, held, unpacked, packedInto}
 use Rattle.packed_bench.specs.Tabled.{Tabled}
 
 -- what holds of both ways of a choice holds of the choice
@@ -65,7 +66,8 @@ unfolding devicesIn
 devices-few zero t = omega arith
 devices-few (suc n) t =
     let i = devices-few n (drop 48 t) in
-    either-way (λ l. length l ≤ suc n) (eqb (fieldsOf (take 48 t) .code) 0) [] (fieldsOf (take 48 t) ∷ devicesIn n (drop 48 t)) (omega arith) (omega arith)
+    either-way (λ l. length l ≤ suc n) (eqb (fieldsOf (take 48 t) .code) 0) []
+    (fieldsOf (take 48 t) ∷ devicesIn n (drop 48 t)) (omega arith) (omega arith)
 
 -- ## The codes
 
@@ -74,7 +76,8 @@ unfolding codeRefusal crcBits bitsOf fold
 codeless = refl
 
 sound-used : (code : ℕ) → sound code ≡ true → code ≢ 0
-sound-used code s z = let e : wrongKind ≡ accepted = sym codeless ∙ sym (ap codeRefusal z) ∙ eqb-true (codeRefusal code) accepted s in omega arith
+sound-used code s z = let e : wrongKind ≡ accepted =
+    sym codeless ∙ sym (ap codeRefusal z) ∙ eqb-true (codeRefusal code) accepted s in omega arith
 
 -- the claim that the test of the codes makes
 pub record TableFits (ds : List Device) : Type 0 where
@@ -123,7 +126,8 @@ codes-tell (d ∷ ds) f =
 -- ## Devices, their table, the devices
 
 -- whatever stands behind the table
-pub devices-back : (n : ℕ) (ds : List Device) (rest : List ℕ) → length ds ≤ n → Each InTypes ds → Each (λ c. sound c ≡ true) (map (λ d. d .code) ds)
+pub devices-back : (n : ℕ) (ds : List Device) (rest : List ℕ) → length ds ≤ n → Each InTypes ds
+    → Each (λ c. sound c ≡ true) (map (λ d. d .code) ds)
     → devicesIn n (tableOf n ds ++ rest) ≡ ds
 unfolding tableOf devicesIn
 devices-back zero [] rest h p s = refl
@@ -147,7 +151,8 @@ pub bench-live : (ds : List Device) → live (benchOf ds) ≡ ds
 bench-live ds = take-at ds (replicate (32 - length ds) vacant) (length ds) refl
 
 pub live-length : (b : Bench) → Tabled b → length (live b) ≡ b .count
-live-length b t = let h : b .count ≤ length (b .devices) = omega (arith, t .few, t .places) in length-take-le (b .count) (b .devices) h
+live-length b t = let h : b .count ≤ length (b .devices) = omega (arith, t .few, t .places) in
+    length-take-le (b .count) (b .devices) h
 
 pub bench-back : (b : Bench) → Tabled b → benchOf (live b) ≡ b
 bench-back b t = rw (live-length b t, ← t .rest-vacant, take-append-drop (b .count) (b .devices))
@@ -177,7 +182,11 @@ module _ (b : Bench) (t : List ℕ) (tabled : Tabled b) (typed : Each InTypes (l
 
   table-holds : (rest : List ℕ) → isTable (tableOf 32 (live b) ++ rest) ≡ true
   table-holds rest =
-      rw (live-back rest, take-at (tableOf 32 (live b)) rest tableBytes (table-length 32 (live b)), same-itself (tableOf 32 (live b)))
+      rw (
+        live-back rest,
+        take-at (tableOf 32 (live b)) rest tableBytes (table-length 32 (live b)),
+        same-itself (tableOf 32 (live b)),
+      )
       (codes-tell (live b) (tabled-fits b tabled))
 
   pub unpack-pack : tableBytes ≤ length t → unpacked (packedInto t b) ≡ held b
@@ -199,12 +208,14 @@ module _ (t : List ℕ) (P : Unpacked → Type 0) where
   unfolding unpacked
   unpacked-cases short other taken = by-room (ltb (length t) tableBytes) refl
     where
-      by-test : (u : Bool) → isTable t ≡ u → tableBytes ≤ length t → P (if u then held (benchOf (devicesIn 32 t)) else notUnpacked notATable)
+      by-test : (u : Bool) → isTable t ≡ u → tableBytes ≤ length t
+          → P (if u then held (benchOf (devicesIn 32 t)) else notUnpacked notATable)
       by-test true e h = taken h e
       by-test false e h = other h e
 
       by-room : (u : Bool) → ltb (length t) tableBytes ≡ u
-          → P (if u then notUnpacked noRoom else if isTable t then held (benchOf (devicesIn 32 t)) else notUnpacked notATable)
+          → P (if u then notUnpacked noRoom else if isTable t then held (benchOf (devicesIn 32 t))
+          else notUnpacked notATable)
       by-room true e = short (ltb-true (length t) tableBytes e)
       by-room false e = by-test (isTable t) refl (ltb-false (length t) tableBytes e)
 
@@ -214,7 +225,8 @@ pack-unpack t = unpacked-cases t (λ u. u .refusal ≡ accepted → packedInto t
     (λ h e. absurd (omega arith))
     (λ h n e. absurd (omega arith))
     (λ h y e.
-    let same-bytes = same-equal (tableOf 32 (devicesIn 32 t)) (take tableBytes t) (and-left (same (tableOf 32 (devicesIn 32 t)) (take tableBytes t)) (codesFit (devicesIn 32 t)) y) in
+    let same-bytes = same-equal (tableOf 32 (devicesIn 32 t)) (take tableBytes t)
+    (and-left (same (tableOf 32 (devicesIn 32 t)) (take tableBytes t)) (codesFit (devicesIn 32 t)) y) in
     let long : length (tableOf 32 (devicesIn 32 t)) ≡ 1536 = table-length 32 (devicesIn 32 t) in
     rw (le-ltb (length t) tableBytes h, bench-live (devicesIn 32 t), long, same-bytes) (take-append-drop tableBytes t))
 
@@ -224,12 +236,14 @@ unpacked-tabled t = unpacked-cases t (λ u. u .refusal ≡ accepted → Tabled (
     (λ h n e. absurd (omega arith))
     (λ h y e.
     bench-tabled (devicesIn 32 t) (devices-few 32 t)
-    (codes-told (devicesIn 32 t) (and-right (same (tableOf 32 (devicesIn 32 t)) (take tableBytes t)) (codesFit (devicesIn 32 t)) y)))
+    (codes-told (devicesIn 32 t) (and-right (same (tableOf 32 (devicesIn 32 t)) (take tableBytes t))
+    (codesFit (devicesIn 32 t)) y)))
 
 -- bytes that are refused with 22 are those of no records
 pub refused-none : (t : List ℕ) → unpacked t .refusal ≡ notATable
     → (ds : List Device) → length ds ≤ 32 → Each InTypes ds → TableFits ds → tableOf 32 ds ≡ take tableBytes t → ⊥
-refused-none t = unpacked-cases t (λ u. u .refusal ≡ notATable → (ds : List Device) → length ds ≤ 32 → Each InTypes ds → TableFits ds → tableOf 32 ds ≡ take tableBytes t → ⊥)
+refused-none t = unpacked-cases t (λ u. u .refusal ≡ notATable → (ds : List Device) → length ds ≤ 32 → Each InTypes ds
+    → TableFits ds → tableOf 32 ds ≡ take tableBytes t → ⊥)
     (λ h e ds few typed fits is. omega arith)
     (λ h n e ds few typed fits is.
     let b = benchOf ds in
@@ -247,7 +261,8 @@ unfolding devicesIn
 devices-typed zero t h = tt
 devices-typed (suc n) t h =
     let later = devices-typed n (drop 48 t) (λ i. rw (getD-drop 48 t i 0) (h (48 + i))) in
-    either-way (Each InTypes) (eqb (fieldsOf (take 48 t) .code) 0) [] (fieldsOf (take 48 t) ∷ devicesIn n (drop 48 t)) tt (fields-in-types (take 48 t) (front t 48 h), later)
+    either-way (Each InTypes) (eqb (fieldsOf (take 48 t) .code) 0) [] (fieldsOf (take 48 t) ∷ devicesIn n (drop 48 t))
+    tt (fields-in-types (take 48 t) (front t 48 h), later)
   where
     front : (l : List ℕ) (k : ℕ) → ((i : ℕ) → getD l i 0 < 256) → (i : ℕ) → getD (take k l) i 0 < 256
     front l zero b i = lit< tt
@@ -256,4 +271,5 @@ devices-typed (suc n) t h =
     front (x ∷ l) (suc k) b (suc i) = front l k (λ j. b (suc j)) i
 
 pub unpacked-typed : (t : List ℕ) → ((i : ℕ) → getD t i 0 < 256) → Each InTypes (live (unpacked t .bench))
-unpacked-typed t bytes = unpacked-cases t (λ u. Each InTypes (live (u .bench))) (λ h. tt) (λ h n. tt) (λ h y. rw (bench-live (devicesIn 32 t)) (devices-typed 32 t bytes))
+unpacked-typed t bytes = unpacked-cases t (λ u. Each InTypes (live (u .bench))) (λ h. tt) (λ h n. tt)
+    (λ h y. rw (bench-live (devicesIn 32 t)) (devices-typed 32 t bytes))

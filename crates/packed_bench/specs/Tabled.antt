@@ -1,6 +1,6 @@
 -- The benches that a table holds.
---     Tabled b          32 places, at most that many devices, each with a sound code that no other has, and behind them vacant places:
---                       whatever else a device is doing, and whether calls have made it so or not
+--     Tabled b          32 places, at most that many devices, each with a sound code that no other has, and behind them
+--                       vacant places: whatever else a device is doing, and whether calls have made it so or not
 use Prim.Native.Nat.{_-_, _≤_}
 use mathlib.Core.Bool.{true}
 use mathlib.Core.Path.{_≡_}

@@ -31,7 +31,9 @@ use Rattle.bench.specs.Bench.{vacant, live, emptyBench, placeOf}
 use Rattle.bench.specs.Calls.{addedTo, conversionFinished, copyFinished, powerCycled, looked}
 use Rattle.bench.specs.Slot.{lineBit, heard, slotted, restarted, resetDone}
 use Rattle.bench.specs.declared.Bench.{Bench}
-use Rattle.bench.specs.Laws.{slot-cases, reset-cases, heard-count, heard-places, heard-rest, restarted-count, restarted-places, restarted-rest, Added, added-cases, OneChanged, conversion-cases, copy-cases, cycle-cases}
+use Rattle.bench.specs.Laws.{slot-cases, reset-cases, heard-count, heard-places, heard-rest, restarted-count}
+use Rattle.bench.specs.Laws.{restarted-places, restarted-rest, Added, added-cases, OneChanged, conversion-cases}
+use Rattle.bench.specs.Laws.{copy-cases, cycle-cases}
 use Rattle.bench.specs.Sound.{codesOf}
 use Rattle.bench.specs.SoundLaws.{heard-codes, restarted-codes, added-codes, codes-new, one-changed-codes}
 use Rattle.packed_bench.specs.Table.{tableBytes, tableOf, held, unpacked, packedInto}
@@ -44,18 +46,24 @@ use Rattle.packed_bench.specs.Through.{answeredOn, leftBy, After}
 
 -- accepted bytes are as many as a table has
 pub accepted-long : (t : List ℕ) → unpacked t .refusal ≡ accepted → tableBytes ≤ length t
-accepted-long t = unpacked-cases t (λ u. u .refusal ≡ accepted → tableBytes ≤ length t) (λ h e. absurd (omega arith)) (λ h n e. absurd (omega arith)) (λ h y e. h)
+accepted-long t = unpacked-cases t (λ u. u .refusal ≡ accepted
+    → tableBytes ≤ length t) (λ h e. absurd (omega arith)) (λ h n e. absurd (omega arith)) (λ h y e. h)
 
--- the bytes that packing leaves hold the bench, if a table can: what packing promises, of the bench that the call leaves
+-- the bytes that packing leaves hold the bench, if a table can: what packing promises, of the bench that the call
+-- leaves
 pub through : (f : Bench → Bench) → ((b : Bench) → Tabled b → Tabled (f b)) → (t t' : List ℕ)
-    → (tableBytes ≤ length t → Tabled (f (unpacked t .bench)) → unpacked t' ≡ held (f (unpacked t .bench))) → After f t t'
+    → (tableBytes ≤ length t → Tabled (f (unpacked t .bench)) → unpacked t' ≡ held (f (unpacked t .bench)))
+    → After f t t'
 through f keeps t t' packed ok = packed (accepted-long t ok) (keeps (unpacked t .bench) (unpacked-tabled t ok))
 
--- what a call that unpacks, calls and packs has come to is what is promised of it: u is what unpacking answered, d what the call on the records did
-module _ {A R : Type 0} (F : Bench → R) (answerOf : R → A) (leaves : R → Bench) (refusal : ℕ → A) (t : List ℕ) (u : Unpacked) (is-u : u ≡ unpacked t) where
+-- what a call that unpacks, calls and packs has come to is what is promised of it: u is what unpacking answered, d what
+-- the call on the records did
+module _ {A R : Type 0} (F : Bench → R) (answerOf : R → A) (leaves : R → Bench) (refusal : ℕ
+    → A) (t : List ℕ) (u : Unpacked) (is-u : u ≡ unpacked t) where
   abbrev Done : A → List ℕ → Type 0
   Done x t' =
-      (x ≡ answeredOn refusal (λ b. answerOf (F b)) t) × ((t' ≡ leftBy (λ b. leaves (F b)) t) × After (λ b. leaves (F b)) t t')
+      (x ≡ answeredOn refusal (λ b. answerOf (F b)) t)
+      × ((t' ≡ leftBy (λ b. leaves (F b)) t) × After (λ b. leaves (F b)) t t')
 
   pub refused-done : (u .refusal ≡ accepted → ⊥) → Done (refusal (u .refusal)) t
   refused-done none =
@@ -63,7 +71,8 @@ module _ {A R : Type 0} (F : Bench → R) (answerOf : R → A) (leaves : R → B
       let other = ne-eqb (unpacked t .refusal) accepted not-there in
       (rw other (ap (λ v. refusal (v .refusal)) is-u), (rw other refl, (λ ok. absurd (not-there ok))))
 
-  pub accepted-done : ((b : Bench) → Tabled b → Tabled (leaves (F b))) → u .refusal ≡ accepted → (d : R) → d ≡ F (u .bench) → (t' : List ℕ) → t' ≡ packedInto t (leaves d)
+  pub accepted-done : ((b : Bench) → Tabled b → Tabled (leaves (F b))) → u .refusal ≡ accepted → (d : R)
+      → d ≡ F (u .bench) → (t' : List ℕ) → t' ≡ packedInto t (leaves d)
       → (tableBytes ≤ length t → Tabled (leaves d) → unpacked t' ≡ held (leaves d)) → Done (answerOf d) t'
   accepted-done keeps ok d is-d t' left back =
       let e : d ≡ F (unpacked t .bench) = is-d ∙ ap (λ (v : Unpacked). F (v .bench)) is-u in
@@ -75,10 +84,12 @@ module _ {A R : Type 0} (F : Bench → R) (answerOf : R → A) (leaves : R → B
         ),
       )
 
-pub stays : (f : Bench → Bench) (t : List ℕ) → (unpacked t .refusal ≡ accepted → f (unpacked t .bench) ≡ unpacked t .bench) → leftBy f t ≡ t
+pub stays : (f : Bench → Bench) (t : List ℕ)
+    → (unpacked t .refusal ≡ accepted → f (unpacked t .bench) ≡ unpacked t .bench) → leftBy f t ≡ t
 stays f t same = by-test (eqb (unpacked t .refusal) accepted) refl
   where
-    by-test : (u : Bool) → eqb (unpacked t .refusal) accepted ≡ u → (if u then packedInto t (f (unpacked t .bench)) else t) ≡ t
+    by-test : (u : Bool) → eqb (unpacked t .refusal) accepted ≡ u
+        → (if u then packedInto t (f (unpacked t .bench)) else t) ≡ t
     by-test true e = let ok = eqb-true (unpacked t .refusal) accepted e in rw (same ok) (pack-unpack t ok)
     by-test false e = refl
 
@@ -109,9 +120,12 @@ unfolding looked placeOf firstWith
 empty-unseen code = refl
 
 -- the bench of a refusal is the empty one
-pub refused-unseen : (t : List ℕ) (code : ℕ) → (unpacked t .refusal ≡ accepted → ⊥) → looked (unpacked t .bench) code .device ≡ vacant
+pub refused-unseen : (t : List ℕ) (code : ℕ) → (unpacked t .refusal ≡ accepted → ⊥)
+    → looked (unpacked t .bench) code .device ≡ vacant
 refused-unseen t code =
-    unpacked-cases t (λ u. (u .refusal ≡ accepted → ⊥) → looked (u .bench) code .device ≡ vacant) (λ h n. empty-unseen code) (λ h o n. empty-unseen code) (λ h y n. absurd (n refl))
+    unpacked-cases t (λ u. (u .refusal ≡ accepted → ⊥)
+    → looked (u .bench) code .device ≡ vacant) (λ h n. empty-unseen code) (λ h o n. empty-unseen code)
+    (λ h y n. absurd (n refl))
 
 -- ## Each call leaves a bench that a table can hold
 
@@ -148,13 +162,18 @@ added-keeps new b t = added-cases b new (λ c. Tabled (c .bench)) (t .places) (�
         record {
           places = a .places-are ∙ t .places;
           few = omega (arith, a .room, a .count-is);
-          codes-sound = rw (added-codes b new after a) (each-snoc (λ c. sound c ≡ true) (codesOf b) (new .code) (t .codes-sound) (a .code-sound));
-          codes-distinct = rw (added-codes b new after a) (distinct-snoc (codesOf b) (new .code) (t .codes-distinct) (codes-new (live b) (new .code) (a .code-new)));
-          rest-vacant = rw (a .count-is) (a .rest-is ∙ sym (drop-drop 1 (b .count) (b .devices)) ∙ ap (drop 1) (t .rest-vacant) ∙ drop-replicate 1 (32 - b .count) vacant ∙ rw n refl);
+          codes-sound = rw (added-codes b new after a)
+              (each-snoc (λ c. sound c ≡ true) (codesOf b) (new .code) (t .codes-sound) (a .code-sound));
+          codes-distinct = rw (added-codes b new after a)
+              (distinct-snoc (codesOf b) (new .code) (t .codes-distinct)
+              (codes-new (live b) (new .code) (a .code-new)));
+          rest-vacant = rw (a .count-is) (a .rest-is ∙ sym (drop-drop 1 (b .count) (b .devices))
+              ∙ ap (drop 1) (t .rest-vacant) ∙ drop-replicate 1 (32 - b .count) vacant ∙ rw n refl);
         }
 
 -- a call that changes one device and no code
-one-keeps : (b : Bench) (code : ℕ) (f : Device → Device) → ((d : Device) → f d .code ≡ d .code) → (after : Bench) → OneChanged b code f after → Tabled b → Tabled after
+one-keeps : (b : Bench) (code : ℕ) (f : Device → Device) → ((d : Device) → f d .code ≡ d .code) → (after : Bench)
+    → OneChanged b code f after → Tabled b → Tabled after
 one-keeps b code f same after o t = record {
   places = o .places-are ∙ t .places;
   few = rw (o .count-is) (t .few);
@@ -165,11 +184,14 @@ one-keeps b code f same after o t = record {
 
 pub conversion-keeps : (code : ℕ) (n : Sixteenths) (b : Bench) → Tabled b → Tabled (conversionFinished b code n .bench)
 conversion-keeps code n b t =
-    conversion-cases b code (λ c. Tabled (c .bench)) (λ r z. t) n (λ range after o. one-keeps b code (λ d. conversionDone d n) (λ d. conversion-code d n) after o t)
+    conversion-cases b code (λ c. Tabled (c .bench)) (λ r z. t) n
+    (λ range after o. one-keeps b code (λ d. conversionDone d n) (λ d. conversion-code d n) after o t)
 
 pub copy-keeps : (code : ℕ) (b : Bench) → Tabled b → Tabled (copyFinished b code .bench)
 copy-keeps code b t =
-    copy-cases b code (λ c. Tabled (c .bench)) (λ r z. t) (λ s after o latched. one-keeps b code (λ d. copyDone d s) (λ d. ap (λ e. e .code) (copy-only d s)) after o t)
+    copy-cases b code (λ c. Tabled (c .bench)) (λ r z. t)
+    (λ s after o latched. one-keeps b code (λ d. copyDone d s) (λ d. ap (λ e. e .code) (copy-only d s)) after o t)
 
 pub cycle-keeps : (code : ℕ) (b : Bench) → Tabled b → Tabled (powerCycled b code .bench)
-cycle-keeps code b t = cycle-cases b code (λ c. Tabled (c .bench)) (λ r z. t) (λ after o. one-keeps b code powerUp (λ d. power-up-fresh d .code-is) after o t)
+cycle-keeps code b t = cycle-cases b code (λ c. Tabled (c .bench)) (λ r z. t)
+    (λ after o. one-keeps b code powerUp (λ d. power-up-fresh d .code-is) after o t)

@@ -1,5 +1,6 @@
 -- What the types of a record hold, as far as its bytes depend on it: of every value that code can hand over it is so.
---     InTypes d          64 bits of a code, eight bytes of a scratchpad, sixteen bits of a reading; a byte goes to a byte as it is
+--     InTypes d          64 bits of a code, eight bytes of a scratchpad, sixteen bits of a reading; a byte goes to a
+--                        byte as it is
 use Prim.Native.Nat.{_^_, _<_}
 use mathlib.Core.Path.{_≡_}
 use lib.ListN.{length}

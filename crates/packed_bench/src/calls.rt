@@ -30,7 +30,8 @@ pub struct SlotSeen {
 fn keep(done: Changed, t: &mut [u8]) -> u8
     ensures answer { λ r. ⌜ r ≡ done .refusal ⌝ }
     ensures written { λ r. ⌜ now (t .exit) ≡ packedInto (now (t .entry)) (done .bench) ⌝ }
-    ensures after { λ r. ⌜ (tableBytes ≤ length (now (t .entry)) → Tabled (done .bench) → unpacked (now (t .exit)) ≡ held (done .bench)) ⌝ }
+    ensures after { λ r. ⌜ (tableBytes ≤ length (now (t .entry)) → Tabled (done .bench)
+        → unpacked (now (t .exit)) ≡ held (done .bench)) ⌝ }
 {
     let bench = done.bench;
     table::pack(bench, t);

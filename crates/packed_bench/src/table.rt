@@ -9,7 +9,8 @@ ghost use Rattle.basic_laws.specs.Each.{Each};
 ghost use Rattle.basic_laws.specs.Laid.{laid};
 ghost use Rattle.packed_bench.specs.Types.{InTypes};
 ghost use Rattle.bench.specs.Bench.{live, vacant};
-ghost use Rattle.packed_bench.specs.Table.{tableBytes, entryBytes, tableOf, devicesIn, absent, codesFit, holds, benchOf, held, unpacked, packRefusal, packedInto};
+ghost use Rattle.packed_bench.specs.Table.{tableBytes, entryBytes, tableOf, devicesIn, absent, codesFit, holds};
+ghost use Rattle.packed_bench.specs.Table.{benchOf, held, unpacked, packRefusal, packedInto};
 ghost use Rattle.packed_bench.specs.Tabled.{Tabled};
 use crate::packing;
 use bench::Bench;
@@ -183,7 +184,8 @@ pub fn unpack(t: &[u8]) -> Unpacked
 pub fn pack(bench: Bench, t: &mut [u8]) -> u8
     ensures answer { λ r. ⌜ r ≡ packRefusal (now (t .entry)) ⌝ }
     ensures written { λ r. ⌜ now (t .exit) ≡ packedInto (now (t .entry)) bench ⌝ }
-    ensures back { λ r. ⌜ (tableBytes ≤ length (now (t .entry)) → Tabled bench → unpacked (now (t .exit)) ≡ held bench) ⌝ }
+    ensures back { λ r. ⌜ (tableBytes ≤ length (now (t .entry)) → Tabled bench
+        → unpacked (now (t .exit)) ≡ held bench) ⌝ }
 {
     if t.len() < TABLE_BYTES {
         return refusals::NO_ROOM;

@@ -1,7 +1,7 @@
-// Drives a bench that is kept in a table of bytes, and a settings store, by lines: one call a line on
-// standard input, its answer on standard output at once. It only moves bytes: `sessions::gathering` says where a
-// line ends, and `packed_session::table_settings` reads it, unpacks the table, makes the call, packs the bench again and
-// forms the answer.
+// Drives a bench that is kept in a table of bytes, and a settings store, by lines: one call a line on standard input,
+// its answer on standard output at once. It only moves bytes: `sessions::gathering` says where a line ends, and
+// `packed_session::table_settings` reads it, unpacks the table, makes the call, packs the bench again and forms the
+// answer.
 ghost use mathlib.Core.Path.{_≡_};
 ghost use Prim.Native.Nat.{_≤_};
 ghost use lib.ListN.{length};
@@ -36,8 +36,10 @@ fn write_answer(text: &[u8])
 
 // A line, with its feed or without, answered.
 fn answer_line(t: &mut [u8], store: Store, line: &[u8], fed: bool, out: &mut [u8]) -> Store
-    requires { ⌜ (room ≤ length (now out)) × Answerable tableConsole firstState (tableConsole .says (tableState (now t) store) (record { chars = now line; fed = fed })) ⌝ }
-    ensures { λ r. ⌜ tableState (now (t .exit)) r ≡ tableConsole .next (tableState (now (t .entry)) store) (record { chars = now (line .entry); fed = fed }) ⌝ }
+    requires { ⌜ (room ≤ length (now out)) × Answerable tableConsole firstState
+        (tableConsole .says (tableState (now t) store) (record { chars = now line; fed = fed })) ⌝ }
+    ensures { λ r. ⌜ tableState (now (t .exit)) r
+        ≡ tableConsole .next (tableState (now (t .entry)) store) (record { chars = now (line .entry); fed = fed }) ⌝ }
 {
     let told = table_settings::answer(t, store, line, fed, out);
     let written = told.written;
@@ -55,8 +57,12 @@ fn end_line(
     whole: bool,
     out: &mut [u8],
 ) -> Session
-    requires { ⌜ (held ≤ length (now line)) × (room ≤ length (now out)) × Answerable tableConsole firstState (endSaid tableConsole (runAt (tableState (now t) store) (now line) held) whole) ⌝ }
-    ensures { λ r. ⌜ (runAt (tableState (now (t .exit)) (r .store)) (now (line .entry)) (r .held) ≡ heldEnded tableConsole (runAt (tableState (now (t .entry)) store) (now (line .entry)) held) whole) × (r .held ≤ held) ⌝ }
+    requires { ⌜ (held ≤ length (now line)) × (room ≤ length (now out))
+        × Answerable tableConsole firstState (endSaid tableConsole (runAt (tableState (now t) store) (now line) held)
+        whole) ⌝ }
+    ensures { λ r. ⌜ (runAt (tableState (now (t .exit)) (r .store)) (now (line .entry)) (r .held)
+        ≡ heldEnded tableConsole (runAt (tableState (now (t .entry)) store) (now (line .entry)) held) whole)
+        × (r .held ≤ held) ⌝ }
 {
     if whole {
         return Session {
@@ -74,9 +80,13 @@ fn end_line(
 
 // All that was read, line by line.
 fn take(t: &mut [u8], start: Session, line: &mut [u8], chunk: &[u8], out: &mut [u8]) -> Session
-    requires { ⌜ (room ≤ length (now out)) × Standing tableConsole firstState (tableState (now t) (start .store)) (now line) (start .held) ⌝ }
-    ensures session { λ r. ⌜ runAt (tableState (now (t .exit)) (r .store)) (now (line .exit)) (r .held) ≡ runAfter tableConsole (runAt (tableState (now (t .entry)) (start .store)) (now (line .entry)) (start .held)) (now (chunk .entry)) ⌝ }
-    ensures standing { λ r. ⌜ Standing tableConsole firstState (tableState (now (t .exit)) (r .store)) (now (line .exit)) (r .held) ⌝ }
+    requires { ⌜ (room ≤ length (now out)) × Standing tableConsole firstState (tableState (now t) (start .store))
+        (now line) (start .held) ⌝ }
+    ensures session { λ r. ⌜ runAt (tableState (now (t .exit)) (r .store)) (now (line .exit)) (r .held)
+        ≡ runAfter tableConsole (runAt (tableState (now (t .entry)) (start .store)) (now (line .entry)) (start .held))
+        (now (chunk .entry)) ⌝ }
+    ensures standing { λ r. ⌜ Standing tableConsole firstState (tableState (now (t .exit)) (r .store))
+        (now (line .exit)) (r .held) ⌝ }
 {
     let mut s = start;
     let mut at: usize = 0;
@@ -90,8 +100,10 @@ fn take(t: &mut [u8], start: Session, line: &mut [u8], chunk: &[u8], out: &mut [
 }
 
 fn read_some(t: &mut [u8], s: Session, line: &mut [u8], out: &mut [u8]) -> Session
-    requires { ⌜ (room ≤ length (now out)) × Standing tableConsole firstState (tableState (now t) (s .store)) (now line) (s .held) ⌝ }
-    ensures standing { λ r. ⌜ Standing tableConsole firstState (tableState (now (t .exit)) (r .store)) (now (line .exit)) (r .held) ⌝ }
+    requires { ⌜ (room ≤ length (now out)) × Standing tableConsole firstState (tableState (now t) (s .store)) (now line)
+        (s .held) ⌝ }
+    ensures standing { λ r. ⌜ Standing tableConsole firstState (tableState (now (t .exit)) (r .store))
+        (now (line .exit)) (r .held) ⌝ }
 {
     let mut chunk = io::buffer();
     let got = libc::read(STDIN_FILENO, &mut chunk);
@@ -105,7 +117,8 @@ fn read_some(t: &mut [u8], s: Session, line: &mut [u8], out: &mut [u8]) -> Sessi
 // A proved loop ends; this one counts down from more reads than any run makes.
 fn run(t: &mut [u8], line: &mut [u8], out: &mut [u8]) -> Session
     requires { ⌜ (room ≤ length (now out)) × (length (now line) ≡ mostHeld) × (now t ≡ firstState .table) ⌝ }
-    ensures standing { λ r. ⌜ Standing tableConsole firstState (tableState (now (t .exit)) (r .store)) (now (line .exit)) (r .held) ⌝ }
+    ensures standing { λ r. ⌜ Standing tableConsole firstState (tableState (now (t .exit)) (r .store))
+        (now (line .exit)) (r .held) ⌝ }
 {
     let mut s = Session {
         store: settings::new(),
@@ -125,7 +138,8 @@ fn run(t: &mut [u8], line: &mut [u8], out: &mut [u8]) -> Session
 
 // A last line without a feed.
 fn finish(t: &mut [u8], s: Session, line: &[u8], out: &mut [u8])
-    requires { ⌜ (room ≤ length (now out)) × Standing tableConsole firstState (tableState (now t) (s .store)) (now line) (s .held) ⌝ }
+    requires { ⌜ (room ≤ length (now out)) × Standing tableConsole firstState (tableState (now t) (s .store)) (now line)
+        (s .held) ⌝ }
 {
     let store = s.store;
     let held = s.held;

@@ -10,13 +10,15 @@ use Rattle.basic_laws.specs.Same.{same}
 use Rattle.commands.specs.Commands.{searchRom, alarmSearch}
 use Rattle.bench.specs.Bench.{emptyBench}
 use Rattle.bench.specs.declared.Bench.{Bench}
-use Rattle.history_laws.specs.History.{Call, add, reset, slot, finishConversion, finishCopy, powerCycle, search, searchAlarms, read, write, readPins, Ledger, apply, step, start, ledger, after}
+use Rattle.history_laws.specs.History.{Call, add, reset, slot, finishConversion, finishCopy, powerCycle, search}
+use Rattle.history_laws.specs.History.{searchAlarms, read, write, readPins, Ledger, apply, step, start, ledger, after}
 use Rattle.history_laws.specs.Kept.{read-keeps, write-keeps, outcome-keeps, pins-keep}
 use Rattle.packed_bench.specs.Bytes.{codeFromBytes}
 use Rattle.packed_bench.specs.Packed.{fieldsOf}
 use Rattle.packed_bench.specs.Table.{tableBytes, tableOf, devicesIn, codesFit, held, unpacked}
 use Rattle.packed_bench.specs.Tabled.{Tabled}
-use Rattle.packed_bench.specs.ThroughLaws.{slot-keeps, reset-keeps, added-keeps, conversion-keeps, copy-keeps, cycle-keeps}
+use Rattle.packed_bench.specs.ThroughLaws.{slot-keeps, reset-keeps, added-keeps, conversion-keeps, copy-keeps}
+use Rattle.packed_bench.specs.ThroughLaws.{cycle-keeps}
 
 tabled-step : (b : Bench) (c : Call) → Tabled b → Tabled (apply b c)
 tabled-step b (add new) t = added-keeps new b t

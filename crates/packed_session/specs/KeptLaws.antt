@@ -4,10 +4,12 @@ use Rattle.commands.specs.Commands.{searchRom, alarmSearch}
 use Rattle.bench.specs.declared.Bench.{Bench}
 use Rattle.history_laws.specs.Kept.{read-keeps, write-keeps, outcome-keeps, pins-keep}
 use Rattle.bench_requests.specs.declared.Request.{Request}
-use Rattle.bench_requests.specs.declared.Request.the-variants.{Bad, Add, Reset, Slot, Converted, Copied, Cycle, Search, Alarm, Read, Write, Show, Why, Pins}
+use Rattle.bench_requests.specs.declared.Request.the-variants.{Bad, Add, Reset, Slot, Converted, Copied, Cycle, Search}
+use Rattle.bench_requests.specs.declared.Request.the-variants.{Alarm, Read, Write, Show, Why, Pins}
 use Rattle.bench_session.specs.Console.{answered}
 use Rattle.packed_bench.specs.Tabled.{Tabled}
-use Rattle.packed_bench.specs.ThroughLaws.{slot-keeps, reset-keeps, added-keeps, conversion-keeps, copy-keeps, cycle-keeps}
+use Rattle.packed_bench.specs.ThroughLaws.{slot-keeps, reset-keeps, added-keeps, conversion-keeps, copy-keeps}
+use Rattle.packed_bench.specs.ThroughLaws.{cycle-keeps}
 
 pub answered-keeps : (q : Request) (b : Bench) → Tabled b → Tabled (answered b q .bench)
 unfolding answered

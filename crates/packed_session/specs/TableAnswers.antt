@@ -1,9 +1,12 @@
 -- What the packed console says that the bench's console does not.
---     refusedOnTable n q                  the answer to the request q of the bench, in its own form, where the bytes hold no bench: the refusal n and zeros
+--     refusedOnTable n q                  the answer to the request q of the bench, in its own form, where the bytes
+--                                         hold no bench: the refusal n and zeros
 --     entryLine e                         an entry of the table, two hexadecimal digits a byte
 --     tableText n t                       n entries of t, a line for each
---     dumpText t                          the 32 entries of a table, whatever its bytes; refusal 1 where there are fewer
---     dumpAnswer t out, dumpLeaves t out  what saying it comes to: how many bytes of text there are, at the front of what is lent; refusal 1 without its room
+--     dumpText t                          the 32 entries of a table, whatever its bytes; refusal 1 where there are
+--                                         fewer
+--     dumpAnswer t out, dumpLeaves t out  what saying it comes to: how many bytes of text there are, at the front of
+--                                         what is lent; refusal 1 without its room
 --     pokeRefusal t place                 1 for a place behind what is lent
 use Prim.Native.Nat.{ℕ, zero, suc}
 use mathlib.Core.Bool.{false}
@@ -19,7 +22,8 @@ use Rattle.text.specs.Lines.{lineFeed}
 use Rattle.temperature.specs.declared.Reading.the-variants.{InSixteenths}
 use Rattle.scratchpad.specs.Fine.{noFine}
 use Rattle.bench_requests.specs.declared.Request.{Request}
-use Rattle.bench_requests.specs.declared.Request.the-variants.{Bad, Add, Reset, Slot, Converted, Copied, Cycle, Search, Alarm, Read, Write, Show, Why, Pins}
+use Rattle.bench_requests.specs.declared.Request.the-variants.{Bad, Add, Reset, Slot, Converted, Copied, Cycle, Search}
+use Rattle.bench_requests.specs.declared.Request.the-variants.{Alarm, Read, Write, Show, Why, Pins}
 use Rattle.bench_answers.specs.Answers.{badLine, refusalLine, bitLine, searchLine, showLine}
 use Rattle.bench_answers.specs.AccessLine.{accessLine}
 use Rattle.why.specs.Why.{silent}

@@ -1,6 +1,7 @@
 -- The text of a table, entry by entry.
 --     line-length, text-length       97 bytes an entry
---     text-turn, text-end            the text put line by line: what stands there with the rest laid behind it is the whole
+--     text-turn, text-end            the text put line by line: what stands there with the rest laid behind it is the
+--                                    whole
 --     line-told, line-laid           a line at the front of what is lent, where there is room
 use Prim.Native.Nat.{ℕ, zero, suc, _+_, _*_, _-_, _<_, _≤_}
 use mathlib.Core.Path.{_≡_, refl, sym, _∙_}
@@ -34,7 +35,9 @@ text-length (suc n) t h =
     length-append (entryLine (take 48 t)) (tableText n (drop 48 t)) ∙ omega arith
 
 pub text-turn : (out t : List ℕ) (i : ℕ) → i < 32 → 1536 ≤ length t → 97 * i + 97 ≤ length out
-    → laid out (97 * i) (tableText (32 - i) (drop (48 * i) t)) ≡ laid (laid out (97 * i) (entryLine (take 48 (drop (48 * i) t)))) (97 * (i + 1)) (tableText (32 - (i + 1)) (drop (48 * (i + 1)) t))
+    → laid out (97 * i) (tableText (32 - i) (drop (48 * i) t))
+    ≡ laid (laid out (97 * i) (entryLine (take 48 (drop (48 * i) t)))) (97 * (i + 1))
+    (tableText (32 - (i + 1)) (drop (48 * (i + 1)) t))
 unfolding tableText
 text-turn out t i h long room =
     let n : 32 - i ≡ suc (32 - (i + 1)) = omega arith in
@@ -43,7 +46,9 @@ text-turn out t i h long room =
     let at : 97 * i + length (entryLine (take 48 (drop (48 * i) t))) ≡ 97 * (i + 1) = omega arith in
     let l : 97 * (i + 1) ≤ length out = omega arith in
     let on : 48 * i + 48 ≡ 48 * (i + 1) = omega arith in
-    rw n (rw (drop-drop 48 (48 * i) t, on) (sym (laid-then out (97 * i) (entryLine (take 48 (drop (48 * i) t))) (tableText (32 - (i + 1)) (drop (48 * (i + 1)) t)) (97 * (i + 1)) at l)))
+    rw n (rw (drop-drop 48 (48 * i) t, on) (sym
+    (laid-then out (97 * i) (entryLine (take 48 (drop (48 * i) t)))
+    (tableText (32 - (i + 1)) (drop (48 * (i + 1)) t)) (97 * (i + 1)) at l)))
 
 pub text-end : (out t : List ℕ) (i : ℕ) → i ≡ 32 → laid out (97 * i) (tableText (32 - i) (drop (48 * i) t)) ≡ out
 unfolding tableText

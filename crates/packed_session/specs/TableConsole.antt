@@ -1,12 +1,15 @@
 -- The console on a table: what it says to a line, and the bytes that the line leaves.
 --     tableAsked l           what a line asks of the bytes; one that has no feed asks for nothing there
---     onTable f refusal t    what f answers on the bench that t holds, with the bench that it leaves packed again; else the refusal of the bytes, 1 or 22, in a form of its own, and the bytes as they were
+--     onTable f refusal t    what f answers on the bench that t holds, with the bench that it leaves packed again; else
+--                            the refusal of the bytes, 1 or 22, in a form of its own, and the bytes as they were
 --     lineOnTable t l        the same of a line of the bench, with the refusal in the line's own form
 --     spoken t l             any line
---     tableTold s out        what the call for it answers: how many bytes of text there are, or refusal 1 where less than the room is lent
+--     tableTold s out        what the call for it answers: how many bytes of text there are, or refusal 1 where less
+--                            than the room is lent
 --     wrote s out            the bytes lent for the text after it: the text from byte 0 on, or as they were
 --     keeps t s out          the table after it
---     AfterLine t l t'       the claim of a line of the bench: where t held a bench, t' holds the one that the line leaves of it; `TableAfter` of any line
+--     AfterLine t l t'       the claim of a line of the bench: where t held a bench, t' holds the one that the line
+--                            leaves of it; `TableAfter` of any line
 use Prim.Native.Nat.{ℕ}
 use mathlib.Core.List.{List}
 use mathlib.Core.Path.{_≡_}

@@ -1,4 +1,5 @@
--- The lines that ask for bytes of the table (docs/TABLE.md). Whatever is neither, or has a field that is none, is `Other`: a line of the bench, or of nothing.
+-- The lines that ask for bytes of the table (docs/TABLE.md). Whatever is neither, or has a field that is none, is
+-- `Other`: a line of the bench, or of nothing.
 --     placeIn w              a place of the table, 0 to 1535 in one to four digits
 --     ofTable ws             POKE PLACE BYTE; TABLE alone
 --     tableRequestOf s       what a line, without its feed, asks for; a line over 80 characters is `Other`
@@ -26,7 +27,8 @@ pokeAsked place byte = if place .valid && byte .valid then Poke (place .number) 
 
 unfoldable pub ofTable : List (List ℕ) → TableRequest
 ofTable ws =
-    if eqb (length ws) 3 then if same (wordOf ws 0) (ascii "poke") then pokeAsked (placeIn (wordOf ws 1)) (byteIn (wordOf ws 2)) else Other
+    if eqb (length ws) 3 then if same (wordOf ws 0) (ascii "poke")
+    then pokeAsked (placeIn (wordOf ws 1)) (byteIn (wordOf ws 2)) else Other
     else if eqb (length ws) 1 then if same (wordOf ws 0) (ascii "table") then Dump else Other
     else Other
 

@@ -23,7 +23,8 @@ abbrev pub tableConsole : Console
 tableConsole = record {
   State = TableState;
   says = λ v l. spokenOf (v .table) (v .store) l (storeAsked l) .text;
-  next = λ v l. tableState (spokenOf (v .table) (v .store) l (storeAsked l) .left) (storeLeft (v .store) (storeAsked l));
+  next = λ v l. tableState (spokenOf (v .table) (v .store) l (storeAsked l) .left)
+      (storeLeft (v .store) (storeAsked l));
 }
 
 abbrev pub firstState : TableState

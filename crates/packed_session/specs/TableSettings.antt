@@ -1,5 +1,7 @@
--- The console on a table with a settings store beside it: what it says to a line, and the bytes and the store that the line leaves. A line that asks nothing of the store is the table's.
---     writtenOn t s code     settings written to the device on the table: `onTable` of the write, with the refusal of the bytes in the form of a write, before all others
+-- The console on a table with a settings store beside it: what it says to a line, and the bytes and the store that the
+-- line leaves. A line that asks nothing of the store is the table's.
+--     writtenOn t s code     settings written to the device on the table: `onTable` of the write, with the refusal of
+--                            the bytes in the form of a write, before all others
 --     spokenOf t s l q       the answer to the line l that asks the request q of the store s
 --     toldOf t s l out       what the call for a line answers, and the store after it
 use Prim.Native.Nat.{ℕ}

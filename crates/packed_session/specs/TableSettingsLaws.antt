@@ -22,10 +22,13 @@ pub settings-keep : (s : Store) (code : ℕ) (b : Bench) → Tabled b → Tabled
 unfolding settingsWritten
 settings-keep s code b t = by-test (eqb (settingsRead s code .refusal) accepted)
   where
-    by-test : (u : Bool) → Tabled ((if not u then refusedAt (settingsRead s code .refusal) b else writeAt b code (settingsRead s code .settings)) .bench)
+    by-test : (u : Bool) → Tabled ((if not u then refusedAt (settingsRead s code .refusal) b
+        else writeAt b code (settingsRead s code .settings)) .bench)
     by-test true = write-keeps Tabled slot-keeps reset-keeps code (settingsRead s code .settings) b t
     by-test false = t
 
-pub told-parts : (w v : Written) (s r : Store) → w ≡ v → s ≡ r → _≡_ {A = TableTold} (record { written = w; store = s }) (record { written = v; store = r })
+pub told-parts : (w v : Written) (s r : Store) → w ≡ v → s ≡ r
+    → _≡_ {A = TableTold} (record { written = w; store = s }) (record { written = v; store = r })
 told-parts w v s r written store =
-    ap {B = TableTold} (λ (x : Written). record { written = x; store = s }) written ∙ ap {B = TableTold} (λ (x : Store). record { written = v; store = x }) store
+    ap {B = TableTold} (λ (x : Written). record { written = x; store = s }) written
+    ∙ ap {B = TableTold} (λ (x : Store). record { written = v; store = x }) store

@@ -12,7 +12,8 @@ use Rattle.packed_session.specs.TableAnswers.{textRoom, dumpText, dumpAn
 use Rattle.packed_session.specs.TableAnswersLaws.{line-told, line-laid}
 use Rattle.packed_session.specs.TableConsole.{Spoken, speaks, Tells}
 
-pub line-tells : (s : Spoken) (out : List ℕ) → room ≤ length out → (out' t' : List ℕ) (r : Written) → r ≡ lineAnswer out 0 (s .text) → out' ≡ lineLeaves out 0 (s .text)
+pub line-tells : (s : Spoken) (out : List ℕ) → room ≤ length out → (out' t' : List ℕ) (r : Written)
+    → r ≡ lineAnswer out 0 (s .text) → out' ≡ lineLeaves out 0 (s .text)
     → t' ≡ s .left → Tells s out out' t' r
 line-tells s out wide out' t' r answer leaves left = record {
   told-is = answer ∙ line-told out (s .text) (omega (arith, wide));
@@ -20,7 +21,8 @@ line-tells s out wide out' t' r answer leaves left = record {
   left-is = left;
 }
 
-pub dump-tells : (t out : List ℕ) → room ≤ length out → (out' : List ℕ) (r : Written) → r ≡ dumpAnswer t out → out' ≡ dumpLeaves t out → Tells (speaks (dumpText t) t) out out' t r
+pub dump-tells : (t out : List ℕ) → room ≤ length out → (out' : List ℕ) (r : Written) → r ≡ dumpAnswer t out
+    → out' ≡ dumpLeaves t out → Tells (speaks (dumpText t) t) out out' t r
 unfolding dumpAnswer dumpLeaves
 dump-tells t out wide out' r answer leaves =
     let h : textRoom ≤ length out = omega (arith, wide) in

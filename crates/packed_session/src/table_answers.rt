@@ -15,7 +15,8 @@ ghost use Rattle.why.specs.declared.rules.Reason.the-variants.{NotOnBench};
 ghost use Rattle.bench_answers.specs.WhyLine.{whyLine};
 ghost use Rattle.packed_bench.specs.Table.{tableBytes};
 ghost use Rattle.packed_bench.specs.Through.{unseen};
-ghost use Rattle.packed_session.specs.TableAnswers.{refusedOnTable, textRoom, tableText, dumpAnswer, dumpLeaves, pokeRefusal};
+ghost use Rattle.packed_session.specs.TableAnswers.{refusedOnTable, textRoom, tableText, dumpAnswer, dumpLeaves};
+ghost use Rattle.packed_session.specs.TableAnswers.{pokeRefusal};
 use bench::Looked;
 use bench_answers::access_answers;
 use bench_answers::pin_answers;
@@ -38,8 +39,10 @@ pub const TEXT_ROOM: usize = 3104;
 // ---- A refusal
 
 fn no_access(refusal: u8, out: &mut [u8]) -> Written
-    ensures answer { λ r. ⌜ r ≡ lineAnswer (now (out .entry)) 0 (accessLine refusal (replicate 9 0) (InSixteenths (record { 0 = pos 0 })) noFine) ⌝ }
-    ensures written { λ r. ⌜ now (out .exit) ≡ lineLeaves (now (out .entry)) 0 (accessLine refusal (replicate 9 0) (InSixteenths (record { 0 = pos 0 })) noFine) ⌝ }
+    ensures answer { λ r. ⌜ r ≡ lineAnswer (now (out .entry)) 0
+        (accessLine refusal (replicate 9 0) (InSixteenths (record { 0 = pos 0 })) noFine) ⌝ }
+    ensures written { λ r. ⌜ now (out .exit) ≡ lineLeaves (now (out .entry)) 0
+        (accessLine refusal (replicate 9 0) (InSixteenths (record { 0 = pos 0 })) noFine) ⌝ }
 {
     let reading = Reading::InSixteenths(Sixteenths(0));
     let fine = FineDegrees {

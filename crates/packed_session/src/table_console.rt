@@ -10,7 +10,8 @@ ghost use Rattle.text.specs.Putting.{lineAnswer, lineLeaves};
 ghost use Rattle.bench_answers.specs.Whole.{room};
 ghost use Rattle.bench_session.specs.Console.{asked};
 ghost use Rattle.packed_session.specs.TableAnswers.{refusedOnTable, pokeRefusal};
-ghost use Rattle.packed_session.specs.TableConsole.{tableAsked, lineOnTable, spokenTo, spoken, telling, tableTold, wrote, keeps, AfterLine, TableAfter, Tells};
+ghost use Rattle.packed_session.specs.TableConsole.{tableAsked, lineOnTable, spokenTo, spoken, telling};
+ghost use Rattle.packed_session.specs.TableConsole.{tableTold, wrote, keeps, AfterLine, TableAfter, Tells};
 use crate::table_answers;
 use crate::table_requests;
 use crate::table_requests::TableRequest;
@@ -22,8 +23,10 @@ use text::laying::Written;
 
 // The refusal of the bytes, in the form of the line.
 fn refuse(line: &[u8], fed: bool, refusal: u8, out: &mut [u8]) -> Written
-    ensures answer { λ r. ⌜ r ≡ lineAnswer (now (out .entry)) 0 (refusedOnTable refusal (asked (record { chars = now (line .entry); fed = fed }))) ⌝ }
-    ensures written { λ r. ⌜ now (out .exit) ≡ lineLeaves (now (out .entry)) 0 (refusedOnTable refusal (asked (record { chars = now (line .entry); fed = fed }))) ⌝ }
+    ensures answer { λ r. ⌜ r ≡ lineAnswer (now (out .entry)) 0
+        (refusedOnTable refusal (asked (record { chars = now (line .entry); fed = fed }))) ⌝ }
+    ensures written { λ r. ⌜ now (out .exit) ≡ lineLeaves (now (out .entry)) 0
+        (refusedOnTable refusal (asked (record { chars = now (line .entry); fed = fed }))) ⌝ }
 {
     if fed {
         return table_answers::refuse(bench_requests::parse(line), refusal, out);
@@ -34,10 +37,14 @@ fn refuse(line: &[u8], fed: bool, refusal: u8, out: &mut [u8]) -> Written
 // A line of the bench.
 fn on_bench(t: &mut [u8], line: &[u8], fed: bool, out: &mut [u8]) -> Written
     requires { ⌜ room ≤ length (now out) ⌝ }
-    ensures answer { λ r. ⌜ r ≡ telling (lineOnTable (now (t .entry)) (record { chars = now (line .entry); fed = fed }) .text) ⌝ }
-    ensures written { λ r. ⌜ now (out .exit) ≡ laid (now (out .entry)) 0 (lineOnTable (now (t .entry)) (record { chars = now (line .entry); fed = fed }) .text) ⌝ }
-    ensures table { λ r. ⌜ now (t .exit) ≡ lineOnTable (now (t .entry)) (record { chars = now (line .entry); fed = fed }) .left ⌝ }
-    ensures after { λ r. ⌜ AfterLine (now (t .entry)) (record { chars = now (line .entry); fed = fed }) (now (t .exit)) ⌝ }
+    ensures answer { λ r. ⌜ r ≡ telling (lineOnTable (now (t .entry))
+        (record { chars = now (line .entry); fed = fed }) .text) ⌝ }
+    ensures written { λ r. ⌜ now (out .exit) ≡ laid (now (out .entry)) 0
+        (lineOnTable (now (t .entry)) (record { chars = now (line .entry); fed = fed }) .text) ⌝ }
+    ensures table { λ r. ⌜ now (t .exit) ≡ lineOnTable (now (t .entry))
+        (record { chars = now (line .entry); fed = fed }) .left ⌝ }
+    ensures after { λ r. ⌜ AfterLine (now (t .entry)) (record { chars = now (line .entry); fed = fed })
+        (now (t .exit)) ⌝ }
 {
     let there = table::unpack(t);
     let refusal = there.refusal;
@@ -56,7 +63,8 @@ fn on_bench(t: &mut [u8], line: &[u8], fed: bool, out: &mut [u8]) -> Written
 
 fn store(t: &mut [u8], place: usize, byte: u8, out: &mut [u8]) -> Written
     ensures answer { λ r. ⌜ r ≡ lineAnswer (now (out .entry)) 0 (refusalLine (pokeRefusal (now (t .entry)) place)) ⌝ }
-    ensures written { λ r. ⌜ now (out .exit) ≡ lineLeaves (now (out .entry)) 0 (refusalLine (pokeRefusal (now (t .entry)) place)) ⌝ }
+    ensures written { λ r. ⌜ now (out .exit) ≡ lineLeaves (now (out .entry)) 0
+        (refusalLine (pokeRefusal (now (t .entry)) place)) ⌝ }
     ensures table { λ r. ⌜ now (t .exit) ≡ set (now (t .entry)) place byte ⌝ }
 {
     let refusal = table_answers::poke(t, place, byte);
@@ -66,7 +74,9 @@ fn store(t: &mut [u8], place: usize, byte: u8, out: &mut [u8]) -> Written
 // Whatever the line asks for.
 fn speak(request: TableRequest, t: &mut [u8], line: &[u8], fed: bool, out: &mut [u8]) -> Written
     requires { ⌜ room ≤ length (now out) ⌝ }
-    ensures { λ r. ⌜ Tells (spokenTo request (now (t .entry)) (record { chars = now (line .entry); fed = fed })) (now (out .entry)) (now (out .exit)) (now (t .exit)) r × TableAfter request (now (t .entry)) (record { chars = now (line .entry); fed = fed }) (now (t .exit)) ⌝ }
+    ensures { λ r. ⌜ Tells (spokenTo request (now (t .entry)) (record { chars = now (line .entry); fed = fed }))
+        (now (out .entry)) (now (out .exit)) (now (t .exit)) r
+        × TableAfter request (now (t .entry)) (record { chars = now (line .entry); fed = fed }) (now (t .exit)) ⌝ }
 {
     match request {
         TableRequest::Poke { place, byte } => store(t, place, byte, out),
@@ -78,10 +88,15 @@ fn speak(request: TableRequest, t: &mut [u8], line: &[u8], fed: bool, out: &mut 
 // One line, without its feed, and whether it had one: what it asks for is done, and the text of the
 // answer is laid at the front of what is lent for it.
 pub fn answer(t: &mut [u8], line: &[u8], fed: bool, out: &mut [u8]) -> Written
-    ensures answer { λ r. ⌜ r ≡ tableTold (spoken (now (t .entry)) (record { chars = now (line .entry); fed = fed })) (now (out .entry)) ⌝ }
-    ensures written { λ r. ⌜ now (out .exit) ≡ wrote (spoken (now (t .entry)) (record { chars = now (line .entry); fed = fed })) (now (out .entry)) ⌝ }
-    ensures table { λ r. ⌜ now (t .exit) ≡ keeps (now (t .entry)) (spoken (now (t .entry)) (record { chars = now (line .entry); fed = fed })) (now (out .entry)) ⌝ }
-    ensures after { λ r. ⌜ (room ≤ length (now (out .entry)) → TableAfter (tableAsked (record { chars = now (line .entry); fed = fed })) (now (t .entry)) (record { chars = now (line .entry); fed = fed }) (now (t .exit))) ⌝ }
+    ensures answer { λ r. ⌜ r ≡ tableTold (spoken (now (t .entry)) (record { chars = now (line .entry); fed = fed }))
+        (now (out .entry)) ⌝ }
+    ensures written { λ r. ⌜ now (out .exit) ≡ wrote
+        (spoken (now (t .entry)) (record { chars = now (line .entry); fed = fed })) (now (out .entry)) ⌝ }
+    ensures table { λ r. ⌜ now (t .exit) ≡ keeps (now (t .entry))
+        (spoken (now (t .entry)) (record { chars = now (line .entry); fed = fed })) (now (out .entry)) ⌝ }
+    ensures after { λ r. ⌜ (room ≤ length (now (out .entry))
+        → TableAfter (tableAsked (record { chars = now (line .entry); fed = fed })) (now (t .entry))
+        (record { chars = now (line .entry); fed = fed }) (now (t .exit))) ⌝ }
 {
     if out.len() < ROOM {
         return Written {

@@ -20,7 +20,8 @@ pub enum TableRequest {
 
 // `poke PLACE BYTE`
 fn poke(line: &[u8]) -> TableRequest
-    ensures { λ r. ⌜ r ≡ pokeAsked (placeIn (wordOf (wordsOf (now (line .entry))) 1)) (byteIn (wordOf (wordsOf (now (line .entry))) 2)) ⌝ }
+    ensures { λ r. ⌜ r ≡ pokeAsked (placeIn (wordOf (wordsOf (now (line .entry))) 1))
+        (byteIn (wordOf (wordsOf (now (line .entry))) 2)) ⌝ }
 {
     let place = text::read_decimal(word(line, 1), 4, LAST_PLACE);
     let byte = text::read_fixed(word(line, 2), 16, 2);

@@ -32,7 +32,8 @@ pub struct TableTold {
 fn write(t: &mut [u8], store: Store, code: u64, out: &mut [u8]) -> Written
     requires { ⌜ room ≤ length (now out) ⌝ }
     ensures answer { λ r. ⌜ r ≡ telling (writtenOn (now (t .entry)) store code .text) ⌝ }
-    ensures written { λ r. ⌜ now (out .exit) ≡ laid (now (out .entry)) 0 (writtenOn (now (t .entry)) store code .text) ⌝ }
+    ensures written { λ r. ⌜ now (out .exit) ≡ laid (now (out .entry)) 0
+        (writtenOn (now (t .entry)) store code .text) ⌝ }
     ensures table { λ r. ⌜ now (t .exit) ≡ writtenOn (now (t .entry)) store code .left ⌝ }
     ensures after { λ r. ⌜ After (λ b. settingsWritten store b code .bench) (now (t .entry)) (now (t .exit)) ⌝ }
 {
@@ -61,7 +62,8 @@ fn respond(
     out: &mut [u8],
 ) -> TableTold
     requires { ⌜ room ≤ length (now out) ⌝ }
-    ensures { λ r. ⌜ Tells (spokenOf (now (t .entry)) store (record { chars = now (line .entry); fed = fed }) request) (now (out .entry)) (now (out .exit)) (now (t .exit)) (r .written) × (r .store ≡ storeLeft store request) ⌝ }
+    ensures { λ r. ⌜ Tells (spokenOf (now (t .entry)) store (record { chars = now (line .entry); fed = fed }) request)
+        (now (out .entry)) (now (out .exit)) (now (t .exit)) (r .written) × (r .store ≡ storeLeft store request) ⌝ }
 {
     match request {
         StoreRequest::Other => TableTold {
@@ -87,9 +89,14 @@ fn respond(
 // One line, without its feed, and whether it had one: the call that it asks for is made, and the text
 // of the answer is laid at the front of what is lent for it.
 pub fn answer(t: &mut [u8], store: Store, line: &[u8], fed: bool, out: &mut [u8]) -> TableTold
-    ensures answer { λ r. ⌜ r ≡ toldOf (now (t .entry)) store (record { chars = now (line .entry); fed = fed }) (now (out .entry)) ⌝ }
-    ensures written { λ r. ⌜ now (out .exit) ≡ wrote (spokenOf (now (t .entry)) store (record { chars = now (line .entry); fed = fed }) (storeAsked (record { chars = now (line .entry); fed = fed }))) (now (out .entry)) ⌝ }
-    ensures table { λ r. ⌜ now (t .exit) ≡ keeps (now (t .entry)) (spokenOf (now (t .entry)) store (record { chars = now (line .entry); fed = fed }) (storeAsked (record { chars = now (line .entry); fed = fed }))) (now (out .entry)) ⌝ }
+    ensures answer { λ r. ⌜ r ≡ toldOf (now (t .entry)) store (record { chars = now (line .entry); fed = fed })
+        (now (out .entry)) ⌝ }
+    ensures written { λ r. ⌜ now (out .exit) ≡ wrote
+        (spokenOf (now (t .entry)) store (record { chars = now (line .entry); fed = fed })
+        (storeAsked (record { chars = now (line .entry); fed = fed }))) (now (out .entry)) ⌝ }
+    ensures table { λ r. ⌜ now (t .exit) ≡ keeps (now (t .entry))
+        (spokenOf (now (t .entry)) store (record { chars = now (line .entry); fed = fed })
+        (storeAsked (record { chars = now (line .entry); fed = fed }))) (now (out .entry)) ⌝ }
 {
     if out.len() < ROOM {
         return TableTold {

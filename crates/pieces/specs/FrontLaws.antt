@@ -19,12 +19,14 @@ module _ (s : List ℕ) (from most : ℕ) where
   kept-length = length-take most (drop from s) ∙ ap (min most) (length-drop from s)
 
   -- the byte read at a turn is the next to be kept, though the front is written over
-  pub kept-next : (i : ℕ) → i < length (take most (drop from s)) → getD (laid s 0 (take i (take most (drop from s)))) (from + i) 0 ≡ getD (take most (drop from s)) i 0
+  pub kept-next : (i : ℕ) → i < length (take most (drop from s))
+      → getD (laid s 0 (take i (take most (drop from s)))) (from + i) 0 ≡ getD (take most (drop from s)) i 0
   kept-next i h =
       let x = take most (drop from s) in
       let k = kept-length in
       let l : length (take i x) ≡ i = length-take-le i x (omega arith) in
       let p : from + i ≡ length (take i x) + from = omega arith in
       let w : i < most = omega arith in
-      ap (λ (n : ℕ). getD (laid s 0 (take i x)) n 0) p ∙ past-front s (take i x) from ∙ ap (λ (n : ℕ). getD s n 0) (sym p)
+      ap (λ (n : ℕ). getD (laid s 0 (take i x)) n 0) p ∙ past-front s (take i x) from
+      ∙ ap (λ (n : ℕ). getD s n 0) (sym p)
       ∙ sym (getD-take most (drop from s) i 0 w ∙ getD-drop from s i 0)

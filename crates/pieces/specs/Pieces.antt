@@ -1,18 +1,21 @@
--- A text of any length, read in pieces cut anywhere, whatever is said for a line. What is carried from one piece to the next is the line that has no
--- feed yet, at most so many characters of it: so many must tell what the whole line says.
+-- A text of any length, read in pieces cut anywhere, whatever is said for a line. What is carried from one piece to the
+-- next is the line that has no feed yet, at most so many characters of it: so many must tell what the whole line says.
 --     sayAll say ls                      what is said for lines, one after the other
 --     said say s                         what is said for a whole text
 --     whole ls                           the lines that have their feed
---     rest ls                            the characters of the line that has none; nothing where every line has its feed
+--     rest ls                            the characters of the line that has none; nothing where every line has its
+--                                        feed
 --     carried most s                     what is carried over from a piece
 --     together cs                        the pieces put together
---     pieces say most u cs               what is said for the pieces cs, where u was carried over from those before; at the end u itself is finished
+--     pieces say most u cs               what is said for the pieces cs, where u was carried over from those before; at
+--                                        the end u itself is finished
 --     Enough say most                    that the first characters, as many as are carried, tell what a line says
 --     feedAnswer, feedKept, feedWritten  what a call on one piece answers and leaves
 --     finishAnswer, finishWritten        what the call at the end of the text answers and leaves
 --     FeedWithin s out f                 that what a call answers is within its buffers
 --     Stepped, Ran                       what a program carries after one read, and after all so far
---     Sayable say t                      bytes that a program may hand to its output: what is said for the whole lines of a piece, or for all that was left at the end
+--     Sayable say t                      bytes that a program may hand to its output: what is said for the whole lines
+--                                        of a piece, or for all that was left at the end
 use Prim.Native.Nat.{ℕ, _/_, _<_, _≤_}
 use mathlib.Core.Path.{_≡_}
 use mathlib.Core.Bool.{Bool}
@@ -58,10 +61,12 @@ unfoldable pub pieces : (Line → List ℕ) → ℕ → List ℕ → List (List 
 pieces say most u [] = said say u
 pieces say most u (c ∷ cs) = saidWhole say (u ++ c) ++ pieces say most (carried most (u ++ c)) cs
 
--- lines that are at least as long as what is carried, agree in that, and both have a feed or both have none say the same
+-- lines that are at least as long as what is carried, agree in that, and both have a feed or both have none say the
+-- same
 pub record Enough (say : Line → List ℕ) (most : ℕ) : Type 0 where
   pub some : 0 < most
-  pub same : (l m : Line) → most ≤ length (l .chars) → most ≤ length (m .chars) → take most (l .chars) ≡ take most (m .chars) → l .fed ≡ m .fed → say l ≡ say m
+  pub same : (l m : Line) → most ≤ length (l .chars) → most ≤ length (m .chars)
+      → take most (l .chars) ≡ take most (m .chars) → l .fed ≡ m .fed → say l ≡ say m
 
 -- ## What the two calls answer and leave, with so many bytes of room for each byte of the piece, or refusal 1 and all as it was
 
@@ -72,7 +77,11 @@ module _ (say : Line → List ℕ) (each most : ℕ) (s out : List ℕ) where
   -- how much was said, and how much is carried over
   abbrev pub feedAnswer : Fed
   feedAnswer =
-      if roomFor each s out then record { refusal = accepted; written = length (saidWhole say s); held = length (carried most s) }
+      if roomFor each s out then record {
+        refusal = accepted;
+        written = length (saidWhole say s);
+        held = length (carried most s);
+      }
       else record { refusal = noRoom; written = 0; held = 0 }
 
   -- the buffer of the piece: what is carried over stands at its front
@@ -86,20 +95,23 @@ module _ (say : Line → List ℕ) (each most : ℕ) (s out : List ℕ) where
 module _ (say : Line → List ℕ) (each : ℕ) (s out : List ℕ) where
   -- how much was said of what was carried over, a last line without a feed among it
   abbrev pub finishAnswer : Written
-  finishAnswer = if roomFor each s out then record { refusal = accepted; next = length (said say s) } else record { refusal = noRoom; next = 0 }
+  finishAnswer = if roomFor each s out then record { refusal = accepted; next = length (said say s) }
+      else record { refusal = noRoom; next = 0 }
 
   -- the buffer of what is said
   abbrev pub finishWritten : List ℕ
   finishWritten = if roomFor each s out then laid out 0 (said say s) else out
 
--- what a caller needs of an answer to take the parts of its buffers: what was said is within its buffer, and what is carried within the piece
+-- what a caller needs of an answer to take the parts of its buffers: what was said is within its buffer, and what is
+-- carried within the piece
 pub record FeedWithin (s out : List ℕ) (f : Fed) : Type 0 where
   pub text : f .written ≤ length out
   pub carries : f .held ≤ length s
 
 -- ## What a program carries from read to read
 
--- what is carried after a read: what was carried before it, where nothing was read, or what the piece leaves that the bytes x made
+-- what is carried after a read: what was carried before it, where nothing was read, or what the piece leaves that the
+-- bytes x made
 pub data Stepped (most : ℕ) (u v : List ℕ) : Type 0 where
   ended : v ≡ u → Stepped most u v
   fed : (x : List ℕ) → v ≡ carried most (u ++ x) → Stepped most u v

@@ -1,6 +1,7 @@
--- A walk over the whole lines of a piece: each line's text is laid behind that of the line before. At each place there is room for it where no line
--- says more than `each` bytes for each byte of its own, and the buffer has so many for each byte of the piece. And each way in which a call on a piece, or
--- at the end of the text, can end, as its definition has it.
+-- A walk over the whole lines of a piece: each line's text is laid behind that of the line before. At each place there
+-- is room for it where no line says more than `each` bytes for each byte of its own, and the buffer has so many for
+-- each byte of the piece. And each way in which a call on a piece, or at the end of the text, can end, as its
+-- definition has it.
 --     Told s p               how far the whole lines go, as a call learns it
 --     Running ..             the walk's invariant
 use Prim.Native.Nat.{ℕ, _+_, _-_, _*_, _/_, _<_, _≤_}
@@ -21,7 +22,8 @@ use Rattle.text.specs.declared.laying.Written.{Written}
 use Rattle.text.specs.Laying.{layAnswer, layLeaves}
 use Rattle.text.specs.LayingLaws.{lay-fits}
 use Rattle.pieces.specs.declared.Progress.{Progress}
-use Rattle.pieces.specs.Pieces.{sayAll, said, whole, rest, saidWhole, carried, roomFor, Sayable, of-lines, of-all, FeedWithin, feedAnswer, feedKept, feedWritten, finishAnswer, finishWritten}
+use Rattle.pieces.specs.Pieces.{sayAll, said, whole, rest, saidWhole, carried, roomFor, Sayable, of-lines, of-all}
+use Rattle.pieces.specs.Pieces.{FeedWithin, feedAnswer, feedKept, feedWritten, finishAnswer, finishWritten}
 use Rattle.pieces.specs.Cuts.{parts, rest-plain, alone-open}
 
 -- ## The first line from a place on, where more lines follow or none
@@ -95,7 +97,8 @@ module _ (say : Line → List ℕ) (each : ℕ) where
 
     -- what is to come begins with what is said for the line that ends at e
     here-first : saidWhole say (drop at s) ≡ say here ++ saidWhole say (drop (e + 1) s)
-    here-first = ap (λ (ls : List Line). sayAll say (whole ls)) (lines-fed s at e before ends fed) ∙ whole-more say here (linesOf (drop (e + 1) s)) refl
+    here-first = ap (λ (ls : List Line). sayAll say (whole ls)) (lines-fed s at e before ends fed)
+        ∙ whole-more say here (linesOf (drop (e + 1) s)) refl
 
     -- it has room in a buffer that has room for each byte of the piece, and in one that has room for all that is said
     pub here-room : each * length s ≤ length out₀ → written + length (say here) ≤ length out
@@ -113,7 +116,8 @@ module _ (say : Line → List ℕ) (each : ℕ) where
         omega arith
 
     -- it is said, and the next place is behind its feed
-    pub running-more : written + length (say here) ≤ length out → (w : Written) (next : List ℕ) → w ≡ layAnswer out written (say here) → next ≡ layLeaves out written (say here)
+    pub running-more : written + length (say here) ≤ length out → (w : Written) (next : List ℕ)
+        → w ≡ layAnswer out written (say here) → next ≡ layLeaves out written (say here)
         → Running s out₀ (e + 1) (w .next) next
     running-more room w next h k =
         let x = say here in
@@ -129,7 +133,8 @@ module _ (say : Line → List ℕ) (each : ℕ) where
           few = rw a m;
           count = omega arith;
           text = rw (a, b, laid-more out written x (saidWhole say (drop (e + 1) s)) room, ← here-first) (r .text);
-          open-line = sym (rest-more here (linesOf (drop (e + 1) s)) refl) ∙ ap rest (sym (lines-fed s at e before ends fed)) ∙ r .open-line;
+          open-line = sym (rest-more here (linesOf (drop (e + 1) s)) refl)
+              ∙ ap rest (sym (lines-fed s at e before ends fed)) ∙ r .open-line;
         }
 
   -- where there is no whole line more, all is said
@@ -144,11 +149,13 @@ module _ (say : Line → List ℕ) (each : ℕ) where
       )
 
   module _ (s out₀ : List ℕ) (at written : ℕ) (out : List ℕ) (r : Running s out₀ at written out) where
-    pub running-done : length s ≤ at → Told s record { written = written; next = at } × (out ≡ laid out₀ 0 (saidWhole say s))
+    pub running-done : length s ≤ at → Told s record { written = written; next = at }
+        × (out ≡ laid out₀ 0 (saidWhole say s))
     unfolding whole rest sayAll
     running-done h =
         let n = lines-done s at h in
-        running-end s out₀ at written out r (ap (λ (ls : List Line). sayAll say (whole ls)) n) (ap rest n ∙ sym (drop-of-length-le s h))
+        running-end s out₀ at written out r (ap (λ (ls : List Line). sayAll say (whole ls)) n) (ap rest n
+        ∙ sym (drop-of-length-le s h))
 
     pub running-open : (e : ℕ) → at < length s → at + feedAt (drop at s) ≡ e → length s ≤ e
         → Told s record { written = written; next = at } × (out ≡ laid out₀ 0 (saidWhole say s))
@@ -167,14 +174,18 @@ room-each each n m some h = let k = le-div-iff-mul-le some .0 h in let c = mul-c
 -- ## The ends of the two calls
 
 module _ (say : Line → List ℕ) (each most : ℕ) (s out : List ℕ) (none : length out / each < length s) where
-  pub feed-short : ((record { refusal = noRoom; written = 0; held = 0 } ≡ feedAnswer say each most s out) × FeedWithin s out record { refusal = noRoom; written = 0; held = 0 })
+  pub feed-short : ((record { refusal = noRoom; written = 0; held = 0 } ≡ feedAnswer say each most s out)
+      × FeedWithin s out record { refusal = noRoom; written = 0; held = 0 })
       × ((s ≡ feedKept say each most s out) × (out ≡ feedWritten say each most s out))
-  feed-short = rw (lt-leb (length s) (length out / each) none) ((refl, record { text = omega arith; carries = omega arith }), (refl, refl))
+  feed-short = rw (lt-leb (length s) (length out / each) none)
+      ((refl, record { text = omega arith; carries = omega arith }), (refl, refl))
 
-  pub finish-short : ((record { refusal = noRoom; next = 0 } ≡ finishAnswer say each s out) × (0 ≤ length out)) × (out ≡ finishWritten say each s out)
+  pub finish-short : ((record { refusal = noRoom; next = 0 } ≡ finishAnswer say each s out) × (0 ≤ length out))
+      × (out ≡ finishWritten say each s out)
   finish-short = rw (lt-leb (length s) (length out / each) none) ((refl, omega arith), refl)
 
-module _ (say : Line → List ℕ) (each : ℕ) (some : 0 < each) (s out : List ℕ) (room : length s ≤ length out / each) (p : Progress) (told : Told say each s p) (after : List ℕ)
+module _ (say : Line → List ℕ) (each : ℕ) (some : 0 < each) (s out : List ℕ) (room : length s ≤ length out / each)
+    (p : Progress) (told : Told say each s p) (after : List ℕ)
     (lines : after ≡ laid out 0 (saidWhole say s)) where
   -- what was said for whole lines is within the buffer
   told-fits : p .written ≤ length out
@@ -184,29 +195,36 @@ module _ (say : Line → List ℕ) (each : ℕ) (some : 0 < each) (s out : List 
       let r = room-each each (length s) (length out) some room in
       omega arith
 
-  pub feed-done : (most held : ℕ) (kept : List ℕ) → held ≡ length (take most (drop (p .next) s)) → kept ≡ laid s 0 (take most (drop (p .next) s))
-      → ((record { refusal = accepted; written = p .written; held = held } ≡ feedAnswer say each most s out) × FeedWithin s out record { refusal = accepted; written = p .written; held = held })
+  pub feed-done : (most held : ℕ) (kept : List ℕ) → held ≡ length (take most (drop (p .next) s))
+      → kept ≡ laid s 0 (take most (drop (p .next) s))
+      → ((record { refusal = accepted; written = p .written; held = held } ≡ feedAnswer say each most s out)
+      × FeedWithin s out record { refusal = accepted; written = p .written; held = held })
       × ((kept ≡ feedKept say each most s out) × (after ≡ feedWritten say each most s out))
   feed-done most held kept h k =
       let a = rw (told .left) at h in let b = rw (told .left) at k in
       let size = length-take most (drop (p .next) s) in let back = length-drop (p .next) s in
-      let within : FeedWithin s out record { refusal = accepted; written = p .written; held = held } = record { text = told-fits; carries = omega arith } in
+      let within : FeedWithin s out record { refusal = accepted; written = p .written; held = held } =
+      record { text = told-fits; carries = omega arith } in
       rw (le-leb (length s) (length out / each) room) ((rw (told .text, a) refl, within), (b, lines))
 
   -- every line had its feed
   pub finish-whole : length s ≤ p .next
-      → ((record { refusal = accepted; next = p .written } ≡ finishAnswer say each s out) × (p .written ≤ length out)) × (after ≡ finishWritten say each s out)
+      → ((record { refusal = accepted; next = p .written } ≡ finishAnswer say each s out) × (p .written ≤ length out))
+      × (after ≡ finishWritten say each s out)
   unfolding sayAll linesOf
   finish-whole h =
       let none : rest (linesOf s) ≡ [] = sym (told .left) ∙ drop-of-length-le s h in
-      let all : said say s ≡ saidWhole say s = parts say s ∙ ap (λ (u : List ℕ). saidWhole say s ++ said say u) none ∙ append-nil (saidWhole say s) in
+      let all : said say s ≡ saidWhole say s =
+      parts say s ∙ ap (λ (u : List ℕ). saidWhole say s ++ said say u) none ∙ append-nil (saidWhole say s) in
       let fit = told-fits in
       rw (le-leb (length s) (length out / each) room, all) ((rw (told .text) refl, fit), lines)
 
   -- a last line had none
-  pub finish-open : Short say each → (u : List ℕ) → u ≡ drop (p .next) s → p .next < length s → (w : Written) (last : List ℕ) →
+  pub finish-open : Short say each → (u : List ℕ) → u ≡ drop (p .next) s → p .next < length s
+      → (w : Written) (last : List ℕ) →
       let x = say record { chars = u; fed = false } in
-      w ≡ layAnswer after (p .written) x → last ≡ layLeaves after (p .written) x → ((w ≡ finishAnswer say each s out) × (w .next ≤ length out)) × (last ≡ finishWritten say each s out)
+      w ≡ layAnswer after (p .written) x → last ≡ layLeaves after (p .written) x
+      → ((w ≡ finishAnswer say each s out) × (w .next ≤ length out)) × (last ≡ finishWritten say each s out)
   finish-open short u e h w last a b =
       let l : Line = record { chars = u; fed = false } in
       let x = say l in
@@ -220,7 +238,8 @@ module _ (say : Line → List ℕ) (each : ℕ) (some : 0 < each) (s out : List 
       let size : length after ≡ length out = rw lines (laid-length out 0 t (omega arith)) in
       let sum-width : p .next + width l ≡ length s = omega arith in
       let both : each * (p .next + width l) ≡ each * p .next + each * width l = mul-add each (p .next) (width l) in
-      let whole-room : each * (p .next + width l) ≤ length out = rw sum-width (room-each each (length s) (length out) some room) in
+      let whole-room : each * (p .next + width l) ≤ length out =
+      rw sum-width (room-each each (length s) (length out) some room) in
       let fits : p .written + length x ≤ length after = omega arith in
       let one : said say (rest (linesOf s)) ≡ x =
       ap (said say) (sym (e ∙ told .left)) ∙ alone-open say u (omega arith) (rw (e, told .left) (rest-plain s)) in
@@ -238,22 +257,26 @@ module _ (say : Line → List ℕ) (each : ℕ) (some : 0 < each) (s out : List 
 -- ## A program that reads behind what is carried
 
 -- what a call leaves at the front of its buffer is what is carried over, whatever stands behind the piece
-pub front-carried : (say : Line → List ℕ) (each most : ℕ) (s out : List ℕ) → length s ≤ length out / each → (held : ℕ) (kept behind : List ℕ)
-    → held ≡ feedAnswer say each most s out .held → kept ≡ feedKept say each most s out → take held (kept ++ behind) ≡ carried most s
+pub front-carried : (say : Line → List ℕ) (each most : ℕ) (s out : List ℕ) → length s ≤ length out / each
+    → (held : ℕ) (kept behind : List ℕ)
+    → held ≡ feedAnswer say each most s out .held → kept ≡ feedKept say each most s out
+    → take held (kept ++ behind) ≡ carried most s
 unfolding laid
 front-carried say each most s out room held kept behind h k =
     let x = carried most s in
     let test = le-leb (length s) (length out / each) room in
     let size : held ≡ length x = h ∙ rw test refl in
     let front : kept ≡ x ++ drop (0 + length x) s = k ∙ rw test refl in
-    rw (size, front, append-assoc x (drop (0 + length x) s) behind) (take-append-seam x (drop (0 + length x) s ++ behind))
+    rw (size, front, append-assoc x (drop (0 + length x) s) behind)
+    (take-append-seam x (drop (0 + length x) s ++ behind))
 
 -- the bytes read stand behind those that were carried
 pub read-behind : (before after : List ℕ) (held filled : ℕ) → held ≤ filled → take held after ≡ take held before
     → take filled after ≡ take held before ++ take (filled - held) (drop held after)
 read-behind before after held filled h same =
     let sum : held + (filled - held) ≡ filled = omega arith in
-    ap (λ (n : ℕ). take n after) (sym sum) ∙ take-add held (filled - held) after ∙ ap (λ (u : List ℕ). u ++ take (filled - held) (drop held after)) same
+    ap (λ (n : ℕ). take n after) (sym sum) ∙ take-add held (filled - held) after
+    ∙ ap (λ (u : List ℕ). u ++ take (filled - held) (drop held after)) same
 
 pub room-part : (each n m : ℕ) → 0 < each → each * n ≤ m → n ≤ m / each
 room-part each n m some h = let c = mul-comm n each in le-div-iff-mul-le some .1 (omega arith)

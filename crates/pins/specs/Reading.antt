@@ -1,5 +1,6 @@
 -- The reads of the call for address pins, as its loop makes them.
---     Holds list0 list r f     a reading, and the list beside it, hold what was found: the codes from place 0 of the list, their pins, how many they are, and the bench
+--     Holds list0 list r f     a reading, and the list beside it, hold what was found: the codes from place 0 of the
+--                              list, their pins, how many they are, and the bench
 --     countedPin n q p         a count of those that have the pin number p, with one more that has q
 use Prim.Native.Nat.{ℕ, _+_, _≤_}
 use mathlib.Core.List.{List}

@@ -4,7 +4,8 @@ ghost use Prim.Native.Nat.{_≤_, _<_, _+_};
 ghost use lib.ListN.{length, take};
 ghost use Rattle.refusals.specs.Refusals.{accepted};
 ghost use Rattle.basic_laws.specs.Fold.{fold};
-ghost use Rattle.master_rules.specs.Pins.{isPinned, havePin, sharedPin, pinsStep, PinsFound, nobodyRead, notPinned, pinsSearched, pinsOutcome, pinnedOf, pinsListAfter};
+ghost use Rattle.master_rules.specs.Pins.{isPinned, havePin, sharedPin, pinsStep, PinsFound, nobodyRead, notPinned};
+ghost use Rattle.master_rules.specs.Pins.{pinsSearched, pinsOutcome, pinnedOf, pinsListAfter};
 ghost use Rattle.commands.specs.Commands.{searchRom};
 ghost use Rattle.master_rules.specs.Search.{searchOutcome};
 ghost use Rattle.pins.specs.Reading.{Holds, countedPin};
@@ -34,7 +35,9 @@ fn is_pinned(code: u64) -> bool
 // A read at the code of a probe that has pins; a reply that is refused adds nothing.
 fn read_one(r: Reading, code: u64, list: &mut [u64]) -> Reading
     requires { ⌜ (r .codes < 32) × (32 ≤ length (now list)) ⌝ }
-    ensures { λ s. ⌜ (s .codes ≤ r .codes + 1) × ((list0 : _) (f : PinsFound) → Holds list0 (now (list .entry)) r f → Holds list0 (now (list .exit)) s (pinsStep f code)) ⌝ }
+    ensures { λ s. ⌜ (s .codes ≤ r .codes + 1)
+        × ((list0 : _) (f : PinsFound) → Holds list0 (now (list .entry)) r f
+        → Holds list0 (now (list .exit)) s (pinsStep f code)) ⌝ }
 {
     if !is_pinned(code) {
         return r;
@@ -64,7 +67,8 @@ fn read_one(r: Reading, code: u64, list: &mut [u64]) -> Reading
 // A read at each of some codes whose family has pins, one after another.
 fn read_all(bench: Bench, codes: &[u64], list: &mut [u64]) -> Reading
     requires { ⌜ (length (now codes) ≤ 32) × (32 ≤ length (now list)) ⌝ }
-    ensures { λ r. ⌜ Holds (now (list .entry)) (now (list .exit)) r (fold pinsStep (nobodyRead bench) (now (codes .entry))) ⌝ }
+    ensures { λ r. ⌜ Holds (now (list .entry)) (now (list .exit)) r
+        (fold pinsStep (nobodyRead bench) (now (codes .entry))) ⌝ }
 {
     let mut r = Reading {
         codes: 0,
@@ -133,7 +137,13 @@ fn refuse(refusal: u8, bench: Bench) -> Pinned
 // The answer of the reads.
 fn answer_of(read: Reading) -> Pinned
     requires { ⌜ read .codes ≤ 32 ⌝ }
-    ensures { λ r. ⌜ r ≡ record { refusal = accepted; codes = read .codes; pins = read .pins; shared = sharedPin (take (read .codes) (read .pins)); bench = read .bench } ⌝ }
+    ensures { λ r. ⌜ r ≡ record {
+      refusal = accepted;
+      codes = read .codes;
+      pins = read .pins;
+      shared = sharedPin (take (read .codes) (read .pins));
+      bench = read .bench;
+    } ⌝ }
 {
     let pins = read.pins;
     let codes = read.codes;
@@ -158,7 +168,8 @@ fn search_and_read(
 ) -> Pinned
     requires { ⌜ (length (now found) ≡ 32) × (length (now recording) ≡ 1824) × (32 ≤ length (now list)) ⌝ }
     ensures answer { λ r. ⌜ r ≡ pinnedOf (pinsSearched (searchOutcome searchRom bench 32 1824)) ⌝ }
-    ensures listed { λ r. ⌜ now (list .exit) ≡ pinsListAfter (now (list .entry)) (pinsSearched (searchOutcome searchRom bench 32 1824)) ⌝ }
+    ensures listed { λ r. ⌜ now (list .exit) ≡ pinsListAfter (now (list .entry))
+        (pinsSearched (searchOutcome searchRom bench 32 1824)) ⌝ }
 {
     let searched = search::search(bench, found, recording);
     let after = searched.bench;
@@ -171,7 +182,8 @@ fn search_and_read(
 // Lists the probes that have address pins, in the order of a search, with their pins as they are read.
 pub fn read_pins(bench: Bench, list: &mut [u64]) -> Pinned
     ensures answer { λ r. ⌜ r ≡ pinnedOf (pinsOutcome bench (length (now (list .entry)))) ⌝ }
-    ensures listed { λ r. ⌜ now (list .exit) ≡ pinsListAfter (now (list .entry)) (pinsOutcome bench (length (now (list .entry)))) ⌝ }
+    ensures listed { λ r. ⌜ now (list .exit) ≡ pinsListAfter (now (list .entry))
+        (pinsOutcome bench (length (now (list .entry)))) ⌝ }
 {
     if list.len() < FEWEST_PLACES {
         return refuse(refusals::NO_ROOM, bench);

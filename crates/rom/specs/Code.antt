@@ -3,7 +3,8 @@
 --     serialOf c       bits 8 to 55
 --     crcByteOf c      bits 56 to 63
 --     codeBits c       the 64 bits in the order in which they are sent
---     codeRefusal c    5 where the CRC byte is not the CRC of the other seven, else 7 where the family is none of ours, else 0
+--     codeRefusal c    5 where the CRC byte is not the CRC of the other seven, else 7 where the family is none of ours,
+--                      else 0
 --     sound c          the scope's "sound": not refused
 -- The code 0 has a right CRC and is refused for its family.
 use Prim.Native.Nat.{ℕ, _/_, _%_, _^_}

@@ -1,10 +1,13 @@
--- The scope's twelve cases, P1 to P12, as one list under one statement, `cases-hold`. It speaks of the definitions alone: that the
--- code answers what they say is the promise of each function.
+-- The scope's twelve cases, P1 to P12, as one list under one statement, `cases-hold`. It speaks of the definitions
+-- alone: that the code answers what they say is the promise of each function.
 --     crc bytes is byte                      the CRC of the bytes, in the order sent
---     family f register r at c reads t       the reading of these sixteen bits with the configuration c, in the family's unit
---     register r high h low l flags b        whether a B reading sets the alarm flag, with limits as their bytes: FFh is -1
+--     family f register r at c reads t       the reading of these sixteen bits with the configuration c, in the
+--                                            family's unit
+--     register r high h low l flags b        whether a B reading sets the alarm flag, with limits as their bytes: FFh
+--                                            is -1
 --     caseReading f bits c                   the reading of sixteen bits, by the decoder that the judgement uses
---     right c                                whether a case is as the definitions have it; the flag is the verdict that a device keeps
+--     right c                                whether a case is as the definitions have it; the flag is the verdict that
+--                                            a device keeps
 --     cases                                  the twelve
 --     clearedCases                           bits that a resolution leaves undefined, at both ends of the range
 use Prim.Native.Nat.{ℕ, _/_, _%_}
@@ -76,7 +79,8 @@ cases-hold = refl
 
 -- ## Undefined bits (request E2)
 
--- both ends of the range at each resolution: the highest number that is read as 125 degrees, what is just past it, and the lowest
+-- both ends of the range at each resolution: the highest number that is read as 125 degrees, what is just past it, and
+-- the lowest
 abbrev pub clearedCases : List Case
 clearedCases =
     family ds18b20 register 0x0191 at 0x1F reads sixteenths (pos 400)

@@ -1,10 +1,14 @@
 -- The two count bytes of S, and the fine reading that they give with the register.
 --     countsPerDegree                             16, which a finished conversion leaves in byte 7
---     remainingOf count                           what it leaves in byte 6: for s sixteenths 16 t + 12 - s, where t is four sixteenths more than s in whole degrees
---     countsRight unit remaining perDegree        whether count bytes can be believed: of half degrees byte 7 is not zero and byte 6 not above it; of sixteenths any can
---     fraction whole remaining perDegree          whole degrees, less a quarter, plus (perDegree - remaining) / perDegree, as a whole number over 4 perDegree, not reduced
+--     remainingOf count                           what it leaves in byte 6: for s sixteenths 16 t + 12 - s, where t is
+--                                                 four sixteenths more than s in whole degrees
+--     countsRight unit remaining perDegree        whether count bytes can be believed: of half degrees byte 7 is not
+--                                                 zero and byte 6 not above it; of sixteenths any can
+--     fraction whole remaining perDegree          whole degrees, less a quarter, plus (perDegree - remaining) /
+--                                                 perDegree, as a whole number over 4 perDegree, not reduced
 --     noFine                                      zero over zero, where there is no fine reading
---     fineOf reading remaining perDegree          of half degrees that fraction of their whole degrees, where the counts are right; else none
+--     fineOf reading remaining perDegree          of half degrees that fraction of their whole degrees, where the
+--                                                 counts are right; else none
 use Prim.Native.Nat.{ℕ, _-_, _*_}
 use mathlib.Core.Bool.{Bool, true, _&&_}
 use lib.Dec.{leb, ltb}
@@ -24,7 +28,8 @@ abbrev pub countsPerDegree : ℕ
 countsPerDegree = 16
 
 unfoldable pub remainingOf : Sixteenths → ℕ
-remainingOf count = let t = wholeOf (InSixteenths (count plus 4 sixteenths)) in bits8 (t .0 *ℤ pos 16 +ℤ pos 12 -ℤ count .0)
+remainingOf count = let t = wholeOf (InSixteenths (count plus 4 sixteenths)) in
+    bits8 (t .0 *ℤ pos 16 +ℤ pos 12 -ℤ count .0)
 
 abbrev pub countsRight : Unit → ℕ → ℕ → Bool
 countsRight inSixteenths remaining perDegree = true
@@ -42,4 +47,5 @@ noFine = record { numerator = pos 0; denominator = 0 }
 abbrev pub fineOf : Reading → ℕ → ℕ → FineDegrees
 fineOf (InSixteenths c) remaining perDegree = noFine
 fineOf (InHalves h) remaining perDegree =
-    if countsRight inHalfDegrees remaining perDegree then fraction (wholeOf (InHalves h)) remaining perDegree else noFine
+    if countsRight inHalfDegrees remaining perDegree then fraction (wholeOf (InHalves h)) remaining perDegree
+    else noFine

@@ -1,6 +1,8 @@
 -- The temperature of a scratchpad in single-precision degrees, as the judgement reads it.
---     sixteenthsOf r             a reading in sixteenths; half degrees out of range, which no judgement accepts, are zero
---     degreesIn family pad       the refusal of the judgement, or 0, and the degrees of its reading, which is zero beside a refusal
+--     sixteenthsOf r             a reading in sixteenths; half degrees out of range, which no judgement accepts, are
+--                                zero
+--     degreesIn family pad       the refusal of the judgement, or 0, and the degrees of its reading, which is zero
+--                                beside a refusal
 use Prim.Native.Nat.{ℕ}
 use mathlib.Core.List.{List}
 use Rattle.temperature.specs.Degrees.{degreesOf}

@@ -1,11 +1,14 @@
--- The judgement of nine scratchpad bytes for a family: the refusal, in the order of the scope's table, or the reading in its unit.
+-- The judgement of nine scratchpad bytes for a family: the refusal, in the order of the scope's table, or the reading
+-- in its unit.
 --     crcRight pad              whether the ninth byte is the CRC of the eight before it
 --     allZeros pad              whether every byte is 0, as on a wire that is stuck low; their CRC is right
---     kindRight row pad         whether the row is of a family of ours and the configuration, where it has one, is in stored form
+--     kindRight row pad         whether the row is of a family of ours and the configuration, where it has one, is in
+--                               stored form
 --     countsBelieved row pad    whether its count bytes can be believed, where the family has them
 --     refusedPad n              a refusal, with a zero reading and no fine one
 --     judged family pad         5, 6, 7, 11 or 20, in that order, with no reading; or 0, the reading and the fine one
--- Other bytes are not judged: a family without a configuration may have anything in byte 4, and a limit may be any byte.
+-- Other bytes are not judged: a family without a configuration may have anything in byte 4, and a limit may be any
+-- byte.
 use Prim.Native.Nat.{ℕ}
 use mathlib.Core.Bool.{Bool, not, _&&_}
 use mathlib.Core.List.{List}

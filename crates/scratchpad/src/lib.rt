@@ -4,7 +4,8 @@ pub mod fine;
 
 ghost use mathlib.Core.Path.{_≡_};
 ghost use Rattle.temperature.specs.Register.{registerOf};
-ghost use Rattle.scratchpad.specs.Stored.{readingIn, fineIn, storedReading, withRegister, withCounts, scratchpadAfter};
+ghost use Rattle.scratchpad.specs.Stored.{readingIn, fineIn, storedReading, withRegister, withCounts};
+ghost use Rattle.scratchpad.specs.Stored.{scratchpadAfter};
 ghost use Rattle.temperature.specs.Degrees.{IsSixteenths};
 ghost use Rattle.scratchpad.specs.InDegrees.{sixteenthsOf, degreesIn};
 ghost use Rattle.scratchpad.specs.Judgement.{crcRight, allZeros, kindRight, countsBelieved, refusedPad, judged};

@@ -1,7 +1,8 @@
--- One pass of a search with the frame that records it (the scope, "The master"): the walk of the search's laws over the bench's own calls, its
--- lines as a frame.
+-- One pass of a search with the frame that records it (the scope, "The master"): the walk of the search's laws over the
+-- bench's own calls, its lines as a frame.
 --     walkOf v                the walk v, as the program keeps it
---     oneSlot f b x           the slot in which the master offers x: the frame with the line's bit, that bit, and the bench after it
+--     oneSlot f b x           the slot in which the master offers x: the frame with the line's bit, that bit, and the
+--                             bench after it
 --     onePlace prev D j w     the two reads at place j and the bit taken; only the reads where nobody answers
 --     passBegun command b     the eight slots of the command, on a bench that the reset has restarted
 use Prim.Native.Nat.{ℕ, suc, _+_, _*_, _-_, _/_, _^_, _<_, _≤_}
@@ -21,7 +22,8 @@ use Rattle.frame.specs.declared.Frame.{Frame}
 use Rattle.search_laws.specs.Departure.{takes}
 use Rattle.search_laws.specs.Pass.{triple, tookZero, choice, onSome}
 use Rattle.search_laws.specs.PassLaws.{on-some, on-both}
-use Rattle.search_laws.specs.PassLoop.{Walk as PassWalk, walk, walkOn, walkEnds, onward, bit-step, steps, steps-turn, steps-end, steps-over}
+use Rattle.search_laws.specs.PassLoop.{Walk as PassWalk, walk, walkOn, walkEnds, onward, bit-step, steps, steps-turn}
+use Rattle.search_laws.specs.PassLoop.{steps-end, steps-over}
 use Rattle.search_laws.specs.Wire.{slots}
 use Rattle.bench.specs.Slot.{slotted}
 use Rattle.bench.specs.declared.Bench.{Bench}
@@ -33,7 +35,13 @@ use Rattle.master_rules.specs.Search.{codeLength, frameOf}
 use Rattle.master_rules.specs.Buses.{calls}
 
 abbrev pub walkOf : PassWalk Bench → Walk
-walkOf v = record { answered = v .answered; code = v .code; last = v .last; shown = frameOf (v .lines); bench = v .devices }
+walkOf v = record {
+  answered = v .answered;
+  code = v .code;
+  last = v .last;
+  shown = frameOf (v .lines);
+  bench = v .devices;
+}
 
 unfoldable pub oneSlot : Frame → Bench → Bool → Shown
 oneSlot f b x = record { frame = pushed f (slotted b x .line); line = slotted b x .line; bench = slotted b x .bench }
@@ -48,7 +56,13 @@ walkOver w s = record { answered = false; code = w .code; last = w .last; shown 
 
 abbrev pub walkOnward : ℕ → Walk → Bool → Bool → Bool → Shown → Walk
 walkOnward j w a b d s =
-    record { answered = true; code = w .code + bitNumber d * 2 ^ j; last = lastAfter a b d j (w .last); shown = s .frame; bench = s .bench }
+    record {
+      answered = true;
+      code = w .code + bitNumber d * 2 ^ j;
+      last = lastAfter a b d j (w .last);
+      shown = s .frame;
+      bench = s .bench;
+    }
 
 unfoldable pub onePlace : ℕ → ℕ → ℕ → Walk → Walk
 onePlace prev D j w =
@@ -93,7 +107,13 @@ module _ (prev D j : ℕ) (w : Walk) where
   nobody = slotted (w .bench) true .line && slotted (slotted (w .bench) true .bench) true .line
 
   abbrev walkedOver : Walk
-  walkedOver = record { answered = false; code = w .code; last = w .last; shown = readsShown; bench = slotsThere .bench }
+  walkedOver = record {
+    answered = false;
+    code = w .code;
+    last = w .last;
+    shown = readsShown;
+    bench = slotsThere .bench;
+  }
 
   abbrev walkedOn : Walk
   walkedOn =
@@ -109,7 +129,8 @@ module _ (prev D j : ℕ) (w : Walk) where
   unfolding onePlace oneSlot placed
   place-over = by-test nobody refl
     where
-      by-test : (t : Bool) → nobody ≡ t → (slotsThere .first && slotsThere .second) ≡ true → onePlace prev D j w ≡ walkedOver
+      by-test : (t : Bool) → nobody ≡ t → (slotsThere .first && slotsThere .second) ≡ true
+          → onePlace prev D j w ≡ walkedOver
       by-test true e h = rw (choice-none _ _ (takes prev D j) e, e)
       by-test false e h = absurd (false≢true (sym e ∙ (rw e at h)))
 
@@ -117,7 +138,8 @@ module _ (prev D j : ℕ) (w : Walk) where
   unfolding onePlace oneSlot placed
   place-on = by-test nobody refl
     where
-      by-test : (t : Bool) → nobody ≡ t → (slotsThere .first && slotsThere .second) ≡ false → onePlace prev D j w ≡ walkedOn
+      by-test : (t : Bool) → nobody ≡ t → (slotsThere .first && slotsThere .second) ≡ false
+          → onePlace prev D j w ≡ walkedOn
       by-test true e h = absurd (true≢false (sym e ∙ (rw e at h)))
       by-test false e h = rw (choice-some _ _ (takes prev D j) e, e)
 
@@ -130,7 +152,8 @@ last-kept true true d j last = refl
 
 -- the slots of the command, as a loop of halvings makes them
 pub command-turn : (n i x : ℕ) (f : Frame) (b : Bench) → i < n
-    → commandSent (n - i) x f b ≡ commandSent (n - (i + 1)) (x / 2) (oneSlot f b (odd x) .frame) (oneSlot f b (odd x) .bench)
+    → commandSent (n - i) x f b ≡ commandSent (n - (i + 1)) (x / 2) (oneSlot f b (odd x) .frame)
+    (oneSlot f b (odd x) .bench)
 unfolding commandSent oneSlot bitsOf slots fold
 command-turn n i x f b h = let e : n - i ≡ suc (n - (i + 1)) = omega arith in rw e
 
@@ -141,7 +164,8 @@ command-end n i x f b h = let e : n - i ≡ 0 = omega arith in rw e
 
 -- a pass that has begun is where the walk of the laws starts
 pub begun-walk : (command : ℕ) (b : Bench)
-    → passBegun command b ≡ walkOf (let s = slots calls (bitsOf 8 command) b in walk true 0 codeLength (s .lines) (s .devices))
+    → passBegun command b ≡ walkOf (let s = slots calls (bitsOf 8 command) b in
+    walk true 0 codeLength (s .lines) (s .devices))
 unfolding commandSent
 begun-walk command b = refl
 
@@ -154,9 +178,14 @@ place-walk prev D j v =
     let a = slotted (v .devices) true .line in
     let b = slotted once true .line in
     on-both (λ (w : Walk) (u : PassWalk Bench). w ≡ walkOf u) (choice a b (takes prev D j))
-    _ _ (walkEnds v (a ∷ b ∷ []) twice) (λ d. walkOn j v (triple a b d) (slotted twice d .line) (slotted twice d .bench))
+    _ _ (walkEnds v (a ∷ b ∷ []) twice) (λ d. walkOn j v (triple a b d) (slotted twice d .line)
+    (slotted twice d .bench))
     (rw (fold-append pushed (blankFrame true) (v .lines) (a ∷ b ∷ [])))
-    (λ d. rw (last-kept a b d j (v .last), fold-append pushed (blankFrame true) (v .lines) (a ∷ b ∷ slotted twice d .line ∷ [])))
+    (λ d. rw (
+      last-kept a b d j (v .last),
+      fold-append pushed (blankFrame true) (v .lines)
+          (a ∷ b ∷ slotted twice d .line ∷ []),
+    ))
 
 -- ## The walk along the places
 
@@ -179,7 +208,8 @@ unfolding onePlace
 place-small prev D j w h =
     let first = oneSlot (w .shown) (w .bench) true in
     let second = oneSlot (first .frame) (first .bench) true in
-    on-some (λ (v : Walk). v .code < 2 ^ (j + 1)) (choice (first .line) (second .line) (takes prev D j)) (walkOver w second)
+    on-some (λ (v : Walk). v .code < 2 ^ (j + 1)) (choice (first .line) (second .line) (takes prev D j))
+    (walkOver w second)
     (λ d. walkOnward j w (first .line) (second .line) d (oneSlot (second .frame) (second .bench) d))
     (let e = double j in omega arith) (λ d. code-small (w .code) j d h)
 
@@ -207,9 +237,11 @@ module _ (prev D : ℕ) (v₀ : PassWalk Bench) where
       record {
         walked = v;
         is = k .is;
-        comes = steps-over calls prev D (codeLength - (j + 1)) (j + 1) v e ∙ sym (steps-over calls prev D (codeLength - j) j v e) ∙ k .comes;
+        comes = steps-over calls prev D (codeLength - (j + 1)) (j + 1) v e
+            ∙ sym (steps-over calls prev D (codeLength - j) j v e) ∙ k .comes;
         small = omega (arith, double j);
       }
 
-  pub walking-end : (j : ℕ) (w : Walk) → codeLength ≤ j → Walking prev D v₀ j w → w ≡ walkOf (steps calls prev D codeLength 0 v₀)
+  pub walking-end : (j : ℕ) (w : Walk) → codeLength ≤ j → Walking prev D v₀ j w
+      → w ≡ walkOf (steps calls prev D codeLength 0 v₀)
   walking-end j w h k = k .is ∙ ap walkOf (sym (steps-end calls prev D codeLength j (k .walked) h) ∙ k .comes)

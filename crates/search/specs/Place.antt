@@ -1,6 +1,7 @@
 -- The three slots of one place of a search (the scope, "The master").
 --     chosen a b w      the bit to take after reading a and b, not both 1, where the plan has w
---     placed b w        on the bench b two reads and the slot of the bit taken; where both reads show 1 nobody answers, and the reads are all
+--     placed b w        on the bench b two reads and the slot of the bit taken; where both reads show 1 nobody answers,
+--                       and the reads are all
 use mathlib.Core.Bool.{Bool, true, false, _&&_}
 use Rattle.basic_laws.specs.Choice.{if_then_else_}
 use Rattle.bench.specs.Slot.{slotted}

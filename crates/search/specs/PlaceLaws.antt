@@ -1,5 +1,6 @@
--- On a free wire, where every device is quiet or at the first slot of place j, the three slots of the place show what the codes say and leave each device settled: `placed-at-once`.
--- Device by device a quiet one stays as it is, and a searching one sends its bit, its complement, and takes the bit; the rest carries that over the devices of the bench.
+-- On a free wire, where every device is quiet or at the first slot of place j, the three slots of the place show what
+-- the codes say and leave each device settled: `placed-at-once`. Device by device a quiet one stays as it is, and a
+-- searching one sends its bit, its complement, and takes the bit; the rest carries that over the devices of the bench.
 use Prim.Native.Nat.{ℕ, zero, suc, _<_}
 use mathlib.Core.Logic.{_⊎_, inl, inr, ⊎-elim}
 use mathlib.Core.Path.{_≡_, refl, sym, ap, _∙_}
@@ -21,14 +22,16 @@ use Rattle.device.specs.declared.Device.{Device}
 use Rattle.device.specs.declared.Phase.{Phase}
 use Rattle.device.specs.declared.Phase.the-variants.{SendBit, SendComplement, TakeBit}
 use Rattle.device.specs.declared.Stage.{Stage}
-use Rattle.device.specs.declared.Stage.the-variants.{AwaitRom, SendRom, Match, Search, AwaitFunction, TakeSettings, SendScratchpad, SendStatus, SendPower, Quiet}
+use Rattle.device.specs.declared.Stage.the-variants.{AwaitRom, SendRom, Match, Search, AwaitFunction, TakeSettings}
+use Rattle.device.specs.declared.Stage.the-variants.{SendScratchpad, SendStatus, SendPower, Quiet}
 use Rattle.bench.specs.Bench.{live, free}
 use Rattle.bench.specs.Slot.{lineBit, heard, slotted}
 use Rattle.bench.specs.declared.Bench.{Bench}
 use Rattle.bench.specs.declared.Slotted.{Slotted}
 use Rattle.bench.specs.Laws.{heard-live}
 use Rattle.search.specs.Place.{chosen, placed}
-use Rattle.search.specs.Standing.{quietAt, firstOf, startsAt, fits, oneAt, zeroSentAt, settledOf, surveyStart, surveyedWith}
+use Rattle.search.specs.Standing.{quietAt, firstOf, startsAt, fits, oneAt, zeroSentAt, settledOf, surveyStart}
+use Rattle.search.specs.Standing.{surveyedWith}
 use Rattle.search.specs.declared.place.Placed.{Placed}
 use Rattle.search.specs.declared.place.Survey.{Survey}
 
@@ -48,7 +51,8 @@ module _ (j : ℕ) (x : Bool) (d : Device) where
   settled-quiet h = rw (is-true (quietAt (d .stage)) h)
 
 -- a device that fits is quiet, or at the first slot of the place
-stage-cases : (j : ℕ) (P : Stage → Type 0) → P Quiet → (j < 64 → P (Search j SendBit)) → (s : Stage) → (quietAt s || startsAt j s) ≡ true → P s
+stage-cases : (j : ℕ) (P : Stage → Type 0) → P Quiet → (j < 64 → P (Search j SendBit)) → (s : Stage)
+    → (quietAt s || startsAt j s) ≡ true → P s
 stage-cases j P q f (AwaitRom s n) h = absurd (false≢true h)
 stage-cases j P q f (SendRom i) h = absurd (false≢true h)
 stage-cases j P q f (Match i) h = absurd (false≢true h)
@@ -68,7 +72,8 @@ module _ (j : ℕ) (d : Device) (h : fits j d ≡ true) where
   stands : (d .stage ≡ Quiet) ⊎ ((j < 64) × (d .stage ≡ Search j SendBit))
   unfolding fits
   stands =
-      stage-cases j (λ s. (s ≡ Quiet) ⊎ ((j < 64) × (s ≡ Search j SendBit))) (inl refl) (λ l. inr (l, refl)) (d .stage) (and-right (not (holdsWire d)) _ h)
+      stage-cases j (λ s. (s ≡ Quiet) ⊎ ((j < 64) × (s ≡ Search j SendBit))) (inl refl) (λ l. inr (l, refl)) (d .stage)
+      (and-right (not (holdsWire d)) _ h)
 
   supplied : not (holdsWire d) ≡ true
   unfolding fits
@@ -101,30 +106,35 @@ module _ (j : ℕ) (d : Device) (h : fits j d ≡ true) where
 -- ## The devices of a list, where each fits
 
 module _ (P : Device → Bool) where
-  all-same : (p q : Device → Bool) → ((d : Device) → P d ≡ true → p d ≡ q d) → (l : List Device) → all P l ≡ true → all p l ≡ all q l
+  all-same : (p q : Device → Bool) → ((d : Device) → P d ≡ true → p d ≡ q d) → (l : List Device) → all P l ≡ true
+      → all p l ≡ all q l
   unfolding all
   all-same p q e [] h = refl
   all-same p q e (x ∷ l) h = rw (e x (and-left (P x) (all P l) h), all-same p q e l (and-right (P x) (all P l) h))
 
-  all-true : (p : Device → Bool) → ((d : Device) → P d ≡ true → p d ≡ true) → (l : List Device) → all P l ≡ true → all p l ≡ true
+  all-true : (p : Device → Bool) → ((d : Device) → P d ≡ true → p d ≡ true) → (l : List Device) → all P l ≡ true
+      → all p l ≡ true
   unfolding all
   all-true p e [] h = refl
   all-true p e (x ∷ l) h = rw (e x (and-left (P x) (all P l) h)) (all-true p e l (and-right (P x) (all P l) h))
 
-  front-same : (f g : Device → Device) → ((d : Device) → P d ≡ true → f d ≡ g d) → (n : ℕ) (l : List Device) → all P (take n l) ≡ true
+  front-same : (f g : Device → Device) → ((d : Device) → P d ≡ true → f d ≡ g d) → (n : ℕ) (l : List Device)
+      → all P (take n l) ≡ true
       → mapFront f n l ≡ mapFront g n l
   unfolding mapFront all
   front-same f g e zero l h = refl
   front-same f g e (suc n) [] h = refl
   front-same f g e (suc n) (x ∷ l) h =
-      rw (e x (and-left (P x) (all P (take n l)) h)) (ap (λ (t : List Device). g x ∷ t) (front-same f g e n l (and-right (P x) (all P (take n l)) h)))
+      rw (e x (and-left (P x) (all P (take n l)) h))
+      (ap (λ (t : List Device). g x ∷ t) (front-same f g e n l (and-right (P x) (all P (take n l)) h)))
 
 all-mapped : (p : Device → Bool) (f : Device → Device) (l : List Device) → all p (map f l) ≡ all (λ d. p (f d)) l
 unfolding all
 all-mapped p f [] = refl
 all-mapped p f (x ∷ l) = ap (λ (t : Bool). p (f x) && t) (all-mapped p f l)
 
-front-twice : (f g : Device → Device) (n : ℕ) (l : List Device) → mapFront g n (mapFront f n l) ≡ mapFront (λ d. g (f d)) n l
+front-twice : (f g : Device → Device) (n : ℕ) (l : List Device)
+    → mapFront g n (mapFront f n l) ≡ mapFront (λ d. g (f d)) n l
 unfolding mapFront
 front-twice f g zero l = refl
 front-twice f g (suc n) [] = refl
@@ -171,7 +181,8 @@ module _ (j : ℕ) (b : Bench) (h : all (fits j) (live b) ≡ true) where
       ∙ all-same (fits j) (λ d. offerOf (hears x d)) (zeroSentAt j) (λ d k. second-offer j d k x) (live b) h
 
   -- what holds of each device after two slots holds of all
-  all-twice : (p : Device → Bool) (x y : Bool) → ((d : Device) → fits j d ≡ true → p (hears y (hears x d)) ≡ true) → all p (live (heard (heard b x) y)) ≡ true
+  all-twice : (p : Device → Bool) (x y : Bool) → ((d : Device) → fits j d ≡ true → p (hears y (hears x d)) ≡ true)
+      → all p (live (heard (heard b x) y)) ≡ true
   all-twice p x y e =
       ap (all p) (heard-live (heard b x) y ∙ ap (map (hears y)) (heard-live b x))
       ∙ all-mapped p (hears y) (map (hears x) (live b)) ∙ all-mapped (λ d. p (hears y d)) (hears x) (live b)
@@ -191,10 +202,12 @@ module _ (j : ℕ) (b : Bench) (h : all (fits j) (live b) ≡ true) where
       let n = b .count in
       let t = b .devices in
       ap (λ (l : List Device). record { devices = l; count = n })
-      (ap (mapFront (hears z) n) (front-twice (hears x) (hears y) n t) ∙ front-twice (λ d. hears y (hears x d)) (hears z) n t
+      (ap (mapFront (hears z) n) (front-twice (hears x) (hears y) n t)
+      ∙ front-twice (λ d. hears y (hears x d)) (hears z) n t
       ∙ front-same (fits j) (λ d. hears z (hears y (hears x d))) (settledOf j z) (λ d k. after-three j d k x y z) n t h)
 
-  placed-at-once : (w : Bool) → let a = all (oneAt j) (live b) in let z = all (zeroSentAt j) (live b) in let x = chosen a z w in (a && z) ≡ false
+  placed-at-once : (w : Bool) → let a = all (oneAt j) (live b) in let z = all (zeroSentAt j) (live b) in let x =
+      chosen a z w in (a && z) ≡ false
       → placed b w ≡ record { bench = settledBench j x b; first = a; second = z; taken = x; third = x }
   unfolding placed
   placed-at-once w e =
@@ -209,18 +222,36 @@ module _ (j : ℕ) (b : Bench) (h : all (fits j) (live b) ≡ true) where
 -- ## The survey
 
 survey-is : (j : ℕ) (s : Survey) (l : List Device)
-    → fold (surveyedWith j) s l ≡ record { fits = s .fits && all (fits j) l; ones = s .ones && all (oneAt j) l; zeros = s .zeros && all (zeroSentAt j) l }
+    → fold (surveyedWith j) s l ≡ record {
+      fits = s .fits && all (fits j) l;
+      ones = s .ones && all (oneAt j) l;
+      zeros = s .zeros && all (zeroSentAt j) l;
+    }
 unfolding fold all surveyedWith
 survey-is j s [] = rw (and-true (s .fits), and-true (s .ones), and-true (s .zeros))
 survey-is j s (d ∷ l) = survey-is j (surveyedWith j s d) l ∙ added
   where
     added : let t = surveyedWith j s d in
-        _≡_ {A = Survey} (record { fits = t .fits && all (fits j) l; ones = t .ones && all (oneAt j) l; zeros = t .zeros && all (zeroSentAt j) l })
-        (record { fits = s .fits && (fits j d && all (fits j) l); ones = s .ones && (oneAt j d && all (oneAt j) l); zeros = s .zeros && (zeroSentAt j d && all (zeroSentAt j) l) })
-    added = rw (and-assoc (s .fits) (fits j d) (all (fits j) l), and-assoc (s .ones) (oneAt j d) (all (oneAt j) l), and-assoc (s .zeros) (zeroSentAt j d) (all (zeroSentAt j) l))
+        _≡_ {A = Survey} (record {
+          fits = t .fits && all (fits j) l;
+          ones = t .ones && all (oneAt j) l;
+          zeros = t .zeros && all (zeroSentAt j) l;
+        })
+        (record {
+          fits = s .fits && (fits j d && all (fits j) l);
+          ones = s .ones && (oneAt j d && all (oneAt j) l);
+          zeros = s .zeros && (zeroSentAt j d && all (zeroSentAt j) l);
+        })
+    added = rw (
+      and-assoc (s .fits) (fits j d) (all (fits j) l),
+      and-assoc (s .ones) (oneAt j d) (all (oneAt j) l),
+      and-assoc (s .zeros) (zeroSentAt j d) (all (zeroSentAt j) l),
+    )
 
-pub surveyed-at-once : (j : ℕ) (b : Bench) (w : Bool) → let s = fold (surveyedWith j) surveyStart (live b) in let x = chosen (s .ones) (s .zeros) w in
-    (s .fits && not (s .ones && s .zeros)) ≡ true → placed b w ≡ record { bench = settledBench j x b; first = s .ones; second = s .zeros; taken = x; third = x }
+pub surveyed-at-once : (j : ℕ) (b : Bench) (w : Bool) → let s = fold (surveyedWith j) surveyStart (live b) in let x =
+    chosen (s .ones) (s .zeros) w in
+    (s .fits && not (s .ones && s .zeros)) ≡ true
+    → placed b w ≡ record { bench = settledBench j x b; first = s .ones; second = s .zeros; taken = x; third = x }
 surveyed-at-once j b w e =
     let is = survey-is j surveyStart (live b) in
     let a = all (oneAt j) (live b) in

@@ -16,7 +16,8 @@ use Rattle.device.specs.declared.Device.{Device}
 use Rattle.device.specs.declared.Phase.{Phase}
 use Rattle.device.specs.declared.Phase.the-variants.{SendBit, SendComplement, TakeBit}
 use Rattle.device.specs.declared.Stage.{Stage}
-use Rattle.device.specs.declared.Stage.the-variants.{AwaitRom, SendRom, Match, Search, AwaitFunction, TakeSettings, SendScratchpad, SendStatus, SendPower, Quiet}
+use Rattle.device.specs.declared.Stage.the-variants.{AwaitRom, SendRom, Match, Search, AwaitFunction, TakeSettings}
+use Rattle.device.specs.declared.Stage.the-variants.{SendScratchpad, SendStatus, SendPower, Quiet}
 use Rattle.search.specs.declared.place.Survey.{Survey}
 
 abbrev pub quietAt : Stage → Bool
@@ -64,4 +65,8 @@ abbrev pub surveyStart : Survey
 surveyStart = record { fits = true; ones = true; zeros = true }
 
 unfoldable pub surveyedWith : ℕ → Survey → Device → Survey
-surveyedWith j s d = record { fits = s .fits && fits j d; ones = s .ones && oneAt j d; zeros = s .zeros && zeroSentAt j d }
+surveyedWith j s d = record {
+  fits = s .fits && fits j d;
+  ones = s .ones && oneAt j d;
+  zeros = s .zeros && zeroSentAt j d;
+}

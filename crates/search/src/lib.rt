@@ -10,9 +10,11 @@ ghost use Rattle.commands.specs.Commands.{searchRom, alarmSearch};
 ghost use Rattle.frame.specs.Recording.{writeAll};
 ghost use Rattle.frame.specs.Writing.{fedLine};
 ghost use Rattle.bench.specs.Slot.{resetDone};
-ghost use Rattle.master_rules.specs.Search.{mostPasses, fewestPlaces, fewestBytes, refusedOutcome, lonelyOutcome, searchOutcome, answerOf, listAfter, recordingAfter};
+ghost use Rattle.master_rules.specs.Search.{mostPasses, fewestPlaces, fewestBytes, refusedOutcome, lonelyOutcome};
+ghost use Rattle.master_rules.specs.Search.{searchOutcome, answerOf, listAfter, recordingAfter};
 ghost use Rattle.history_laws.specs.Demand.{SearchPromise, AlarmPromise};
-ghost use Rattle.search.specs.Sweep.{framesOf, sweepOf, sweptAll, passFrom, codesWith, goesOn, swept, enteredAt, listedAfter, Counted};
+ghost use Rattle.search.specs.Sweep.{framesOf, sweepOf, sweptAll, passFrom, codesWith, goesOn, swept, enteredAt};
+ghost use Rattle.search.specs.Sweep.{listedAfter, Counted};
 use crate::pass::CODE_BITS;
 pub use at_code::read_at;
 pub use at_code::write_at;
@@ -69,10 +71,13 @@ fn goes_on(answered: bool, last: u8) -> bool
 // One pass on a bench that its reset has restarted, its frame written behind the others and its code
 // listed behind the others.
 fn turn(s: Sweep, restarted: Bench, command: u8, list: &mut [u64], recording: &mut [u8]) -> Sweep
-    requires { ⌜ Counted s × (s .passes < mostPasses) × (fewestPlaces ≤ length (now list)) × (fewestBytes ≤ length (now recording)) ⌝ }
+    requires { ⌜ Counted s × (s .passes < mostPasses) × (fewestPlaces ≤ length (now list))
+        × (fewestBytes ≤ length (now recording)) ⌝ }
     ensures answer { λ r. ⌜ r ≡ swept s (passFrom command s restarted) ⌝ }
-    ensures listed { λ r. ⌜ now (list .exit) ≡ listedAfter (now (list .entry)) (s .codes) (passFrom command s restarted) ⌝ }
-    ensures written { λ r. ⌜ now (recording .exit) ≡ laid (now (recording .entry)) (s .bytes) (fedLine (passFrom command s restarted .shown)) ⌝ }
+    ensures listed { λ r. ⌜ now (list .exit) ≡ listedAfter (now (list .entry)) (s .codes)
+        (passFrom command s restarted) ⌝ }
+    ensures written { λ r. ⌜ now (recording .exit)
+        ≡ laid (now (recording .entry)) (s .bytes) (fedLine (passFrom command s restarted .shown)) ⌝ }
 {
     let w = pass::pass(restarted, command, s.previous, s.departure);
     let shown = w.shown;
@@ -101,10 +106,12 @@ fn sweep_wire(
     list: &mut [u64],
     recording: &mut [u8],
 ) -> Sweep
-    requires { ⌜ (restarted ≡ resetDone bench .bench) × (fewestPlaces ≤ length (now list)) × (fewestBytes ≤ length (now recording)) ⌝ }
+    requires { ⌜ (restarted ≡ resetDone bench .bench) × (fewestPlaces ≤ length (now list))
+        × (fewestBytes ≤ length (now recording)) ⌝ }
     ensures answer { λ r. ⌜ r ≡ sweepOf (sweptAll command bench) ⌝ }
     ensures listed { λ r. ⌜ now (list .exit) ≡ laid (now (list .entry)) 0 (sweptAll command bench .codes) ⌝ }
-    ensures written { λ r. ⌜ now (recording .exit) ≡ laid (now (recording .entry)) 0 (writeAll (framesOf (sweptAll command bench))) ⌝ }
+    ensures written { λ r. ⌜ now (recording .exit)
+        ≡ laid (now (recording .entry)) 0 (writeAll (framesOf (sweptAll command bench))) ⌝ }
 {
     let none = Sweep {
         going: true,
@@ -161,9 +168,13 @@ fn record_absence(bench: Bench, recording: &mut [u8]) -> Searched
 
 // The search by a command: refusals first, then the wire, then the passes.
 fn run_search(bench: Bench, command: u8, list: &mut [u64], recording: &mut [u8]) -> Searched
-    ensures answer { λ r. ⌜ r ≡ answerOf (searchOutcome command bench (length (now (list .entry))) (length (now (recording .entry)))) ⌝ }
-    ensures listed { λ r. ⌜ now (list .exit) ≡ listAfter (now (list .entry)) (searchOutcome command bench (length (now (list .entry))) (length (now (recording .entry)))) ⌝ }
-    ensures written { λ r. ⌜ now (recording .exit) ≡ recordingAfter (now (recording .entry)) (searchOutcome command bench (length (now (list .entry))) (length (now (recording .entry)))) ⌝ }
+    ensures answer { λ r. ⌜ r ≡ answerOf (searchOutcome command bench (length (now (list .entry)))
+        (length (now (recording .entry)))) ⌝ }
+    ensures listed { λ r. ⌜ now (list .exit) ≡ listAfter (now (list .entry))
+        (searchOutcome command bench (length (now (list .entry))) (length (now (recording .entry)))) ⌝ }
+    ensures written { λ r. ⌜ now (recording .exit)
+        ≡ recordingAfter (now (recording .entry))
+        (searchOutcome command bench (length (now (list .entry))) (length (now (recording .entry)))) ⌝ }
 {
     if list.len() < FEWEST_PLACES {
         return refuse_search(refusals::NO_ROOM, bench);
@@ -194,9 +205,13 @@ fn run_search(bench: Bench, command: u8, list: &mut [u64], recording: &mut [u8])
 
 // Lists the code of every device.
 pub fn search(bench: Bench, list: &mut [u64], recording: &mut [u8]) -> Searched
-    ensures answer { λ r. ⌜ r ≡ answerOf (searchOutcome searchRom bench (length (now (list .entry))) (length (now (recording .entry)))) ⌝ }
-    ensures listed { λ r. ⌜ now (list .exit) ≡ listAfter (now (list .entry)) (searchOutcome searchRom bench (length (now (list .entry))) (length (now (recording .entry)))) ⌝ }
-    ensures written { λ r. ⌜ now (recording .exit) ≡ recordingAfter (now (recording .entry)) (searchOutcome searchRom bench (length (now (list .entry))) (length (now (recording .entry)))) ⌝ }
+    ensures answer { λ r. ⌜ r ≡ answerOf (searchOutcome searchRom bench (length (now (list .entry)))
+        (length (now (recording .entry)))) ⌝ }
+    ensures listed { λ r. ⌜ now (list .exit) ≡ listAfter (now (list .entry))
+        (searchOutcome searchRom bench (length (now (list .entry))) (length (now (recording .entry)))) ⌝ }
+    ensures written { λ r. ⌜ now (recording .exit)
+        ≡ recordingAfter (now (recording .entry))
+        (searchOutcome searchRom bench (length (now (list .entry))) (length (now (recording .entry)))) ⌝ }
     ensures history { λ r. ⌜ SearchPromise bench (length (now (list .entry))) (length (now (recording .entry))) ⌝ }
 {
     run_search(bench, commands::SEARCH_ROM, list, recording)
@@ -204,9 +219,13 @@ pub fn search(bench: Bench, list: &mut [u64], recording: &mut [u8]) -> Searched
 
 // Lists the code of every device with the alarm flag.
 pub fn alarm_search(bench: Bench, list: &mut [u64], recording: &mut [u8]) -> Searched
-    ensures answer { λ r. ⌜ r ≡ answerOf (searchOutcome alarmSearch bench (length (now (list .entry))) (length (now (recording .entry)))) ⌝ }
-    ensures listed { λ r. ⌜ now (list .exit) ≡ listAfter (now (list .entry)) (searchOutcome alarmSearch bench (length (now (list .entry))) (length (now (recording .entry)))) ⌝ }
-    ensures written { λ r. ⌜ now (recording .exit) ≡ recordingAfter (now (recording .entry)) (searchOutcome alarmSearch bench (length (now (list .entry))) (length (now (recording .entry)))) ⌝ }
+    ensures answer { λ r. ⌜ r ≡ answerOf (searchOutcome alarmSearch bench (length (now (list .entry)))
+        (length (now (recording .entry)))) ⌝ }
+    ensures listed { λ r. ⌜ now (list .exit) ≡ listAfter (now (list .entry))
+        (searchOutcome alarmSearch bench (length (now (list .entry))) (length (now (recording .entry)))) ⌝ }
+    ensures written { λ r. ⌜ now (recording .exit)
+        ≡ recordingAfter (now (recording .entry))
+        (searchOutcome alarmSearch bench (length (now (list .entry))) (length (now (recording .entry)))) ⌝ }
     ensures history { λ r. ⌜ AlarmPromise bench (length (now (list .entry))) (length (now (recording .entry))) ⌝ }
 {
     run_search(bench, commands::ALARM_SEARCH, list, recording)

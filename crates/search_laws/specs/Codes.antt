@@ -1,5 +1,5 @@
--- Codes as a search sees them (the scope, "One slot", F0h): the bits in the order in which they are sent, what those who take part put on
--- the line together, and who goes on after the master's bit.
+-- Codes as a search sees them (the scope, "One slot", F0h): the bits in the order in which they are sent, what those
+-- who take part put on the line together, and who goes on after the master's bit.
 --     first c, rest c      the first bit of c, 0 where there is none; the bits after it
 --     lineOfCodes S        the first read slot: the AND of the first bits of S, 1 for nobody
 --     coLine S             the second read slot: the AND of their complements, 1 for nobody

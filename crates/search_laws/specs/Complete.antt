@@ -1,6 +1,7 @@
--- The search finds everybody (the scope, "The master" and demand 3): on a bus of devices that meet the laws it lists each code of those that take
--- part once, in order, one in each pass; what it showed and left are the slots of those passes; each pass shows the command and then allowed
--- triples with the bits of its code. Where nobody takes part it makes one pass, of the command and two reads.
+-- The search finds everybody (the scope, "The master" and demand 3): on a bus of devices that meet the laws it lists
+-- each code of those that take part once, in order, one in each pass; what it showed and left are the slots of those
+-- passes; each pass shows the command and then allowed triples with the bits of its code. Where nobody takes part it
+-- makes one pass, of the command and two reads.
 --     sweptPasses B command cs ds  what a search gives that lists cs: these codes, and what their passes show and leave
 --     allowed t                    whether a triple is 0, 0 and either bit, or 0, 1, 0, or 1, 0, 1
 --     PassShown command c l        l is the command and then allowed triples, with the bits of c as the bits sent
@@ -25,7 +26,8 @@ pub record PassShown (command : List Bool) (c : Code) (l : List Bool) : Type 0 w
   pub code-is : found triples ≡ c
   pub all-allowed : Each (λ t. allowed t ≡ true) triples
 
-pub record Complete (B : Bus) (command : List Bool) (n : ℕ) (S : List Code) (ds : B .Devices) (r : Search (B .Devices)) : Type 0 where
+pub record Complete (B : Bus) (command : List Bool) (n : ℕ) (S : List Code) (ds : B .Devices)
+    (r : Search (B .Devices)) : Type 0 where
   pub all-listed : List·Permᴰ S (r .codes)
   pub ordered : Pairs Before (r .codes)
   pub passes-are : length (r .lines) ≡ length S

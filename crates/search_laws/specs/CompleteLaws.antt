@@ -1,4 +1,5 @@
--- The search finds everybody: on a bus of devices that meet the laws it is `Complete`; where nobody takes part it makes one pass, of the command and two reads.
+-- The search finds everybody: on a bus of devices that meet the laws it is `Complete`; where nobody takes part it makes
+-- one pass, of the command and two reads.
 use mathlib.Core.Path.{_≡_, refl, sym, ap, _∙_}
 use mathlib.Core.Bool.{Bool, true, false}
 use mathlib.Core.Option.{Option, none, some, Option·map}
@@ -14,7 +15,8 @@ use Rattle.search_laws.specs.Listing.{inOrder}
 use Rattle.search_laws.specs.ListingLaws.{order-pairs, order-all, order-length}
 use Rattle.basic_laws.specs.EachLaws.{each-perm}
 use Rattle.search_laws.specs.Lists.{Lists, end, more, lists}
-use Rattle.search_laws.specs.Wire.{Bus, run, passed, searched, passOffers, slots, passes, triplets, wirePass, searchFrom, wireSearch}
+use Rattle.search_laws.specs.Wire.{Bus, run, passed, searched, passOffers, slots, passes, triplets, wirePass}
+use Rattle.search_laws.specs.Wire.{searchFrom, wireSearch}
 use Rattle.search_laws.specs.Issued.{longer-option, slots-append, pass-issued, passes-count, passes-slots}
 use Rattle.search_laws.specs.Searchers.{Model, Carries, Searchers}
 use Rattle.search_laws.specs.Holds.{search-holds}
@@ -29,15 +31,19 @@ choice-allowed false true w d e = let f : d ≡ false = cc in rw f
 choice-allowed true false w d e = let f : d ≡ true = cc in rw f
 choice-allowed true true w d e = absurd (never e)
 
-pass-allowed : (n : ℕ) (plan : Plan) (S : List Code) (ts : List Triple) → pass n plan S ≡ some ts → Each (λ t. allowed t ≡ true) ts
+pass-allowed : (n : ℕ) (plan : Plan) (S : List Code) (ts : List Triple) → pass n plan S ≡ some ts
+    → Each (λ t. allowed t ≡ true) ts
 unfolding pass
 pass-allowed zero plan S ts e = let f : ts ≡ [] = cc in rw f tt
 pass-allowed (suc n) plan S ts e =
-    by-choice (choice (lineOfCodes S) (coLine S) (first plan)) refl (λ d. pass-allowed n (otherBits plan) (follow d S)) e
+    by-choice (choice (lineOfCodes S) (coLine S) (first plan)) refl
+    (λ d. pass-allowed n (otherBits plan) (follow d S)) e
   where
     by-choice : (o : Option Bool) → choice (lineOfCodes S) (coLine S) (first plan) ≡ o
-        → ((d : Bool) (us : List Triple) → pass n (otherBits plan) (follow d S) ≡ some us → Each (λ t. allowed t ≡ true) us)
-        → onSome o none (λ d. Option·map (λ us. triple (lineOfCodes S) (coLine S) d ∷ us) (pass n (otherBits plan) (follow d S))) ≡ some ts
+        → ((d : Bool) (us : List Triple) → pass n (otherBits plan) (follow d S) ≡ some us
+        → Each (λ t. allowed t ≡ true) us)
+        → onSome o none (λ d. Option·map (λ us. triple (lineOfCodes S) (coLine S) d ∷ us)
+        (pass n (otherBits plan) (follow d S))) ≡ some ts
         → Each (λ t. allowed t ≡ true) ts
     by-choice none f i g = absurd (never g)
     by-choice (some d) f i g =
@@ -47,17 +53,25 @@ pass-allowed (suc n) plan S ts e =
 module _ {B : Bus} {M : Model} (C : Carries B M) {command : List Bool} {n : ℕ} (Z : Searchers M command n) where
   -- A pass that finds a code is a run of its slots, and shows what it is to show.
   pass-run : (plan : Plan) (ds : B .Devices) (ts : List Triple) → pass n plan (onBus C Z ds) ≡ some ts
-      → run (wirePass B command n plan ds .lines) (wirePass B command n plan ds .devices) ≡ slots B (passOffers command (found ts)) (B .reset ds)
+      → run (wirePass B command n plan ds .lines) (wirePass B command n plan ds .devices)
+      ≡ slots B (passOffers command (found ts)) (B .reset ds)
   pass-run plan ds ts e = pass-issued B command n plan ds ts (pass-on-wire C Z plan ds ∙ e)
 
   pass-shown : (plan : Plan) (ds : B .Devices) (ts : List Triple) → pass n plan (onBus C Z ds) ≡ some ts
       → PassShown command (found ts) (wirePass B command n plan ds .lines)
   pass-shown plan ds ts e =
-      record { triples = ts; lines-are = pass-lines C Z plan ds ts e; code-is = refl; all-allowed = pass-allowed n plan (onBus C Z ds) ts e }
+      record {
+        triples = ts;
+        lines-are = pass-lines C Z plan ds ts e;
+        code-is = refl;
+        all-allowed = pass-allowed n plan (onBus C Z ds) ts e;
+      }
 
   -- A search that is to list cs lists cs.
-  search-lists : (fuel : ℕ) {o : Option Plan} {cs : List Code} (S : List Code) (ds : B .Devices) → onBus C Z ds ≡ S → Lists n S o cs → length cs ≤ fuel
-      → (searchFrom B command fuel n o ds ≡ sweptPasses B command cs ds) × Along (PassShown command) cs (passes B command cs ds .lines)
+  search-lists : (fuel : ℕ) {o : Option Plan} {cs : List Code} (S : List Code) (ds : B .Devices) → onBus C Z ds ≡ S
+      → Lists n S o cs → length cs ≤ fuel
+      → (searchFrom B command fuel n o ds ≡ sweptPasses B command cs ds)
+      × Along (PassShown command) cs (passes B command cs ds .lines)
   unfolding searchFrom passes
   search-lists zero S ds e end h = (refl, tt)
   search-lists (suc fuel) S ds e end h = (refl, tt)
@@ -71,14 +85,17 @@ module _ {B : Bus} {M : Model} (C : Carries B M) {command : List Bool} {n : ℕ}
       rw (w, ← u) (rw (i .0), (pass-shown plan ds ts g, i .1))
 
   -- A search is the passes of the listing, where somebody takes part.
-  pub search-is : (fuel : ℕ) (ds : B .Devices) → Sized n (onBus C Z ds) → Distinct (onBus C Z ds) → nobody (onBus C Z ds) ≡ false
-      → length (onBus C Z ds) ≤ fuel → wireSearch B command fuel n ds ≡ sweptPasses B command (inOrder n (onBus C Z ds)) ds
+  pub search-is : (fuel : ℕ) (ds : B .Devices) → Sized n (onBus C Z ds) → Distinct (onBus C Z ds)
+      → nobody (onBus C Z ds) ≡ false
+      → length (onBus C Z ds) ≤ fuel → wireSearch B command fuel n ds
+      ≡ sweptPasses B command (inOrder n (onBus C Z ds)) ds
   search-is fuel ds s d h f =
       let l = order-length n (onBus C Z ds) s d in
       search-lists fuel (onBus C Z ds) ds refl (lists n (onBus C Z ds) h) (omega arith) .0
 
   -- Where somebody takes part.
-  pub search-complete : (fuel : ℕ) (ds : B .Devices) → Sized n (onBus C Z ds) → Distinct (onBus C Z ds) → nobody (onBus C Z ds) ≡ false
+  pub search-complete : (fuel : ℕ) (ds : B .Devices) → Sized n (onBus C Z ds) → Distinct (onBus C Z ds)
+      → nobody (onBus C Z ds) ≡ false
       → length (onBus C Z ds) ≤ fuel → Complete B command n (onBus C Z ds) ds (wireSearch B command fuel n ds)
   search-complete fuel ds s d h f =
       let S = onBus C Z ds in
@@ -94,7 +111,8 @@ module _ {B : Bus} {M : Model} (C : Carries B M) {command : List Bool} {n : ℕ}
       })
 
   -- Where nobody takes part.
-  triplets-nobody : (m : ℕ) (plan : Plan) (ds : B .Devices) → 0 < m → B .line true ds ≡ true → B .line true (B .after true ds) ≡ true
+  triplets-nobody : (m : ℕ) (plan : Plan) (ds : B .Devices) → 0 < m → B .line true ds ≡ true
+      → B .line true (B .after true ds) ≡ true
       → triplets B m plan ds ≡ passed none (true ∷ true ∷ []) (B .after true (B .after true ds))
   unfolding triplets
   triplets-nobody zero plan ds h a b = absurd (omega arith)
@@ -114,12 +132,15 @@ module _ {B : Bus} {M : Model} (C : Carries B M) {command : List Bool} {n : ℕ}
   -- Who takes part stays the same, so that a search may follow a search.
   pub search-on-bus : (fuel : ℕ) (ds : B .Devices) → onBus C Z (wireSearch B command fuel n ds .devices) ≡ onBus C Z ds
   search-on-bus fuel ds =
-      search-holds B (λ es. onBus C Z es ≡ onBus C Z ds) (λ x es e. on-bus-after C Z x es ∙ e) (λ es e. on-bus-reset C Z es ∙ e) command n fuel ds refl
+      search-holds B (λ es. onBus C Z es ≡ onBus C Z ds) (λ x es e. on-bus-after C Z x es
+      ∙ e) (λ es e. on-bus-reset C Z es ∙ e) command n fuel ds refl
 
   -- A second search lists the same.
-  pub search-again : (fuel : ℕ) (ds : B .Devices) → Sized n (onBus C Z ds) → Distinct (onBus C Z ds) → nobody (onBus C Z ds) ≡ false
+  pub search-again : (fuel : ℕ) (ds : B .Devices) → Sized n (onBus C Z ds) → Distinct (onBus C Z ds)
+      → nobody (onBus C Z ds) ≡ false
       → length (onBus C Z ds) ≤ fuel
-      → wireSearch B command fuel n (wireSearch B command fuel n ds .devices) .codes ≡ wireSearch B command fuel n ds .codes
+      → wireSearch B command fuel n (wireSearch B command fuel n ds .devices) .codes
+      ≡ wireSearch B command fuel n ds .codes
   search-again fuel ds s d h f =
       let e = search-on-bus fuel ds in
       let a = search-is fuel ds s d h f in

@@ -1,7 +1,11 @@
--- The plan as a program keeps it: the code of the pass before, as a number, and the place at which to depart from it (the scope, "The master").
---     takes prev D j       the bit to take at a conflict at place j: that of the code before where j < D, 1 at D, 0 past it
---     lastFrom j D ts      the last place at which 0 was taken at a conflict, where the first of ts stands at place j; D where there is none
--- The number of bits itself stands for no place: a pass that takes 0 at every conflict has the code 0 before it and departs past its end.
+-- The plan as a program keeps it: the code of the pass before, as a number, and the place at which to depart from it
+-- (the scope, "The master").
+--     takes prev D j       the bit to take at a conflict at place j: that of the code before where j < D, 1 at D, 0
+--                          past it
+--     lastFrom j D ts      the last place at which 0 was taken at a conflict, where the first of ts stands at place j;
+--                          D where there is none
+-- The number of bits itself stands for no place: a pass that takes 0 at every conflict has the code 0 before it and
+-- departs past its end.
 use mathlib.Core.Bool.{Bool, true}
 use mathlib.Core.Option.{Option, none, some}
 use mathlib.Core.List.{List, [], _∷_, _++_}

@@ -21,7 +21,8 @@ use Rattle.search_laws.specs.Departure.{takes, lastFrom, planOf, lastOf}
 pub bit-of-code : (c : Code) (j : ℕ) → j < length c → bitAt (numberOf c) j ≡ getD c j false
 bit-of-code c j h = sym (bits-at (length c) (numberOf c) j h) ∙ ap (λ (l : List Bool). getD l j false) (bits-number c)
 
-plan-bit : (c : Code) (D j : ℕ) → D ≤ length c → getD (take D c ++ true ∷ []) j false ≡ (if ltb j D then getD c j false else eqb j D)
+plan-bit : (c : Code) (D j : ℕ) → D ≤ length c
+    → getD (take D c ++ true ∷ []) j false ≡ (if ltb j D then getD c j false else eqb j D)
 plan-bit c zero zero h = refl
 plan-bit c zero (suc j) h = simp (leb·suc-zero, eqb·suc-zero)
 plan-bit [] (suc D) j h = absurd (omega arith)
@@ -45,7 +46,8 @@ last-from j D [] = refl
 last-from j D (t ∷ ts) = last-from (suc j) (if tookZero t then j else D) ts ∙ go (lastOf ts) (tookZero t)
   where
     go : (o : Option ℕ) (z : Bool)
-        → onSome o (if z then j else D) (λ k. suc j + k) ≡ onSome (onSome o (if z then some 0 else none) (λ k. some (suc k))) D (λ k. j + k)
+        → onSome o (if z then j else D) (λ k. suc j + k)
+        ≡ onSome (onSome o (if z then some 0 else none) (λ k. some (suc k))) D (λ k. j + k)
     go none true = omega arith
     go none false = refl
     go (some k) z = omega arith
@@ -55,7 +57,8 @@ unfolding lastOf
 last-lt [] k e = let z : _≡_ {A = ℕ} 0 1 = cc in absurd (omega arith)
 last-lt (t ∷ ts) k e = go (lastOf ts) (tookZero t) (λ i f. last-lt ts i f) e
   where
-    go : (o : Option ℕ) (z : Bool) → ((i : ℕ) → o ≡ some i → i < length ts) → onSome o (if z then some 0 else none) (λ i. some (suc i)) ≡ some k
+    go : (o : Option ℕ) (z : Bool) → ((i : ℕ) → o ≡ some i → i < length ts)
+        → onSome o (if z then some 0 else none) (λ i. some (suc i)) ≡ some k
         → k < suc (length ts)
     go none true h f = let g : k ≡ 0 = cc in omega arith
     go none false h f = let z : _≡_ {A = ℕ} 0 1 = cc in absurd (omega arith)
@@ -66,12 +69,14 @@ unfolding next found lastOf
 next-last [] = refl
 next-last (t ∷ ts) = let i = next-last ts in rw i (go (lastOf ts))
   where
-    here : (z : Bool) → (if z then some (true ∷ []) else none) ≡ Option·map (λ D. take D (t .sent ∷ found ts) ++ true ∷ []) (if z then some 0 else none)
+    here : (z : Bool) → (if z then some (true ∷ []) else none)
+        ≡ Option·map (λ D. take D (t .sent ∷ found ts) ++ true ∷ []) (if z then some 0 else none)
     here true = refl
     here false = refl
 
     go : (o : Option ℕ) → departed t (Option·map (λ D. take D (found ts) ++ true ∷ []) o)
-        ≡ Option·map (λ D. take D (t .sent ∷ found ts) ++ true ∷ []) (onSome o (if tookZero t then some 0 else none) (λ k. some (suc k)))
+        ≡ Option·map (λ D. take D (t .sent ∷ found ts)
+        ++ true ∷ []) (onSome o (if tookZero t then some 0 else none) (λ k. some (suc k)))
     go none = here (tookZero t)
     go (some k) = refl
 
@@ -79,7 +84,8 @@ pub next-plan : (ts : List Triple) → next ts ≡ planOf (length ts) (found ts)
 next-plan ts = next-last ts ∙ rw (last-from 0 (length ts) ts) (go (lastOf ts) (λ k e. last-lt ts k e))
   where
     go : (o : Option ℕ) → ((k : ℕ) → o ≡ some k → k < length ts)
-        → Option·map (λ D. take D (found ts) ++ true ∷ []) o ≡ planOf (length ts) (found ts) (onSome o (length ts) (λ k. 0 + k))
+        → Option·map (λ D. take D (found ts) ++ true ∷ []) o
+        ≡ planOf (length ts) (found ts) (onSome o (length ts) (λ k. 0 + k))
     go none h = rw (le-ltb (length ts) (length ts) (omega arith))
     go (some k) h =
         let e : 0 + k ≡ k = omega arith in

@@ -1,8 +1,10 @@
--- The listing is in order, and for codes of n bits, no two the same, it is a permutation of them, so that it is as long.
+-- The listing is in order, and for codes of n bits, no two the same, it is a permutation of them, so that it is as
+-- long.
 use mathlib.Core.Path.{_≡_, refl, ap}
 use mathlib.Core.Logic.{_≢_}
 use mathlib.Core.Bool.{Bool, true, false}
-use mathlib.Core.List.{List, [], _∷_, _++_, map, List·Permᴰ, List·Permᴰ·nil, List·Permᴰ·cons, List·Permᴰ·trans, Permᴰ·symm, Permᴰ·middle, Permᴰ·append-left, Permᴰ·append-right, Permᴰ·map}
+use mathlib.Core.List.{List, [], _∷_, _++_, map, List·Permᴰ, List·Permᴰ·nil, List·Permᴰ·cons, List·Permᴰ·trans}
+use mathlib.Core.List.{Permᴰ·symm, Permᴰ·middle, Permᴰ·append-left, Permᴰ·append-right, Permᴰ·map}
 use Prim.Native.Nat.{ℕ, zero, suc}
 use native.Mathlib.Omega.{arith}
 use lib.ListN.{length}
@@ -41,12 +43,14 @@ pairs-cons : (b : Bool) (S : List Code) → Pairs Before S → Pairs Before (map
 pairs-cons b [] h = tt
 pairs-cons b (c ∷ S) h = (each-cons b c S (h .0), pairs-cons b S (h .1))
 
-each-halves : (c : Code) (S T : List Code) → Each (Before c) S → Each (Before (false ∷ c)) (map (_∷_ false) S ++ map (_∷_ true) T)
+each-halves : (c : Code) (S T : List Code) → Each (Before c) S
+    → Each (Before (false ∷ c)) (map (_∷_ false) S ++ map (_∷_ true) T)
 each-halves c [] [] h = tt
 each-halves c [] (d ∷ T) h = (zero-one c d, each-halves c [] T h)
 each-halves c (d ∷ S) T h = (before-cons false (h .0), each-halves c S T (h .1))
 
-pairs-halves : (S T : List Code) → Pairs Before S → Pairs Before T → Pairs Before (map (_∷_ false) S ++ map (_∷_ true) T)
+pairs-halves : (S T : List Code) → Pairs Before S → Pairs Before T
+    → Pairs Before (map (_∷_ false) S ++ map (_∷_ true) T)
 pairs-halves [] T h k = pairs-cons true T k
 pairs-halves (c ∷ S) T h k = (each-halves c S T (h .0), pairs-halves S T (h .1) k)
 
@@ -55,11 +59,13 @@ unfolding inOrder
 order-pairs zero [] = tt
 order-pairs zero (c ∷ S) = (tt, tt)
 order-pairs (suc n) S =
-    pairs-halves (inOrder n (follow false S)) (inOrder n (follow true S)) (order-pairs n (follow false S)) (order-pairs n (follow true S))
+    pairs-halves (inOrder n (follow false S)) (inOrder n (follow true S)) (order-pairs n (follow false S))
+    (order-pairs n (follow true S))
 
 -- ## Each code once
 
-halves : (n : ℕ) (S : List Code) → Sized (suc n) S → List·Permᴰ S (map (_∷_ false) (follow false S) ++ map (_∷_ true) (follow true S))
+halves : (n : ℕ) (S : List Code) → Sized (suc n) S
+    → List·Permᴰ S (map (_∷_ false) (follow false S) ++ map (_∷_ true) (follow true S))
 unfolding follow
 halves n [] h = List·Permᴰ·nil
 halves n ([] ∷ S) h = absurd (omega arith)
@@ -77,7 +83,8 @@ follow-sized n true ((false ∷ c) ∷ S) h = follow-sized n true S (h .1)
 follow-sized n false ((true ∷ c) ∷ S) h = follow-sized n false S (h .1)
 follow-sized n false ((false ∷ c) ∷ S) h = (omega arith, follow-sized n false S (h .1))
 
-follow-absent : (n : ℕ) (b : Bool) (c : Code) (S : List Code) → Sized (suc n) S → Each (λ d. (b ∷ c) ≢ d) S → Each (λ d. c ≢ d) (follow b S)
+follow-absent : (n : ℕ) (b : Bool) (c : Code) (S : List Code) → Sized (suc n) S → Each (λ d. (b ∷ c) ≢ d) S
+    → Each (λ d. c ≢ d) (follow b S)
 unfolding follow
 follow-absent n b c [] s h = tt
 follow-absent n b c ([] ∷ S) s h = absurd (omega arith)
@@ -90,10 +97,12 @@ follow-distinct : (n : ℕ) (b : Bool) (S : List Code) → Sized (suc n) S → D
 unfolding follow
 follow-distinct n b [] s h = tt
 follow-distinct n b ([] ∷ S) s h = absurd (omega arith)
-follow-distinct n true ((true ∷ c) ∷ S) s h = (follow-absent n true c S (s .1) (h .0), follow-distinct n true S (s .1) (h .1))
+follow-distinct n true ((true ∷ c) ∷ S) s h =
+    (follow-absent n true c S (s .1) (h .0), follow-distinct n true S (s .1) (h .1))
 follow-distinct n true ((false ∷ c) ∷ S) s h = follow-distinct n true S (s .1) (h .1)
 follow-distinct n false ((true ∷ c) ∷ S) s h = follow-distinct n false S (s .1) (h .1)
-follow-distinct n false ((false ∷ c) ∷ S) s h = (follow-absent n false c S (s .1) (h .0), follow-distinct n false S (s .1) (h .1))
+follow-distinct n false ((false ∷ c) ∷ S) s h =
+    (follow-absent n false c S (s .1) (h .0), follow-distinct n false S (s .1) (h .1))
 
 pub order-all : (n : ℕ) (S : List Code) → Sized n S → Distinct S → List·Permᴰ S (inOrder n S)
 unfolding inOrder

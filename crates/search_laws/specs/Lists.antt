@@ -1,6 +1,8 @@
--- The passes of a search, each with the plan that the one before it leaves, go through the listing and end with it: `lists`.
+-- The passes of a search, each with the plan that the one before it leaves, go through the listing and end with it:
+-- `lists`.
 --     Lists n S plan cs      the passes over S from a plan on find cs, one code each, and the last leaves no plan
--- By induction on the codes' length: the passes over those that send 0 first, then the departure at this bit, then those that send 1.
+-- By induction on the codes' length: the passes over those that send 0 first, then the departure at this bit, then
+-- those that send 1.
 use mathlib.Core.Path.{_≡_, refl, _∙_}
 use mathlib.Core.Bool.{Bool, true, false, _&&_, and-false, true≢false}
 use mathlib.Core.Option.{Option, none, some}
@@ -14,7 +16,8 @@ use Rattle.search_laws.specs.ListingLaws.{order-nobody}
 
 pub data Lists (n : ℕ) (S : List Code) : Option Plan → List Code → Type 0 where
   end : Lists n S none []
-  more : (plan : Plan) (ts : List Triple) {cs : List Code} → pass n plan S ≡ some ts → Lists n S (next ts) cs → Lists n S (some plan) (found ts ∷ cs)
+  more : (plan : Plan) (ts : List Triple) {cs : List Code} → pass n plan S ≡ some ts → Lists n S (next ts) cs
+      → Lists n S (some plan) (found ts ∷ cs)
 
 -- The line shows 1 in the first read where nobody sends 0, and in the second where nobody sends 1.
 line-is : (S : List Code) → lineOfCodes S ≡ nobody (follow false S)
@@ -32,8 +35,10 @@ co-line-is ((true ∷ c) ∷ S) = refl
 co-line-is ((false ∷ c) ∷ S) = co-line-is S
 
 module _ (n : ℕ) (S : List Code) (x y : Bool) (A : lineOfCodes S ≡ x) (B : coLine S ≡ y) where
-  -- What is listed of those that go on after b is listed of all, with b in front; then what a departure at this bit lists.
-  lift : (b : Bool) {o : Option Plan} {cs ds : List Code} → choice x y b ≡ some b → Lists (suc n) S (departed (triple x y b) none) ds
+  -- What is listed of those that go on after b is listed of all, with b in front; then what a departure at this bit
+  -- lists.
+  lift : (b : Bool) {o : Option Plan} {cs ds : List Code} → choice x y b ≡ some b
+      → Lists (suc n) S (departed (triple x y b) none) ds
       → Lists n (follow b S) o cs → Lists (suc n) S (departed (triple x y b) o) (map (_∷_ b) cs ++ ds)
   unfolding pass found next
   lift b e d end = d
@@ -45,18 +50,22 @@ module _ (n : ℕ) (S : List Code) (x y : Bool) (A : lineOfCodes S ≡ x) (B : c
   unfolding pass
   start b e f (more plan ts g r) = more [] ts (simp (A, B, e) (simp (A, B, f) at g)) r
 
-module _ (n : ℕ) (S : List Code) (i : (b : Bool) → nobody (follow b S) ≡ false → Lists n (follow b S) (some []) (inOrder n (follow b S))) where
-  split : (x y : Bool) → nobody (follow false S) ≡ x → nobody (follow true S) ≡ y → (x && y) ≡ false → Lists (suc n) S (some []) (inOrder (suc n) S)
+module _ (n : ℕ) (S : List Code) (i : (b : Bool) → nobody (follow b S) ≡ false
+    → Lists n (follow b S) (some []) (inOrder n (follow b S))) where
+  split : (x y : Bool) → nobody (follow false S) ≡ x → nobody (follow true S) ≡ y → (x && y) ≡ false
+      → Lists (suc n) S (some []) (inOrder (suc n) S)
   unfolding inOrder
   split false false p q h =
       let A = line-is S ∙ p in
       let B = co-line-is S ∙ q in
       let ones = lift n S false false A B true refl end (i true q) in
-      simp append-nil at (start n S false false A B false refl refl (lift n S false false A B false refl ones (i false p)))
+      simp append-nil at (start n S false false A B false refl refl
+      (lift n S false false A B false refl ones (i false p)))
   split false true p q h =
       let A = line-is S ∙ p in
       let B = co-line-is S ∙ q in
-      simp (order-nobody n (follow true S) q) (start n S false true A B false refl refl (lift n S false true A B false refl end (i false p)))
+      simp (order-nobody n (follow true S) q) (start n S false true A B false refl refl
+      (lift n S false true A B false refl end (i false p)))
   split true false p q h =
       let A = line-is S ∙ p in
       let B = co-line-is S ∙ q in

@@ -1,4 +1,5 @@
--- Codes as numbers, bit 0 sent first (the scope, "Codes and the CRC"): a listing of the codes' bits is a listing of the numbers.
+-- Codes as numbers, bit 0 sent first (the scope, "Codes and the CRC"): a listing of the codes' bits is a listing of the
+-- numbers.
 --     Sooner x y        at the lowest bit in which they differ x has 0 and y has 1
 --     Below n l         each number of l has n bits
 --     Numbered n ns cs  all that is claimed of codes listed: as numbers they are ns, each once, in order

@@ -1,4 +1,5 @@
--- A listing of the codes' bits is a listing of the numbers: different numbers have different bits, and the order by bits is the order of the numbers' lowest differing bit.
+-- A listing of the codes' bits is a listing of the numbers: different numbers have different bits, and the order by
+-- bits is the order of the numbers' lowest differing bit.
 use mathlib.Core.Path.{_≡_, refl, sym, ap, _∙_}
 use mathlib.Core.Logic.{_≢_}
 use mathlib.Core.Bool.{Bool, true, false}
@@ -25,7 +26,8 @@ use Rattle.search_laws.specs.Numbers.{Sooner, Below, Numbered}
 pub bits-differ : (n x y : ℕ) → x < 2 ^ n → y < 2 ^ n → x ≢ y → bitsOf n x ≢ bitsOf n y
 bits-differ n x y a b d e = d (sym (number-bits n x a) ∙ ap numberOf e ∙ number-bits n y b)
 
-bits-absent : (n x : ℕ) (l : List ℕ) → x < 2 ^ n → Below n l → Each (λ y. x ≢ y) l → Each (λ c. bitsOf n x ≢ c) (map (bitsOf n) l)
+bits-absent : (n x : ℕ) (l : List ℕ) → x < 2 ^ n → Below n l → Each (λ y. x ≢ y) l
+    → Each (λ c. bitsOf n x ≢ c) (map (bitsOf n) l)
 bits-absent n x [] a b d = tt
 bits-absent n x (y ∷ l) a b d = (bits-differ n x y a (b .0) (d .0), bits-absent n x l a (b .1) (d .1))
 
@@ -63,13 +65,18 @@ module _ (n : ℕ) (c d : Code) (h : length c ≡ n) (k : length d ≡ n) (b : B
       record {
         place = length p;
         same-below = λ i f.
-            bit-of-code c i (omega arith) ∙ ap (λ (t : Code). getD t i false) (b .is-left) ∙ List·getD-append p (false ∷ b .left) false i f
-            ∙ sym (bit-of-code d i (omega arith) ∙ ap (λ (t : Code). getD t i false) (b .is-right) ∙ List·getD-append p (true ∷ b .right) false i f);
-        zero-there = bit-of-code c (length p) (omega arith) ∙ ap (λ (t : Code). getD t (length p) false) (b .is-left) ∙ getD-append-seam p false (b .left) false;
-        one-there = bit-of-code d (length p) (omega arith) ∙ ap (λ (t : Code). getD t (length p) false) (b .is-right) ∙ getD-append-seam p true (b .right) false;
+            bit-of-code c i (omega arith) ∙ ap (λ (t : Code). getD t i false) (b .is-left)
+            ∙ List·getD-append p (false ∷ b .left) false i f
+            ∙ sym (bit-of-code d i (omega arith) ∙ ap (λ (t : Code). getD t i false) (b .is-right)
+            ∙ List·getD-append p (true ∷ b .right) false i f);
+        zero-there = bit-of-code c (length p) (omega arith) ∙ ap (λ (t : Code). getD t (length p) false) (b .is-left)
+            ∙ getD-append-seam p false (b .left) false;
+        one-there = bit-of-code d (length p) (omega arith) ∙ ap (λ (t : Code). getD t (length p) false) (b .is-right)
+            ∙ getD-append-seam p true (b .right) false;
       }
 
-each-sooner : (n : ℕ) (c : Code) (cs : List Code) → length c ≡ n → Sized n cs → Each (Before c) cs → Each (Sooner (numberOf c)) (map numberOf cs)
+each-sooner : (n : ℕ) (c : Code) (cs : List Code) → length c ≡ n → Sized n cs → Each (Before c) cs
+    → Each (Sooner (numberOf c)) (map numberOf cs)
 each-sooner n c [] h s b = tt
 each-sooner n c (d ∷ cs) h s b = (before-sooner n c d h (s .0) (b .0), each-sooner n c cs h (s .1) (b .1))
 
@@ -77,23 +84,32 @@ pairs-sooner : (n : ℕ) (cs : List Code) → Sized n cs → Pairs Before cs →
 pairs-sooner n [] s b = tt
 pairs-sooner n (c ∷ cs) s b = (each-sooner n c cs (s .0) (s .1) (b .0), pairs-sooner n cs (s .1) (b .1))
 
-numbered : (n : ℕ) (ns : List ℕ) (cs : List Code) → Below n ns → List·Permᴰ (map (bitsOf n) ns) cs → Pairs Before cs → Numbered n ns cs
+numbered : (n : ℕ) (ns : List ℕ) (cs : List Code) → Below n ns → List·Permᴰ (map (bitsOf n) ns) cs → Pairs Before cs
+    → Numbered n ns cs
 numbered n ns cs b p o =
     let s = each-perm (λ c. length c ≡ n) p (bits-sized n ns) in
-    record { all-listed = rw (numbers-bits n ns b) at (Permᴰ·map numberOf p); ordered = pairs-sooner n cs s o; codes-are = bits-numbers n cs s }
+    record {
+      all-listed = rw (numbers-bits n ns b) at (Permᴰ·map numberOf p);
+      ordered = pairs-sooner n cs s o;
+      codes-are = bits-numbers n cs s;
+    }
 
 somebody : (n : ℕ) (l : List ℕ) → 0 < length l → nobody (map (bitsOf n) l) ≡ false
 somebody n [] h = absurd (omega arith)
 somebody n (x ∷ l) h = refl
 
 -- The search, where the codes of those that take part are given as numbers.
-module _ {B : Bus} {M : Model} (C : Carries B M) {command : List Bool} {n : ℕ} (Z : Searchers M command n) (fuel : ℕ) (ds : B .Devices)
-    (ns : List ℕ) (e : onBus C Z ds ≡ map (bitsOf n) ns) (b : Below n ns) (d : Distinct ns) (h : 0 < length ns) (f : length ns ≤ fuel)
+module _ {B : Bus} {M : Model} (C : Carries B M) {command : List Bool} {n : ℕ} (Z : Searchers M command n) (fuel : ℕ)
+    (ds : B .Devices)
+    (ns : List ℕ) (e : onBus C Z ds ≡ map (bitsOf n) ns) (b : Below n ns) (d : Distinct ns) (h : 0 < length ns)
+    (f : length ns ≤ fuel)
   where
     pub numbers-complete : Complete B command n (map (bitsOf n) ns) ds (wireSearch B command fuel n ds)
     numbers-complete =
         rw e at
-        (search-complete C Z fuel ds (rw e (bits-sized n ns)) (rw e (bits-distinct n ns b d)) (rw e (somebody n ns h)) (rw (e, length-map ns (bitsOf n)) f))
+        (search-complete C Z fuel ds (rw e (bits-sized n ns)) (rw e (bits-distinct n ns b d)) (rw e (somebody n ns h))
+        (rw (e, length-map ns (bitsOf n)) f))
 
     pub numbers-listed : Numbered n ns (wireSearch B command fuel n ds .codes)
-    numbers-listed = numbered n ns (wireSearch B command fuel n ds .codes) b (numbers-complete .all-listed) (numbers-complete .ordered)
+    numbers-listed = numbered n ns (wireSearch B command fuel n ds .codes) b (numbers-complete .all-listed)
+        (numbers-complete .ordered)

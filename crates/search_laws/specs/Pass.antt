@@ -1,12 +1,15 @@
--- One pass of a search over the codes alone (the scope, "The master"): at each bit the master reads the line twice and sends the bit that
--- the readings leave, or at a conflict the bit that its plan has there. The next plan departs at the last conflict that was taken at 0.
+-- One pass of a search over the codes alone (the scope, "The master"): at each bit the master reads the line twice and
+-- sends the bit that the readings leave, or at a conflict the bit that its plan has there. The next plan departs at the
+-- last conflict that was taken at 0.
 --     Triple              the two bits read at one place, and the bit sent
---     Plan                the bits to take at conflicts, place by place; 0 past its end, so that the first pass has the empty plan
+--     Plan                the bits to take at conflicts, place by place; 0 past its end, so that the first pass has the
+--                         empty plan
 --     readAs a b          what the two reads a and b tell: a conflict, the bit that all have, or silence
 --     choice a b w        the bit to send after reading a and b, where the plan has w; none where nobody has answered
 --     pass n plan S       the n triples of a pass over S; none where nobody has answered
 --     found ts            the code of a pass: the bits sent
---     next ts             the plan of the next pass: the bits sent before the last conflict taken at 0, then 1; none without such a conflict
+--     next ts             the plan of the next pass: the bits sent before the last conflict taken at 0, then 1; none
+--                         without such a conflict
 use mathlib.Core.Bool.{Bool, true, false, not, Bool·beq}
 use mathlib.Core.Option.{Option, none, some, Option·map}
 use mathlib.Core.List.{List, [], _∷_}
@@ -25,7 +28,8 @@ triple a b d = record { bit = a; coBit = b; sent = d }
 abbrev pub Plan : Type 0
 Plan = List Bool
 
--- What the two reads of a bit tell of those who take part: they differ in it, they all have the same, or nobody is left.
+-- What the two reads of a bit tell of those who take part: they differ in it, they all have the same, or nobody is
+-- left.
 pub data BitRead : Type 0 where
   conflict : BitRead
   agreed : Bool → BitRead

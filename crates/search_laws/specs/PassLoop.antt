@@ -1,5 +1,5 @@
--- A pass as a loop over the places makes it: at each place two reads and the bit, with the code so far as a number and the last place at which 0
--- was taken at a conflict. It is the pass by a plan: `loop-pass`.
+-- A pass as a loop over the places makes it: at each place two reads and the bit, with the code so far as a number and
+-- the last place at which 0 was taken at a conflict. It is the pass by a plan: `loop-pass`.
 --     Walk                               what the loop carries
 --     bitStep B prev D j w               one turn, at place j: nothing more once nobody has answered
 --     steps B prev D m j w               m turns from place j on
@@ -37,7 +37,8 @@ walk a c k l ds = record { answered = a; code = c; last = k; lines = l; devices 
 -- A walk after the triple at place j, in whose third slot the line showed l.
 abbrev pub walkOn : {D : Type 0} → ℕ → Walk D → Triple → Bool → D → Walk D
 walkOn j w t l ds =
-    walk true (w .code + bitNumber (t .sent) * 2 ^ j) (if tookZero t then j else w .last) (w .lines ++ t .bit ∷ t .coBit ∷ l ∷ []) ds
+    walk true (w .code + bitNumber (t .sent) * 2 ^ j) (if tookZero t then j
+    else w .last) (w .lines ++ t .bit ∷ t .coBit ∷ l ∷ []) ds
 
 -- A walk after two reads that nobody has answered.
 abbrev pub walkEnds : {D : Type 0} → Walk D → List Bool → D → Walk D
@@ -59,7 +60,8 @@ module _ (B : Bus) (prev D : ℕ) where
       let twice = B .after true once in
       let a = B .line true (w .devices) in
       let b = B .line true once in
-      onSome (choice a b (takes prev D j)) (walkEnds w (a ∷ b ∷ []) twice) (λ d. walkOn j w (triple a b d) (B .line d twice) (B .after d twice))
+      onSome (choice a b (takes prev D j)) (walkEnds w (a ∷ b ∷ []) twice)
+      (λ d. walkOn j w (triple a b d) (B .line d twice) (B .after d twice))
 
   unfoldable pub bitStep : ℕ → Walk (B .Devices) → Walk (B .Devices)
   bitStep j w = if w .answered then onward j w else w
@@ -75,7 +77,8 @@ module _ (B : Bus) (prev D : ℕ) where
 
   -- ## The turns of a loop over the places below n
 
-  pub steps-turn : (n j : ℕ) (w : Walk (B .Devices)) → j < n → steps (n - j) j w ≡ steps (n - (j + 1)) (j + 1) (bitStep j w)
+  pub steps-turn : (n j : ℕ) (w : Walk (B .Devices)) → j < n
+      → steps (n - j) j w ≡ steps (n - (j + 1)) (j + 1) (bitStep j w)
   unfolding steps
   steps-turn n j w h =
       let e : n - j ≡ suc (n - (j + 1)) = omega arith in
@@ -128,7 +131,8 @@ answers-map t (some ts) = refl
 
 code-more : (b c j : ℕ) → b * 2 ^ j + c * 2 ^ suc j ≡ (b + 2 * c) * 2 ^ j
 code-more b c j =
-    let e : c * 2 ^ suc j ≡ 2 * c * 2 ^ j = ap (λ (k : ℕ). c * k) (pow-suc 2 j) ∙ sym (mul-assoc c (2 ^ j) 2) ∙ mul-comm (c * 2 ^ j) 2
+    let e : c * 2 ^ suc j ≡ 2 * c * 2 ^ j = ap (λ (k : ℕ). c * k) (pow-suc 2 j) ∙ sym (mul-assoc c (2 ^ j) 2)
+    ∙ mul-comm (c * 2 ^ j) 2
     ∙ sym (mul-assoc 2 c (2 ^ j)) in
     rw (e, add-mul b (2 * c) (2 ^ j))
 
@@ -181,17 +185,20 @@ module _ (B : Bus) (n prev D : ℕ) (plan : Plan) (same : (k : ℕ) → k < n �
       let a = B .line true (w .devices) in
       let b = B .line true once in
       let l : j < n = omega arith in
-      let i : (v : Walk (B .Devices)) → v .answered ≡ true → Made (suc j) v (triplets B m (drop (suc j) plan) (v .devices)) (steps B prev D m (suc j) v) =
+      let i : (v : Walk (B .Devices)) → v .answered ≡ true
+      → Made (suc j) v (triplets B m (drop (suc j) plan) (v .devices)) (steps B prev D m (suc j) v) =
       λ v k. steps-made m (suc j) v (omega arith) k in
       rw (bit-step B prev D j w h, same j l, first-drop, rest-drop)
       (on-both (λ v r. Made j w r (steps B prev D m (suc j) v)) (choice a b (getD plan j false))
       (walkEnds w (a ∷ b ∷ []) twice) (λ d. walkOn j w (triple a b d) (B .line d twice) (B .after d twice))
-      (passed none (a ∷ b ∷ []) twice) (λ d. withTriple (triple a b d) (B .line d twice) (triplets B m (drop (suc j) plan) (B .after d twice)))
+      (passed none (a ∷ b ∷ []) twice) (λ d. withTriple (triple a b d) (B .line d twice)
+      (triplets B m (drop (suc j) plan) (B .after d twice)))
       (rw (steps-over B prev D m (suc j) (walkEnds w (a ∷ b ∷ []) twice) refl) (made-none j w (a ∷ b ∷ []) twice))
       (λ d. made-more j w (triple a b d) (B .line d twice) (B .after d twice) _ _ (i _ refl)))
 
   -- A pass by places, where the places take what the plan has.
-  pub loop-pass : (command : List Bool) (ds : B .Devices) → SamePass n (wirePass B command n plan ds) (loopPass B command n prev D ds)
+  pub loop-pass : (command : List Bool) (ds : B .Devices)
+      → SamePass n (wirePass B command n plan ds) (loopPass B command n prev D ds)
   loop-pass command ds =
       let s = slots B command (B .reset ds) in
       let m = steps-made n 0 (walk true 0 n (s .lines) (s .devices)) (omega arith) refl in

@@ -1,5 +1,5 @@
--- The bits that the master has sent in a pass, as a path: whose codes begin with it, and what those put on the line at the next bit. Whoever
--- has left the path offers 1.
+-- The bits that the master has sent in a pass, as a path: whose codes begin with it, and what those put on the line at
+-- the next bit. Whoever has left the path offers 1.
 --     agrees p c       whether the code c begins with the path p
 --     onPath p S       those of S that agree with p, each by the bits after it
 use mathlib.Core.Path.{_≡_, refl}
@@ -42,7 +42,8 @@ getD-rest : (j : ℕ) (c : Code) → getD c (suc j) false ≡ getD (otherBits c)
 getD-rest j [] = refl
 getD-rest j (b ∷ c) = refl
 
-pub agrees-snoc : (p : List Bool) (d : Bool) (c : Code) → agrees (p ++ d ∷ []) c ≡ (agrees p c && Bool·beq (getD c (length p) false) d)
+pub agrees-snoc : (p : List Bool) (d : Bool) (c : Code)
+    → agrees (p ++ d ∷ []) c ≡ (agrees p c && Bool·beq (getD c (length p) false) d)
 unfolding agrees
 agrees-snoc [] d c = simp (getD-first, and-true)
 agrees-snoc (b ∷ p) d c = let i = agrees-snoc p d (otherBits c) in simp (getD-rest, i, and-assoc)
@@ -53,7 +54,8 @@ pub if-and : {A : Type 0} (x y : Bool) (s t : A) → (if x && y then s else t) �
 if-and true y s t = refl
 if-and false y s t = refl
 
-pub all-if : (f : Code → Bool) (b : Bool) (c : Code) (S : List Code) → all f (if b then c ∷ S else S) ≡ ((if b then f c else true) && all f S)
+pub all-if : (f : Code → Bool) (b : Bool) (c : Code) (S : List Code)
+    → all f (if b then c ∷ S else S) ≡ ((if b then f c else true) && all f S)
 unfolding all
 all-if f true c S = refl
 all-if f false c S = refl
@@ -68,18 +70,21 @@ drop-rest zero [] = refl
 drop-rest (suc j) [] = refl
 drop-rest j (b ∷ c) = refl
 
-path-if : (p : List Bool) (x : Bool) (c : Code) (S : List Code) → onPath p (if x then c ∷ S else S) ≡ (if x then onPath p (c ∷ S) else onPath p S)
+path-if : (p : List Bool) (x : Bool) (c : Code) (S : List Code)
+    → onPath p (if x then c ∷ S else S) ≡ (if x then onPath p (c ∷ S) else onPath p S)
 path-if p true c S = refl
 path-if p false c S = refl
 
-path-cons : (p : List Bool) (c : Code) (S : List Code) → onPath p (c ∷ S) ≡ (if agrees p c then drop (length p) c ∷ onPath p S else onPath p S)
+path-cons : (p : List Bool) (c : Code) (S : List Code)
+    → onPath p (c ∷ S) ≡ (if agrees p c then drop (length p) c ∷ onPath p S else onPath p S)
 unfolding onPath agrees follow
 path-cons [] c S = refl
 path-cons (b ∷ p) c S =
     let i = path-cons p (otherBits c) (follow b S) in
     rw (drop-rest, path-if p (Bool·beq (first c) b) (otherBits c) (follow b S), if-and, i)
 
-all-path : (f : Code → Bool) (p : List Bool) (S : List Code) → all f (onPath p S) ≡ all (λ c. if agrees p c then f (drop (length p) c) else true) S
+all-path : (f : Code → Bool) (p : List Bool) (S : List Code)
+    → all f (onPath p S) ≡ all (λ c. if agrees p c then f (drop (length p) c) else true) S
 unfolding all
 all-path f p [] = rw path-none
 all-path f p (c ∷ S) = let i = all-path f p S in rw (path-cons, all-if, i)
@@ -90,8 +95,10 @@ first-drop (suc j) [] = refl
 first-drop zero (b ∷ c) = refl
 first-drop (suc j) (b ∷ c) = first-drop j c
 
-pub line-path : (p : List Bool) (S : List Code) → lineOfCodes (onPath p S) ≡ all (λ c. if agrees p c then getD c (length p) false else true) S
+pub line-path : (p : List Bool) (S : List Code)
+    → lineOfCodes (onPath p S) ≡ all (λ c. if agrees p c then getD c (length p) false else true) S
 line-path p S = simp (all-path, first-drop)
 
-pub co-line-path : (p : List Bool) (S : List Code) → coLine (onPath p S) ≡ all (λ c. if agrees p c then not (getD c (length p) false) else true) S
+pub co-line-path : (p : List Bool) (S : List Code)
+    → coLine (onPath p S) ≡ all (λ c. if agrees p c then not (getD c (length p) false) else true) S
 co-line-path p S = simp (all-path, first-drop)

@@ -1,4 +1,5 @@
--- The slots of a number and of a number that is read, one slot more at a time, as the loops of a master make them, on any bus.
+-- The slots of a number and of a number that is read, one slot more at a time, as the loops of a master make them, on
+-- any bus.
 use Prim.Native.Nat.{ℕ, suc, _+_, _-_, _/_, _<_, _≤_, _*_, _^_}
 use mathlib.Core.Path.{_≡_, ap, _∙_, sym}
 use mathlib.Core.Bool.{true}
@@ -14,7 +15,8 @@ use Rattle.search_laws.specs.Wire.{Bus, run, slots}
 module _ (B : Bus) where
   -- ## The slots of a number, as a loop of halvings makes them
 
-  pub bits-turn : (n i x : ℕ) (ds : B .Devices) → i < n → afterBits B (n - i) x ds ≡ afterBits B (n - (i + 1)) (x / 2) (B .after (odd x) ds)
+  pub bits-turn : (n i x : ℕ) (ds : B .Devices) → i < n
+      → afterBits B (n - i) x ds ≡ afterBits B (n - (i + 1)) (x / 2) (B .after (odd x) ds)
   unfolding bitsOf slots
   bits-turn n i x ds h = let e : n - i ≡ suc (n - (i + 1)) = omega arith in rw e
 
@@ -33,8 +35,10 @@ module _ (B : Bus) where
   reads-more n ds = sym (ap (λ r. r .devices) (read-more n ds))
 
   pub shown-more : (n : ℕ) (ds : B .Devices)
-      → numberOf (bitsShown B n ds) + bitNumber (B .line true (afterReads B n ds)) * 2 ^ n ≡ numberOf (bitsShown B (n + 1) ds)
+      → numberOf (bitsShown B n ds) + bitNumber (B .line true (afterReads B n ds)) * 2 ^ n
+      ≡ numberOf (bitsShown B (n + 1) ds)
   shown-more n ds =
       let long : length (bitsShown B n ds) ≡ n = slots-length B (readSlots n) ds ∙ length-replicate n true in
       let line = B .line true (afterReads B n ds) in
-      sym (ap (λ r. numberOf (r .lines)) (read-more n ds) ∙ number-snoc (bitsShown B n ds) line ∙ ap (λ (k : ℕ). numberOf (bitsShown B n ds) + bitNumber line * 2 ^ k) long)
+      sym (ap (λ r. numberOf (r .lines)) (read-more n ds) ∙ number-snoc (bitsShown B n ds) line
+      ∙ ap (λ (k : ℕ). numberOf (bitsShown B n ds) + bitNumber line * 2 ^ k) long)

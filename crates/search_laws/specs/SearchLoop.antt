@@ -1,5 +1,6 @@
--- A search as a loop over the passes makes it: the code before and the place of departure go from pass to pass, and the loop ends with a pass that
--- leaves no place or in which nobody answers. It is the search by plans, with its codes as numbers: `loop-search`.
+-- A search as a loop over the passes makes it: the code before and the place of departure go from pass to pass, and the
+-- loop ends with a pass that leaves no place or in which nobody answers. It is the search by plans, with its codes as
+-- numbers: `loop-search`.
 --     Sweep                              what the loop carries
 --     turn B command n s                 one turn, a pass; nothing more once no pass is to be made
 --     turns B command n k s              k turns
@@ -18,7 +19,8 @@ use Rattle.basic_laws.specs.Bits.{numberOf}
 use Rattle.search_laws.specs.Codes.{first, otherBits}
 use Rattle.search_laws.specs.Pass.{Triple, triple, Plan, choice, onSome, found, next}
 use Rattle.search_laws.specs.PassLaws.{on-some, never}
-use Rattle.search_laws.specs.Wire.{Bus, Pass, passed, withTriple, Search, searched, unanswered, withCode, triplets, wirePass, searchFrom, wireSearch}
+use Rattle.search_laws.specs.Wire.{Bus, Pass, passed, withTriple, Search, searched, unanswered, withCode}
+use Rattle.search_laws.specs.Wire.{triplets, wirePass, searchFrom, wireSearch}
 use Rattle.search_laws.specs.Issued.{longer-option}
 use Rattle.search_laws.specs.Departure.{takes, lastFrom, planOf}
 use Rattle.search_laws.specs.DepartureLaws.{takes-plan, takes-first, next-plan}
@@ -39,7 +41,8 @@ module _ (B : Bus) (command : List Bool) (n : ℕ) where
   -- A sweep after a pass.
   abbrev pub withPass : Sweep (B .Devices) → Walk (B .Devices) → Sweep (B .Devices)
   withPass s w =
-      sweep (w .answered && ltb (w .last) n) (w .code) (w .last) (if w .answered then s .codes ++ w .code ∷ [] else s .codes) (s .lines ++ w .lines ∷ []) (w .devices)
+      sweep (w .answered && ltb (w .last) n) (w .code) (w .last) (if w .answered then s .codes ++ w .code ∷ []
+      else s .codes) (s .lines ++ w .lines ∷ []) (w .devices)
 
   unfoldable pub turn : Sweep (B .Devices) → Sweep (B .Devices)
   turn s = if s .going then withPass s (loopPass B command n (s .previous) (s .departure) (s .devices)) else s
@@ -63,7 +66,8 @@ module _ (B : Bus) (command : List Bool) (n : ℕ) where
   turns-over zero s h = refl
   turns-over (suc k) s h = ap (turns k) (if-false (s .going) _ s h) ∙ turns-over k s h
 
-  pub turn-pass : (s : Sweep (B .Devices)) → s .going ≡ true → turn s ≡ withPass s (loopPass B command n (s .previous) (s .departure) (s .devices))
+  pub turn-pass : (s : Sweep (B .Devices)) → s .going ≡ true
+      → turn s ≡ withPass s (loopPass B command n (s .previous) (s .departure) (s .devices))
   unfolding turn
   turn-pass s h = if-true (s .going) _ s h
 
@@ -95,10 +99,15 @@ found-length [] = refl
 found-length (t ∷ ts) = ap suc (found-length ts)
 
 same-none : {D : Type 0} (s : Sweep D) → Made s (searched [] [] (s .devices)) s
-same-none s = record { codes-are = sym (append-nil (s .codes)); lines-are = sym (append-nil (s .lines)); devices-are = refl }
+same-none s = record {
+  codes-are = sym (append-nil (s .codes));
+  lines-are = sym (append-nil (s .lines));
+  devices-are = refl;
+}
 
 module _ (B : Bus) (command : List Bool) (n : ℕ) where
-  triplets-length : (m : ℕ) (plan : Plan) (ds : B .Devices) (ts : List Triple) → triplets B m plan ds .triples ≡ some ts → length ts ≡ m
+  triplets-length : (m : ℕ) (plan : Plan) (ds : B .Devices) (ts : List Triple) → triplets B m plan ds .triples ≡ some ts
+      → length ts ≡ m
   unfolding triplets
   triplets-length zero plan ds ts e = let f : ts ≡ [] = cc in rw f
   triplets-length (suc m) plan ds ts e =
@@ -106,9 +115,11 @@ module _ (B : Bus) (command : List Bool) (n : ℕ) where
       let twice = B .after true once in
       let a = B .line true ds in
       let b = B .line true once in
-      let i : (d : Bool) (us : List Triple) → triplets B m (otherBits plan) (B .after d twice) .triples ≡ some us → length us ≡ m =
+      let i : (d : Bool) (us : List Triple) → triplets B m (otherBits plan) (B .after d twice) .triples ≡ some us
+      → length us ≡ m =
       λ d. triplets-length m (otherBits plan) (B .after d twice) in
-      on-some (λ (p : Pass (B .Devices)). p .triples ≡ some ts → length ts ≡ suc m) (choice a b (first plan)) (passed none (a ∷ b ∷ []) twice)
+      on-some (λ (p : Pass (B .Devices)). p .triples ≡ some ts
+      → length ts ≡ suc m) (choice a b (first plan)) (passed none (a ∷ b ∷ []) twice)
       (λ d. withTriple (triple a b d) (B .line d twice) (triplets B m (otherBits plan) (B .after d twice)))
       (λ z. absurd (never z))
       (λ d z.
@@ -116,14 +127,16 @@ module _ (B : Bus) (command : List Bool) (n : ℕ) where
       rw (k .is) (ap suc (i d (k .others) (k .others-is)))) e
 
   -- The plan after a pass.
-  goes-on : (ts : List Triple) (s : Sweep (B .Devices)) → length ts ≡ n → s .going ≡ ltb (lastFrom 0 n ts) n → s .previous ≡ numberOf (found ts)
+  goes-on : (ts : List Triple) (s : Sweep (B .Devices)) → length ts ≡ n → s .going ≡ ltb (lastFrom 0 n ts) n
+      → s .previous ≡ numberOf (found ts)
       → s .departure ≡ lastFrom 0 n ts → Goes n (next ts) s
   goes-on ts s l g p d =
       let D = lastFrom 0 n ts in
       let e : next ts ≡ planOf n (found ts) D = rw l at (next-plan ts) in
       rw e (by-test (ltb D n) refl)
     where
-      by-test : (t : Bool) → ltb (lastFrom 0 n ts) n ≡ t → Goes n (if t then some (take (lastFrom 0 n ts) (found ts) ++ true ∷ []) else none) s
+      by-test : (t : Bool) → ltb (lastFrom 0 n ts) n ≡ t
+          → Goes n (if t then some (take (lastFrom 0 n ts) (found ts) ++ true ∷ []) else none) s
       by-test true e =
           let h = ltb-true (lastFrom 0 n ts) n e in
           let f = found-length ts in
@@ -131,12 +144,15 @@ module _ (B : Bus) (command : List Bool) (n : ℕ) where
       by-test false e = g ∙ e
 
   -- One pass, and the search after it.
-  by-answer : (s : Sweep (B .Devices)) (plan : Plan) (w : Walk (B .Devices)) (k : ℕ) → SamePass n (wirePass B command n plan (s .devices)) w
-      → ((o : Option Plan) (t : Sweep (B .Devices)) → Goes n o t → Made t (searchFrom B command k n o (t .devices)) (turns B command n k t))
+  by-answer : (s : Sweep (B .Devices)) (plan : Plan) (w : Walk (B .Devices)) (k : ℕ)
+      → SamePass n (wirePass B command n plan (s .devices)) w
+      → ((o : Option Plan) (t : Sweep (B .Devices)) → Goes n o t
+      → Made t (searchFrom B command k n o (t .devices)) (turns B command n k t))
       → (o : Option (List Triple)) → wirePass B command n plan (s .devices) .triples ≡ o
       → Made s
       (onSome o (unanswered (wirePass B command n plan (s .devices))) (λ ts.
-      withCode (found ts) (wirePass B command n plan (s .devices) .lines) (searchFrom B command k n (next ts) (wirePass B command n plan (s .devices) .devices))))
+      withCode (found ts) (wirePass B command n plan (s .devices) .lines)
+      (searchFrom B command k n (next ts) (wirePass B command n plan (s .devices) .devices))))
       (turns B command n k (withPass B command n s w))
   by-answer s plan w k m i none e =
       let a : w .answered ≡ false = m .answered-is ∙ ap answers e in
@@ -160,18 +176,22 @@ module _ (B : Bus) (command : List Bool) (n : ℕ) where
         devices-are = h .devices-are ∙ rw (m .devices-are);
       }
 
-  turns-search : (k : ℕ) (o : Option Plan) (s : Sweep (B .Devices)) → Goes n o s → Made s (searchFrom B command k n o (s .devices)) (turns B command n k s)
+  turns-search : (k : ℕ) (o : Option Plan) (s : Sweep (B .Devices)) → Goes n o s
+      → Made s (searchFrom B command k n o (s .devices)) (turns B command n k s)
   unfolding turns searchFrom
   turns-search zero o s g = same-none s
   turns-search (suc k) none s g = rw (turns-over B command n (suc k) s g) (same-none s)
   turns-search (suc k) (some plan) s g =
       let w = loopPass B command n (s .previous) (s .departure) (s .devices) in
       let m = loop-pass B n (s .previous) (s .departure) plan (g .1) command (s .devices) in
-      let i : (o : Option Plan) (t : Sweep (B .Devices)) → Goes n o t → Made t (searchFrom B command k n o (t .devices)) (turns B command n k t) =
+      let i : (o : Option Plan) (t : Sweep (B .Devices)) → Goes n o t
+      → Made t (searchFrom B command k n o (t .devices)) (turns B command n k t) =
       λ o t. turns-search k o t in
-      rw (turn-pass B command n s (g .0)) (by-answer s plan w k m i (wirePass B command n plan (s .devices) .triples) refl)
+      rw (turn-pass B command n s (g .0)) (by-answer s plan w k m i
+      (wirePass B command n plan (s .devices) .triples) refl)
 
-  pub loop-search : (fuel : ℕ) (ds : B .Devices) → SameSearch (wireSearch B command fuel n ds) (loopSearch B command fuel n ds)
+  pub loop-search : (fuel : ℕ) (ds : B .Devices)
+      → SameSearch (wireSearch B command fuel n ds) (loopSearch B command fuel n ds)
   loop-search fuel ds =
       let m = turns-search fuel (some []) (sweep true 0 n [] [] ds) (refl, λ k h. takes-first n k h) in
       record { codes-are = m .codes-are; lines-are = m .lines-are; devices-are = m .devices-are }

@@ -1,7 +1,9 @@
--- What a device has to do for a search to find it (the scope, "One slot", F0h and ECh), as laws about one device. A search by F0h or by ECh is
--- one with another command and another answer to who takes part.
---     Model                  devices one by one: what each offers in a slot, and what it becomes when the line shows a bit and at a reset
---     Carries B M            a bus on which the line is the AND of the master's bit and all offers, and every device hears the line's bit
+-- What a device has to do for a search to find it (the scope, "One slot", F0h and ECh), as laws about one device. A
+-- search by F0h or by ECh is one with another command and another answer to who takes part.
+--     Model                  devices one by one: what each offers in a slot, and what it becomes when the line shows a
+--                            bit and at a reset
+--     Carries B M            a bus on which the line is the AND of the master's bit and all offers, and every device
+--                            hears the line's bit
 --     wire M                 the bus that is nothing but a list of devices
 --     Takes M P bs d         d offers 1 at each of the bits bs that it hears, and then P holds of it
 --     Searchers M command n  the laws, for codes of n bits
@@ -65,6 +67,7 @@ pub record Searchers (M : Model) (command : List Bool) (n : ℕ) : Type 1 where
   pub way-hear : (j : ℕ) → j < n → (x : Bool) (d : M .Dev) → Way j d
       → cond (Bool·beq (getD (code d) j false) x) (Own (suc j) (M .hear x d)) (Out (M .hear x d))
 
-unfoldable pub participants : {M : Model} {command : List Bool} {n : ℕ} → Searchers M command n → List (M .Dev) → List Code
+unfoldable pub participants : {M : Model} {command : List Bool} {n : ℕ} → Searchers M command n → List (M .Dev)
+    → List Code
 participants Z [] = []
 participants Z (d ∷ ds) = if Z .joins d then Z .code d ∷ participants Z ds else participants Z ds

@@ -18,7 +18,8 @@ unfolding participants those
 participants-those Z [] = refl
 participants-those Z (d ∷ ds) = let i = participants-those Z ds in rw i (by-test (Z .joins d))
   where
-    by-test : (t : Bool) → (if t then Z .code d ∷ map (Z .code) (those (Z .joins) ds) else map (Z .code) (those (Z .joins) ds))
+    by-test : (t : Bool) → (if t then Z .code d ∷ map (Z .code) (those (Z .joins) ds)
+        else map (Z .code) (those (Z .joins) ds))
         ≡ map (Z .code) (if t then d ∷ those (Z .joins) ds else those (Z .joins) ds)
     by-test true = refl
     by-test false = refl

@@ -1,6 +1,6 @@
--- Devices in the course of a pass: once the path p has been sent, a device that takes part and whose code begins with p is about to send the
--- bit after p, and every other is quiet. The three slots of a bit show the line, its complement and the master's bit, and take that from p to
--- p with this bit.
+-- Devices in the course of a pass: once the path p has been sent, a device that takes part and whose code begins with p
+-- is about to send the bit after p, and every other is quiet. The three slots of a bit show the line, its complement
+-- and the master's bit, and take that from p to p with this bit.
 --     Sits Z p P d      P holds of d where it takes part and its code begins with p; else d is quiet
 --     onBus C Z ds      the codes of those on the bus that take part
 use mathlib.Core.Path.{_≡_, refl, sym, _∙_}
@@ -23,7 +23,8 @@ module _ {M : Model} {command : List Bool} {n : ℕ} (Z : Searchers M command n)
   abbrev pub Sits : List Bool → (M .Dev → Type 0) → M .Dev → Type 0
   Sits p P d = cond (Z .joins d && agrees p (Z .code d)) (P d) (Z .Out d)
 
-  sit-offer : (p : List Bool) (P : M .Dev → Type 0) (f : Code → Bool) (d : M .Dev) → (P d → M .offer d ≡ f (Z .code d)) → Sits p P d
+  sit-offer : (p : List Bool) (P : M .Dev → Type 0) (f : Code → Bool) (d : M .Dev) → (P d → M .offer d ≡ f (Z .code d))
+      → Sits p P d
       → M .offer d ≡ (if Z .joins d && agrees p (Z .code d) then f (Z .code d) else true)
   sit-offer p P f d h s = go (Z .joins d && agrees p (Z .code d)) s
     where
@@ -31,8 +32,10 @@ module _ {M : Model} {command : List Bool} {n : ℕ} (Z : Searchers M command n)
       go true t = h t
       go false t = Z .out-offer d t
 
-  offers-sit : (p : List Bool) (P : M .Dev → Type 0) (f : Code → Bool) → ((d : M .Dev) → P d → M .offer d ≡ f (Z .code d))
-      → (ds : List (M .Dev)) → Each (Sits p P) ds → all (M .offer) ds ≡ all (λ c. if agrees p c then f c else true) (participants Z ds)
+  offers-sit : (p : List Bool) (P : M .Dev → Type 0) (f : Code → Bool)
+      → ((d : M .Dev) → P d → M .offer d ≡ f (Z .code d))
+      → (ds : List (M .Dev)) → Each (Sits p P) ds
+      → all (M .offer) ds ≡ all (λ c. if agrees p c then f c else true) (participants Z ds)
   unfolding all participants
   offers-sit p P f h [] s = refl
   offers-sit p P f h (d ∷ ds) s =
@@ -40,12 +43,14 @@ module _ {M : Model} {command : List Bool} {n : ℕ} (Z : Searchers M command n)
       let e = sit-offer p P f d (h d) (s .0) in
       rw (e, i, all-if, if-and)
 
-  each-hear : (P Q : M .Dev → Type 0) (x : Bool) → ((d : M .Dev) → P d → Q (M .hear x d)) → (ds : List (M .Dev)) → Each P ds
+  each-hear : (P Q : M .Dev → Type 0) (x : Bool) → ((d : M .Dev) → P d → Q (M .hear x d)) → (ds : List (M .Dev))
+      → Each P ds
       → Each Q (map (M .hear x) ds)
   each-hear P Q x h [] s = tt
   each-hear P Q x h (d ∷ ds) s = (h d (s .0), each-hear P Q x h ds (s .1))
 
-  sits-hear : (p : List Bool) (P Q : M .Dev → Type 0) (x : Bool) → ((d : M .Dev) → P d → Q (M .hear x d)) → (d : M .Dev) → Sits p P d
+  sits-hear : (p : List Bool) (P Q : M .Dev → Type 0) (x : Bool) → ((d : M .Dev) → P d → Q (M .hear x d)) → (d : M .Dev)
+      → Sits p P d
       → Sits p Q (M .hear x d)
   sits-hear p P Q x h d s = rw (Z .hear-code, Z .hear-joins) (go (Z .joins d && agrees p (Z .code d)) s)
     where
@@ -58,7 +63,8 @@ module _ {M : Model} {command : List Bool} {n : ℕ} (Z : Searchers M command n)
   sits-way p l x d s = rw (Z .hear-code, Z .hear-joins, agrees-snoc) (go (Z .joins d) (agrees p (Z .code d)) s)
     where
       go : (a b : Bool) → cond (a && b) (Z .Way (length p) d) (Z .Out d)
-          → cond (a && (b && Bool·beq (getD (Z .code d) (length p) false) x)) (Z .Own (suc (length p)) (M .hear x d)) (Z .Out (M .hear x d))
+          → cond (a && (b && Bool·beq (getD (Z .code d) (length p) false) x)) (Z .Own (suc (length p)) (M .hear x d))
+          (Z .Out (M .hear x d))
       go true true t = Z .way-hear (length p) l x d t
       go true false t = Z .out-hear x d t
       go false b t = Z .out-hear x d t
@@ -73,7 +79,8 @@ module _ {M : Model} {command : List Bool} {n : ℕ} (Z : Searchers M command n)
   participants-restart [] = refl
   participants-restart (d ∷ ds) = let i = participants-restart ds in rw (Z .restart-code, Z .restart-joins, i)
 
-  pub each-restart : (P : M .Dev → Type 0) → ((d : M .Dev) → P (M .restart d)) → (ds : List (M .Dev)) → Each P (map (M .restart) ds)
+  pub each-restart : (P : M .Dev → Type 0) → ((d : M .Dev) → P (M .restart d)) → (ds : List (M .Dev))
+      → Each P (map (M .restart) ds)
   each-restart P h [] = tt
   each-restart P h (d ∷ ds) = (h d, each-restart P h ds)
 
@@ -96,12 +103,14 @@ module _ {B : Bus} {M : Model} (C : Carries B M) {command : List Bool} {n : ℕ}
   on-bus-reset ds = rw (C .reset-is ds) (participants-restart Z (C .live ds))
 
   -- Where P holds of each device, Q holds of each after a slot.
-  pub each-after : (P Q : M .Dev → Type 0) (x : Bool) (ds : B .Devices) → ((d : M .Dev) → P d → Q (M .hear (B .line x ds) d)) → Each P (C .live ds)
+  pub each-after : (P Q : M .Dev → Type 0) (x : Bool) (ds : B .Devices)
+      → ((d : M .Dev) → P d → Q (M .hear (B .line x ds) d)) → Each P (C .live ds)
       → Each Q (C .live (B .after x ds))
   each-after P Q x ds h s = rw (C .after-is x ds) (each-hear Z P Q (B .line x ds) h (C .live ds) s)
 
   -- The three slots of a bit, for devices that the path p has come to.
-  module _ (p : List Bool) (l : length p < n) (ds : B .Devices) (s : Each (Sits Z p (Z .Own (length p))) (C .live ds)) where
+  module _ (p : List Bool) (l : length p < n) (ds : B .Devices)
+      (s : Each (Sits Z p (Z .Own (length p))) (C .live ds)) where
     abbrev pub once : B .Devices
     once = B .after true ds
 
@@ -115,17 +124,20 @@ module _ {B : Bus} {M : Model} (C : Carries B M) {command : List Bool} {n : ℕ}
         ∙ sym (line-path p (onBus ds))
 
     pub sits-co : Each (Sits Z p (Z .Co (length p))) (C .live once)
-    sits-co = each-after _ _ true ds (sits-hear Z p (Z .Own (length p)) (Z .Co (length p)) (B .line true ds) (Z .own-hear (length p) l (B .line true ds))) s
+    sits-co = each-after _ _ true ds (sits-hear Z p (Z .Own (length p)) (Z .Co (length p)) (B .line true ds)
+        (Z .own-hear (length p) l (B .line true ds))) s
 
     pub read-co-bit : B .line true once ≡ coLine (onPath p (onBus ds))
     read-co-bit =
         C .line-is true once
-        ∙ offers-sit Z p (Z .Co (length p)) (λ c. not (getD c (length p) false)) (Z .co-offer (length p) l) (C .live once) sits-co
+        ∙ offers-sit Z p (Z .Co (length p)) (λ c. not (getD c (length p) false)) (Z .co-offer (length p) l)
+        (C .live once) sits-co
         ∙ simp (on-bus-after, co-line-path)
 
     pub sits-way-next : Each (Sits Z p (Z .Way (length p))) (C .live twice)
     sits-way-next =
-        each-after _ _ true once (sits-hear Z p (Z .Co (length p)) (Z .Way (length p)) (B .line true once) (Z .co-hear (length p) l (B .line true once)))
+        each-after _ _ true once (sits-hear Z p (Z .Co (length p)) (Z .Way (length p)) (B .line true once)
+        (Z .co-hear (length p) l (B .line true once)))
         sits-co
 
     all-quiet : (S : List Code) → all (λ c. if agrees p c then true else true) S ≡ true
@@ -133,13 +145,15 @@ module _ {B : Bus} {M : Model} (C : Carries B M) {command : List Bool} {n : ℕ}
     all-quiet [] = refl
     all-quiet (c ∷ S) = go (agrees p c) ∙ all-quiet S
       where
-        go : (b : Bool) → ((if b then true else true) && all (λ c. if agrees p c then true else true) S) ≡ all (λ c. if agrees p c then true else true) S
+        go : (b : Bool) → ((if b then true else true) && all (λ c. if agrees p c then true else true) S)
+            ≡ all (λ c. if agrees p c then true else true) S
         go true = refl
         go false = refl
 
     pub write-bit : (d : Bool) → B .line d twice ≡ d
     write-bit d =
-        let e = offers-sit Z p (Z .Way (length p)) (λ c. true) (Z .way-offer (length p) l) (C .live twice) sits-way-next in
+        let e = offers-sit Z p (Z .Way (length p)) (λ c. true) (Z .way-offer (length p) l) (C .live twice)
+        sits-way-next in
         C .line-is d twice ∙ rw (e, all-quiet) (and-true d)
 
     pub sits-on : (d : Bool) → Each (Sits Z (p ++ d ∷ []) (Z .Own (suc (length p)))) (C .live (B .after d twice))

@@ -1,5 +1,5 @@
--- The smallest devices that meet the laws of a search, so that the laws are no empty promise: a code, an alarm flag and a stage (the scope, "One
--- slot", F0h and ECh). A search by F0h lists them all, one by ECh those with the flag set.
+-- The smallest devices that meet the laws of a search, so that the laws are no empty promise: a code, an alarm flag and
+-- a stage (the scope, "One slot", F0h and ECh). A search by F0h lists them all, one by ECh those with the flag set.
 --     Small            a device
 --     offers, hears    what it puts on the line, and its next stage when the line has shown a bit
 --     model n          these devices, for codes of n bits
@@ -46,7 +46,8 @@ smallComesTo n j = if ltb j n then searching j own else chosen
 -- A command byte, heard whole.
 abbrev pub obeys : ℕ → Bool → ℕ → Stage
 obeys n flag b =
-    if eqb b SEARCH_ROM then smallComesTo n 0 else (if eqb b ALARM_SEARCH then (if flag then smallComesTo n 0 else quiet) else quiet)
+    if eqb b SEARCH_ROM then smallComesTo n 0
+    else (if eqb b ALARM_SEARCH then (if flag then smallComesTo n 0 else quiet) else quiet)
 
 abbrev pub listens : ℕ → Bool → List Bool → Stage
 listens n flag bs = if eqb (length bs) 8 then obeys n flag (numberOf bs) else command bs
@@ -86,7 +87,8 @@ way-on s false = refl
 
 module _ (n byte : ℕ) (joins : Small → Bool) (stays : (d : Small) (s : Stage) → joins (atStage d s) ≡ joins d) where
   -- Either command, by who takes part.
-  abbrev pub searchersBy : ((d : Small) → Takes (model n) (λ e. cond (joins e) (e .stage ≡ smallComesTo n 0) (e .stage ≡ quiet)) (bitsOf 8 byte) (model n .restart d))
+  abbrev pub searchersBy : ((d : Small) → Takes (model n)
+      (λ e. cond (joins e) (e .stage ≡ smallComesTo n 0) (e .stage ≡ quiet)) (bitsOf 8 byte) (model n .restart d))
       → Searchers (model n) (bitsOf 8 byte) n
   searchersBy taken = record {
     code = λ d. d .code;
@@ -112,12 +114,14 @@ module _ (n byte : ℕ) (joins : Small → Bool) (stays : (d : Small) (s : Stage
 
 unfoldable pub searchers : (n : ℕ) → Searchers (model n) (bitsOf 8 SEARCH_ROM) n
 unfolding bitsOf numberOf
-searchers n = searchersBy n SEARCH_ROM (λ d. true) (λ d s. refl) (λ d. (refl, (refl, (refl, (refl, (refl, (refl, (refl, (refl, refl)))))))))
+searchers n = searchersBy n SEARCH_ROM (λ d. true) (λ d s. refl)
+    (λ d. (refl, (refl, (refl, (refl, (refl, (refl, (refl, (refl, refl)))))))))
 
 unfoldable pub alarmSearchers : (n : ℕ) → Searchers (model n) (bitsOf 8 ALARM_SEARCH) n
 unfolding bitsOf numberOf
 alarmSearchers n =
-    searchersBy n ALARM_SEARCH (λ d. d .flag) (λ d s. refl) (λ d. (refl, (refl, (refl, (refl, (refl, (refl, (refl, (refl, way-on (smallComesTo n 0) (d .flag))))))))))
+    searchersBy n ALARM_SEARCH (λ d. d .flag) (λ d s. refl)
+    (λ d. (refl, (refl, (refl, (refl, (refl, (refl, (refl, (refl, way-on (smallComesTo n 0) (d .flag))))))))))
 
 -- A search keeps all but the stage.
 pub small-keeps : (n : ℕ) → Keeps (searchers n) (λ d. atStage d quiet)

@@ -1,10 +1,15 @@
--- The master on a wire of slots (the scope, "One slot" and "The master"): what a run of slots shows, a pass and a whole search, each with the
--- bits that the line showed and with the devices as the last slot left them. A bus is whatever answers resets and slots.
---     slots B offers ds                  the line's bits and the devices after, for the master's bits `offers` one after another
---     passOffers command c               the master's bits in a pass that lists c: the command, then 1, 1 and the bit for each bit of c
+-- The master on a wire of slots (the scope, "One slot" and "The master"): what a run of slots shows, a pass and a whole
+-- search, each with the bits that the line showed and with the devices as the last slot left them. A bus is whatever
+-- answers resets and slots.
+--     slots B offers ds                  the line's bits and the devices after, for the master's bits `offers` one
+--                                        after another
+--     passOffers command c               the master's bits in a pass that lists c: the command, then 1, 1 and the bit
+--                                        for each bit of c
 --     passes B command cs ds             for each code of cs a reset and the slots of its pass, in order
---     wirePass B command n plan ds       one pass by a plan: a reset, the command, n triples, fewer where nobody answers
---     wireSearch B command fuel n ds     passes from the empty plan on, up to the pass that leaves no plan or nobody answers, at most `fuel`
+--     wirePass B command n plan ds       one pass by a plan: a reset, the command, n triples, fewer where nobody
+--                                        answers
+--     wireSearch B command fuel n ds     passes from the empty plan on, up to the pass that leaves no plan or nobody
+--                                        answers, at most `fuel`
 use mathlib.Core.Bool.{Bool, true}
 use mathlib.Core.Option.{Option, none, some, Option·map}
 use mathlib.Core.List.{List, [], _∷_, _++_}
@@ -47,7 +52,8 @@ passed o l ds = record { triples = o; lines = l; devices = ds }
 abbrev pub withTriple : {D : Type 0} → Triple → Bool → Pass D → Pass D
 withTriple t l p = passed (Option·map (λ ts. t ∷ ts) (p .triples)) (t .bit ∷ t .coBit ∷ l ∷ p .lines) (p .devices)
 
--- What a search gives: the codes in the order in which they were found, for each pass the line's bits, and the devices after the last slot.
+-- What a search gives: the codes in the order in which they were found, for each pass the line's bits, and the devices
+-- after the last slot.
 pub record Search (D : Type 0) : Type 0 where
   pub codes : List Code
   pub lines : List (List Bool)

@@ -1,8 +1,10 @@
 -- A line gathered from pieces of a text into a buffer, up to as many characters as tell that it is over-long.
 --     mostHeld                        one character more than a line may have
 --     fitting line held cs            as many of some characters as there is room for behind those that are held
---     partAt piece at                 the line that goes on at a place of a piece; past the end one without characters and without a feed
---     taken line held piece at        what that part of a line comes to: how many characters are held then, whether the feed has come, and the place behind
+--     partAt piece at                 the line that goes on at a place of a piece; past the end one without characters
+--                                     and without a feed
+--     taken line held piece at        what that part of a line comes to: how many characters are held then, whether the
+--                                     feed has come, and the place behind
 --     takenLeaves line held piece at  the buffer after it
 use Prim.Native.Nat.{ℕ, _+_, _-_}
 use mathlib.Core.List.{List}

@@ -1,12 +1,13 @@
--- A console over a text that comes in pieces cut anywhere: each line is answered in the state that the lines before it left, and no more is held of a line than tells
--- what it asks for.
+-- A console over a text that comes in pieces cut anywhere: each line is answered in the state that the lines before it
+-- left, and no more is held of a line than tells what it asks for.
 --     Console                   what is said to a line in a state, and the state after it
 --     inTurn C s ls             what is said to lines one after the other, from the state s on
 --     Run                       a run so far: the state, and what is held of the line that has no feed yet
 --     freshRun s                a run that begins in the state s, with nothing held
 --     grown r l                 the run with the characters of l behind those that are held, cut at 81 (`mostHeld`)
 --     heldLine r fed            the line that is held, with its feed or without
---     heldEnded C r fed         the run where the held line has its feed, which is answered and held no more, or has none yet
+--     heldEnded C r fed         the run where the held line has its feed, which is answered and held no more, or has
+--                               none yet
 --     endSaid C r fed           what is said then: the answer to the held line, or nothing
 --     ranLine C r l             the run after one line of a piece, or after the part of a line that the piece ends with
 --     heardLine C r l           what is said to it: nothing where it has no feed yet
@@ -17,11 +18,13 @@
 --     session C r cs            what is said to the pieces cs and at the end
 --     cut l                     a line cut at 81 characters
 --     HeldEnough C              that 81 characters of a line tell what is said to it and where it leads
---     SessionClaim C            that what is said does not depend on where the text was cut: it is what is said to the lines of the whole text in turn
+--     SessionClaim C            that what is said does not depend on where the text was cut: it is what is said to the
+--                               lines of the whole text in turn
 --     runAt s line held         the run of a program: its state, and the line that stands at the front of a buffer
 --     Reached C s r             a run that a program may come to from the state s
 --     Led C s r                 a run that some text has led to
---     Standing C s v line held  where a program stands between two reads: in the state v, with so many characters of a line in a buffer of 81
+--     Standing C s v line held  where a program stands between two reads: in the state v, with so many characters of a
+--                               line in a buffer of 81
 --     Answerable C s t          bytes that it may hand to its output
 use Prim.Native.Nat.{ℕ, _≤_}
 use mathlib.Core.Path.{_≡_}
@@ -109,7 +112,8 @@ pub record HeldEnough (C : Console) : Type 0 where
   pub next-same : (s : C .State) (l : Line) → C .next s (cut l) ≡ C .next s l
 
 abbrev pub SessionClaim : Console → Type 0
-SessionClaim C = HeldEnough C → (s : C .State) (cs : List (List ℕ)) → session C (freshRun s) cs ≡ inTurn C s (linesOf (together cs))
+SessionClaim C = HeldEnough C → (s : C .State) (cs : List (List ℕ))
+    → session C (freshRun s) cs ≡ inTurn C s (linesOf (together cs))
 
 -- ## What a program comes to, and what it may write
 
@@ -125,7 +129,8 @@ pub record Led (C : Console) (s : C .State) (r : Run (C .State)) : Type 0 where
   pub text : List ℕ
   pub is : r ≡ runAfter C (freshRun s) text
 
--- where a program stands between two reads: in a run that it may come to, with what is held of the line at the front of a buffer of 81 bytes
+-- where a program stands between two reads: in a run that it may come to, with what is held of the line at the front of
+-- a buffer of 81 bytes
 pub record Standing (C : Console) (s v : C .State) (line : List ℕ) (held : ℕ) : Type 0 where
   pub size : length line ≡ mostHeld
   pub within : held ≤ mostHeld

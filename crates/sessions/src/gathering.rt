@@ -21,7 +21,8 @@ pub struct Gathered {
 // Characters behind those that are held, while there is room.
 fn hold(line: &mut [u8], held: usize, chars: &[u8]) -> usize
     ensures answer { λ r. ⌜ r ≡ held + length (fitting (now (line .entry)) held (now (chars .entry))) ⌝ }
-    ensures written { λ r. ⌜ now (line .exit) ≡ laid (now (line .entry)) held (fitting (now (line .entry)) held (now (chars .entry))) ⌝ }
+    ensures written { λ r. ⌜ now (line .exit)
+        ≡ laid (now (line .entry)) held (fitting (now (line .entry)) held (now (chars .entry))) ⌝ }
 {
     let mut to = held;
     let mut i: usize = 0;

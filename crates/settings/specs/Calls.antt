@@ -1,10 +1,13 @@
 -- The calls on a store (document 02, E6). A refusal leaves the store as it was, and its other numbers are zero.
---     settingsAdded s code first          5 or 7 for the code, 8 for one that is there, 9 for a new one where 32 have ever been added; else it is there: for the first time with these
---                                         settings at version 0, again with those that it had
---     located s code                      what all others begin with: 5 or 7 for the code, 12 for one that was never added or is removed; else its entry
+--     settingsAdded s code first          5 or 7 for the code, 8 for one that is there, 9 for a new one where 32 have
+--                                         ever been added; else it is there: for the first time with these settings at
+--                                         version 0, again with those that it had
+--     located s code                      what all others begin with: 5 or 7 for the code, 12 for one that was never
+--                                         added or is removed; else its entry
 --     settingsRemoved s code              the code is no longer there, and keeps the rest
 --     settingsRead s code                 its settings and their version
---     settingsChanged s code v asked      18 for a version that is not the current one, then 19 at the last; else the settings altered as asked, and the version raised by one
+--     settingsChanged s code v asked      18 for a version that is not the current one, then 19 at the last; else the
+--                                         settings altered as asked, and the version raised by one
 use Prim.Native.Nat.{ℕ, _+_}
 use mathlib.Core.Bool.{true, false, not}
 use lib.Bits.{bitAnd}
@@ -42,13 +45,15 @@ abbrev pub firstEntry : ℕ → Settings → Entry
 firstEntry code first = record { code = code; present = true; settings = keptForm first; version = 0 }
 
 abbrev pub addedFirst : Store → ℕ → Settings → StoreAfter
-addedFirst s code first = if not (ltb (s .count) 32) then storeRefused benchFull s else storeChanged (withNewEntry s (firstEntry code first))
+addedFirst s code first = if not (ltb (s .count) 32) then storeRefused benchFull s
+    else storeChanged (withNewEntry s (firstEntry code first))
 
 abbrev pub there : Entry → Entry
 there e = record { code = e .code; present = true; settings = e .settings; version = e .version }
 
 abbrev pub addedAgain : Store → ℕ → StoreAfter
-addedAgain s i = if entryAt s i .present then storeRefused duplicate s else storeChanged (withEntry s i (there (entryAt s i)))
+addedAgain s i = if entryAt s i .present then storeRefused duplicate s
+    else storeChanged (withEntry s i (there (entryAt s i)))
 
 abbrev pub addedAt : Store → ℕ → Settings → Kept → StoreAfter
 addedAt s code first (At i) = addedAgain s i
@@ -65,14 +70,16 @@ abbrev pub missing : ℕ → Located
 missing n = record { refusal = n; place = 0; entry = blank }
 
 abbrev pub locatedAt : Store → ℕ → Located
-locatedAt s i = if entryAt s i .present then record { refusal = accepted; place = i; entry = entryAt s i } else missing notFound
+locatedAt s i = if entryAt s i .present then record { refusal = accepted; place = i; entry = entryAt s i }
+    else missing notFound
 
 abbrev pub locatedWhere : Store → Kept → Located
 locatedWhere s (At i) = locatedAt s i
 locatedWhere s Nowhere = missing notFound
 
 unfoldable pub located : Store → ℕ → Located
-located s code = if not (eqb (codeRefusal code) accepted) then missing (codeRefusal code) else locatedWhere s (keptAt s code)
+located s code = if not (eqb (codeRefusal code) accepted) then missing (codeRefusal code)
+    else locatedWhere s (keptAt s code)
 
 -- ## Removing and reading
 
@@ -87,7 +94,11 @@ settingsRemoved s code =
 
 unfoldable pub settingsRead : Store → ℕ → Current
 settingsRead s code =
-    let found = located s code in record { refusal = found .refusal; settings = found .entry .settings; version = found .entry .version }
+    let found = located s code in record {
+      refusal = found .refusal;
+      settings = found .entry .settings;
+      version = found .entry .version;
+    }
 
 -- ## Changing
 
@@ -111,7 +122,12 @@ abbrev pub changeRefused : ℕ → Store → ChangeDone
 changeRefused n s = record { refusal = n; version = 0; store = s }
 
 abbrev pub alteredEntry : Entry → Alterations → Entry
-alteredEntry e asked = record { code = e .code; present = e .present; settings = settingsAltered (e .settings) asked; version = e .version + 1 }
+alteredEntry e asked = record {
+  code = e .code;
+  present = e .present;
+  settings = settingsAltered (e .settings) asked;
+  version = e .version + 1;
+}
 
 abbrev pub changedEntry : Store → ℕ → Entry → Alterations → ChangeDone
 changedEntry s i e asked =

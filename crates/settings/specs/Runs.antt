@@ -1,11 +1,14 @@
--- Every run of calls on a store, by any callers in any order, refused calls included, and an account of each code that is made of the accepted ones alone (document 02, E6).
+-- Every run of calls on a store, by any callers in any order, refused calls included, and an account of each code that
+-- is made of the accepted ones alone (document 02, E6).
 --     StoreCall             one call, with its arguments
---     book h                the store after the calls h from the empty one, the codes that were first added, in order, and the account of each code
+--     book h                the store after the calls h from the empty one, the codes that were first added, in order,
+--                           and the account of each code
 --     afterCalls h          that store
 --     settled a             the first settings of an account under its changes, in turn
 --     shownOf code a        what a read of the code shows, by its account
 --     InTurn n changes      the changes named n, n + 1 and so on
---     RunsRight             after every run each read shows its account, each accepted change named how many there were before it, and a code has one place for ever
+--     RunsRight             after every run each read shows its account, each accepted change named how many there were
+--                           before it, and a code has one place for ever
 --     SameVersion           equal versions of a code mean equal settings
 --     NothingUndone         an accepted change alters just what its caller had read
 use Prim.Native.Nat.{ℕ, _+_, _≤_}
@@ -21,7 +24,8 @@ use Rattle.refusals.specs.Refusals.{accepted, notFound}
 use Rattle.rom.specs.Code.{codeRefusal}
 use Rattle.device.specs.declared.Settings.{Settings}
 use Rattle.settings.specs.Store.{emptyStore}
-use Rattle.settings.specs.Calls.{keptForm, settingsAdded, settingsRemoved, settingsRead, settingsAltered, settingsChanged}
+use Rattle.settings.specs.Calls.{keptForm, settingsAdded, settingsRemoved, settingsRead, settingsAltered}
+use Rattle.settings.specs.Calls.{settingsChanged}
 use Rattle.settings.specs.declared.Alterations.{Alterations}
 use Rattle.settings.specs.declared.Current.{Current}
 use Rattle.settings.specs.declared.Store.{Store}
@@ -47,17 +51,32 @@ pub record Account : Type 0 where
   pub changes : List AcceptedChange
 
 abbrev pub noAccount : Account
-noAccount = record { known = false; present = false; first = record { high = 0; low = 0; configuration = 0 }; changes = [] }
+noAccount = record {
+  known = false;
+  present = false;
+  first = record { high = 0; low = 0; configuration = 0 };
+  changes = [];
+}
 
 -- an accepted adding: the settings given count only the first time
 abbrev pub joining : Settings → Account → Account
-joining first a = record { known = true; present = true; first = if a .known then a .first else keptForm first; changes = a .changes }
+joining first a = record {
+  known = true;
+  present = true;
+  first = if a .known then a .first else keptForm first;
+  changes = a .changes;
+}
 
 abbrev pub leaving : Account → Account
 leaving a = record { known = a .known; present = false; first = a .first; changes = a .changes }
 
 abbrev pub changing : ℕ → Alterations → Account → Account
-changing named asked a = record { known = a .known; present = a .present; first = a .first; changes = a .changes ++ (record { named = named; asked = asked } ∷ []) }
+changing named asked a = record {
+  known = a .known;
+  present = a .present;
+  first = a .first;
+  changes = a .changes ++ (record { named = named; asked = asked } ∷ []);
+}
 
 -- ## The book
 
@@ -71,19 +90,28 @@ abbrev pub onAccepted : ℕ → ℕ → (Account → Account) → (ℕ → Accou
 onAccepted refusal code f accounts k = if eqb refusal accepted && eqb k code then f (accounts k) else accounts k
 
 abbrev pub codesJoined : ℕ → ℕ → Book → List ℕ
-codesJoined refusal code b = if eqb refusal accepted && not (b .accounts code .known) then b .codes ++ (code ∷ []) else b .codes
+codesJoined refusal code b = if eqb refusal accepted && not (b .accounts code .known) then b .codes ++ (code ∷ [])
+    else b .codes
 
 abbrev pub entered : Book → StoreCall → Book
 entered b (add code first) =
     let r = settingsAdded (b .store) code first in
-    record { store = r .store; codes = codesJoined (r .refusal) code b; accounts = onAccepted (r .refusal) code (joining first) (b .accounts) }
+    record {
+      store = r .store;
+      codes = codesJoined (r .refusal) code b;
+      accounts = onAccepted (r .refusal) code (joining first) (b .accounts);
+    }
 entered b (remove code) =
     let r = settingsRemoved (b .store) code in
     record { store = r .store; codes = b .codes; accounts = onAccepted (r .refusal) code leaving (b .accounts) }
 entered b (read code) = b
 entered b (change code version asked) =
     let r = settingsChanged (b .store) code version asked in
-    record { store = r .store; codes = b .codes; accounts = onAccepted (r .refusal) code (changing version asked) (b .accounts) }
+    record {
+      store = r .store;
+      codes = b .codes;
+      accounts = onAccepted (r .refusal) code (changing version asked) (b .accounts);
+    }
 
 unfoldable pub book : List StoreCall → Book
 book h = fold entered (record { store = emptyStore; codes = []; accounts = λ code. noAccount }) h
@@ -124,7 +152,8 @@ RunsRight = (h : List StoreCall) → Right (book h)
 -- however many calls came between, and whoever made them
 abbrev pub SameVersion : Type 0
 SameVersion = (h more : List StoreCall) (code : ℕ)
-    → settingsRead (afterCalls h) code .refusal ≡ accepted → settingsRead (afterCalls (h ++ more)) code .refusal ≡ accepted
+    → settingsRead (afterCalls h) code .refusal ≡ accepted
+    → settingsRead (afterCalls (h ++ more)) code .refusal ≡ accepted
     → settingsRead (afterCalls (h ++ more)) code .version ≡ settingsRead (afterCalls h) code .version
     → settingsRead (afterCalls (h ++ more)) code ≡ settingsRead (afterCalls h) code
 
@@ -134,4 +163,8 @@ NothingUndone = (h more : List StoreCall) (code : ℕ) (asked : Alterations)
     → let seen = settingsRead (afterCalls h) code in
     let done = settingsChanged (afterCalls (h ++ more)) code (seen .version) asked in
     done .refusal ≡ accepted
-    → settingsRead (done .store) code ≡ record { refusal = accepted; settings = settingsAltered (seen .settings) asked; version = seen .version + 1 }
+    → settingsRead (done .store) code ≡ record {
+      refusal = accepted;
+      settings = settingsAltered (seen .settings) asked;
+      version = seen .version + 1;
+    }

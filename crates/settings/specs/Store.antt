@@ -1,4 +1,5 @@
--- A store of settings (document 02, E6): up to 32 codes, in the order in which they were first added, each with its settings and their version.
+-- A store of settings (document 02, E6): up to 32 codes, in the order in which they were first added, each with its
+-- settings and their version.
 --     liveEntries s       the entries of the codes that were ever added
 --     emptyStore          where every run of calls starts
 --     keptAt s code       where the code is kept, there or removed

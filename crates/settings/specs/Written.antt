@@ -1,4 +1,5 @@
--- Settings of a store written to a device (document 02, E6): 5, 7 or 12 as a read of the store gives them; else a write at the code, with its own refusals.
+-- Settings of a store written to a device (document 02, E6): 5, 7 or 12 as a read of the store gives them; else a write
+-- at the code, with its own refusals.
 use Prim.Native.Nat.{ℕ}
 use mathlib.Core.Bool.{not}
 use lib.Dec.{eqb}

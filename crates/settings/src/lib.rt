@@ -6,7 +6,9 @@ pub mod writing;
 ghost use mathlib.Core.Path.{_≡_};
 ghost use Prim.Native.Nat.{_<_};
 ghost use Rattle.settings.specs.Store.{blank, emptyStore, keptAt, entryAt, withEntry};
-ghost use Rattle.settings.specs.Calls.{keptForm, missing, locatedAt, located, addedFirst, addedAgain, settingsAdded, settingsRemoved, settingsRead, altered, settingsAltered, changeRefused, changedEntry, settingsChanged};
+ghost use Rattle.settings.specs.Calls.{keptForm, missing, locatedAt, located, addedFirst, addedAgain};
+ghost use Rattle.settings.specs.Calls.{settingsAdded, settingsRemoved, settingsRead, altered, settingsAltered};
+ghost use Rattle.settings.specs.Calls.{changeRefused, changedEntry, settingsChanged};
 use device::Settings;
 
 // A code that was once added, whether it is there, its settings and how many changes they have had.

@@ -1,4 +1,5 @@
--- Limits and the alarm rule: the flag is set if the whole degree of a reading is at or above the high limit, or at or below the low one.
+-- Limits and the alarm rule: the flag is set if the whole degree of a reading is at or above the high limit, or at or
+-- below the low one.
 --     limitOf byte                a limit byte as a signed number of degrees
 --     limitByteOf w               the byte of a limit, where w is a signed byte; otherwise refusal 11, with a zero byte
 --     alarmsAt t high low         whether t is at or past a limit, equality included; low above high is allowed

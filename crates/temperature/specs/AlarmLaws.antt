@@ -1,4 +1,5 @@
--- The alarm rule where the low limit is above the high one: every temperature alarms. A limit to its byte and back, and a byte to its limit and back.
+-- The alarm rule where the low limit is above the high one: every temperature alarms. A limit to its byte and back, and
+-- a byte to its limit and back.
 use Prim.Native.Nat.{ℕ, _<_, _≤_}
 use mathlib.Core.Path.{_≡_, refl, ap}
 use mathlib.Core.Bool.{Bool, true, false}

@@ -1,7 +1,8 @@
 -- A count of sixteenths in degrees, in single precision: exact, as the scope asks, at every count.
 --     degreesOf c          the single-precision number nearest to c / 16
 --     IsSixteenths x z     sixteen times the value of x is z: x is finite, has the sign of z, and is |z| / 16 in size
--- Law `degrees-exact`: over the closed range -880 to 2000 nothing is lost; `sixteenths-exact` says it of every 16-bit count.
+-- Law `degrees-exact`: over the closed range -880 to 2000 nothing is lost; `sixteenths-exact` says it of every 16-bit
+-- count.
 use mathlib.Core.Bool.{not}
 use lib.IntN.{ℤ, natAbs}
 use lib.Signed.{nonNeg}

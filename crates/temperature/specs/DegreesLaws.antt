@@ -50,7 +50,8 @@ same-size s m e n v =
     round-same binary32 s (m * up e * 1) (16 * down e) n 16 (mul-pos (lit< tt) (down-pos e)) (lit< tt)
     (ap (λ (k : ℕ). k * 16) v ∙ mul-assoc n (down e) 16 ∙ ap (λ (k : ℕ). n * k) (mul-comm (down e) 16))
 
-divided : (x : Float) (s : Bool) (n : ℕ) → HasValue x s n 1 → div binary32 x (fin false 1 (pos 4)) ≡ round binary32 s n 16
+divided : (x : Float) (s : Bool) (n : ℕ) → HasValue x s n 1
+    → div binary32 x (fin false 1 (pos 4)) ≡ round binary32 s n 16
 unfolding div
 divided nan s n v = absurd v
 divided (inf t) s n v = absurd v

@@ -1,5 +1,6 @@
--- What a conversion stores is rounded down to the step of its configuration (by the law of rounding, at any step) or the nearest half degree, stays in range, and is read back. Sixteenths keep the whole
--- degree of the count; of half degrees it is that of four sixteenths more.
+-- What a conversion stores is rounded down to the step of its configuration (by the law of rounding, at any step) or
+-- the nearest half degree, stays in range, and is read back. Sixteenths keep the whole degree of the count; of half
+-- degrees it is that of four sixteenths more.
 use Prim.Native.Nat.{ℕ, suc, _*_, _/_, _<_, _≤_}
 use mathlib.Core.Path.{_≡_, refl, sym, ap, _∙_}
 use mathlib.Core.Bool.{Bool, true, false}
@@ -16,7 +17,8 @@ use Rattle.basic_laws.specs.Complement.{Fits16}
 use Rattle.basic_laws.specs.ComplementLaws.{floor-fits}
 use Rattle.basic_laws.specs.DifferencesLaws.{plus-size}
 use Rattle.basic_laws.specs.Rounding.{floorDiv, floorTo}
-use Rattle.basic_laws.specs.RoundingLaws.{sub-below, sub-above, floor-below, floor-near, floor-again, floor-div, div-div, div-size}
+use Rattle.basic_laws.specs.RoundingLaws.{sub-below, sub-above, floor-below, floor-near, floor-again, floor-div}
+use Rattle.basic_laws.specs.RoundingLaws.{div-div, div-size}
 use Rattle.temperature.specs.declared.Reading.{Reading}
 use Rattle.temperature.specs.declared.Reading.the-variants.{InSixteenths, InHalves}
 use Rattle.temperature.specs.declared.Sixteenths.{Sixteenths}
@@ -57,7 +59,8 @@ rounded-near count configuration = floor-near (stepOf configuration) (count .0) 
 -- ## The whole degree of what is stored
 
 -- each step divides a degree
-pub whole-rounded : (count : Sixteenths) (configuration : ℕ) → wholeOf (InSixteenths (roundedOf count configuration)) ≡ wholeOf (InSixteenths count)
+pub whole-rounded : (count : Sixteenths) (configuration : ℕ)
+    → wholeOf (InSixteenths (roundedOf count configuration)) ≡ wholeOf (InSixteenths count)
 whole-rounded count configuration =
     each-step (λ s. wholeOf (InSixteenths (record { 0 = floorTo s (count .0) })) ≡ wholeOf (InSixteenths count))
     (whole 8 2 (lit< tt) refl)
@@ -66,10 +69,12 @@ whole-rounded count configuration =
     (whole 1 16 (lit< tt) refl)
     configuration
   where
-    whole : (s t : ℕ) → 0 < s → s * t ≡ 16 → wholeOf (InSixteenths (record { 0 = floorTo s (count .0) })) ≡ wholeOf (InSixteenths count)
+    whole : (s t : ℕ) → 0 < s → s * t ≡ 16 → wholeOf (InSixteenths (record { 0 = floorTo s (count .0) }))
+        ≡ wholeOf (InSixteenths count)
     whole s t h e = rw (sym e, floor-div (count .0) s t h)
 
-pub whole-nearest : (count : Sixteenths) → wholeOf (InHalves (nearestHalves count)) ≡ wholeOf (InSixteenths (count plus 4 sixteenths))
+pub whole-nearest : (count : Sixteenths) → wholeOf (InHalves (nearestHalves count))
+    ≡ wholeOf (InSixteenths (count plus 4 sixteenths))
 whole-nearest count = ap (λ z. record { 0 = z }) (div-div (count .0 +ℤ pos 4) 8 2)
 
 -- ## The nearest half degree is at most four sixteenths from the count
@@ -78,7 +83,8 @@ pub nearest-below : (count : Sixteenths) → eightfold (nearestHalves count) atM
 unfolding floorTo
 nearest-below count = floor-below 8 (count .0 +ℤ pos 4) (lit< tt)
 
-pub nearest-near : (count : Sixteenths) → count plus 4 sixteenths below eightfold (nearestHalves count) plus 8 sixteenths ≡ true
+pub nearest-near : (count : Sixteenths) → count plus 4 sixteenths below eightfold (nearestHalves count)
+    plus 8 sixteenths ≡ true
 unfolding floorTo
 nearest-near count = floor-near 8 (count .0 +ℤ pos 4) (lit< tt)
 
@@ -131,29 +137,36 @@ measured-fits inHalfDegrees count configuration f =
     let l : mag (count .0 +ℤ pos 4) < 8 * 32768 = omega (arith, f .sfits) in
     record { sfits = div-size (count .0 +ℤ pos 4) 8 32768 (lit< tt) l }
 
-pub unit-measured : (unit : Unit) (count : Sixteenths) (configuration : ℕ) → unitOf (measuredOf unit count configuration) ≡ unit
+pub unit-measured : (unit : Unit) (count : Sixteenths) (configuration : ℕ)
+    → unitOf (measuredOf unit count configuration) ≡ unit
 unit-measured inSixteenths count configuration = refl
 unit-measured inHalfDegrees count configuration = refl
 
 -- the sixteen bits as they are stored
 pub measured-raw : (unit : Unit) (count : Sixteenths) (configuration : ℕ) → Fits16 (count .0)
-    → rawReading unit (registerOf (measuredOf unit count configuration) .low) (registerOf (measuredOf unit count configuration) .high)
+    → rawReading unit (registerOf (measuredOf unit count configuration) .low)
+    (registerOf (measuredOf unit count configuration) .high)
     ≡ measuredOf unit count configuration
 measured-raw unit count configuration f =
     rw (unit-measured unit count configuration) at
     (reading-register (measuredOf unit count configuration) (measured-fits unit count configuration f))
 
 -- what is stored has no undefined bit set
-pub measured-cleared : (unit : Unit) (count : Sixteenths) (configuration : ℕ) → clearedOf (measuredOf unit count configuration) configuration ≡ measuredOf unit count configuration
-measured-cleared inSixteenths count configuration = ap (λ z. InSixteenths (record { 0 = z })) (floor-again (stepOf configuration) (count .0) (step-positive configuration))
+pub measured-cleared : (unit : Unit) (count : Sixteenths) (configuration : ℕ)
+    → clearedOf (measuredOf unit count configuration) configuration ≡ measuredOf unit count configuration
+measured-cleared inSixteenths count configuration =
+    ap (λ z. InSixteenths (record { 0 = z }))
+    (floor-again (stepOf configuration) (count .0) (step-positive configuration))
 measured-cleared inHalfDegrees count configuration = refl
 
 -- decoded at the configuration at which it was stored, it is read back
 pub measured-read : (unit : Unit) (count : Sixteenths) (configuration : ℕ) → Fits16 (count .0)
-    → readingOf unit (registerOf (measuredOf unit count configuration) .low) (registerOf (measuredOf unit count configuration) .high) configuration
+    → readingOf unit (registerOf (measuredOf unit count configuration) .low)
+    (registerOf (measuredOf unit count configuration) .high) configuration
     ≡ measuredOf unit count configuration
 measured-read unit count configuration f =
-    ap (λ r. clearedOf r configuration) (measured-raw unit count configuration f) ∙ measured-cleared unit count configuration
+    ap (λ r. clearedOf r configuration) (measured-raw unit count configuration f)
+    ∙ measured-cleared unit count configuration
 
 -- ## A raw reading in range is in range cleared, at any configuration
 

@@ -1,4 +1,5 @@
--- A range by its two ends; that rounding down keeps a range whose low end is a multiple of the step; and that a range moves with its ends.
+-- A range by its two ends; that rounding down keeps a range whose low end is a multiple of the step; and that a range
+-- moves with its ends.
 use Prim.Native.Nat.{ℕ, _<_, _≤_}
 use mathlib.Core.Path.{_≡_}
 use mathlib.Core.Bool.{true}
@@ -38,7 +39,8 @@ between-div s low high z p e =
     let b = between-bounds low high z e in
     rw (div-mono low z s p (b .0), div-mono z high s p (b .1))
 
-pub between-plus : (low high z : ℤ) (n : ℕ) → between low high z ≡ true → between (low +ℤ pos n) (high +ℤ pos n) (z +ℤ pos n) ≡ true
+pub between-plus : (low high z : ℤ) (n : ℕ) → between low high z ≡ true
+    → between (low +ℤ pos n) (high +ℤ pos n) (z +ℤ pos n) ≡ true
 between-plus low high z n e =
     let b = between-bounds low high z e in
     rw (le-plus low z n (b .0), le-plus z high n (b .1))

@@ -4,7 +4,8 @@
 --     countBytes z               the sixteen bits of a number as two bytes
 --     registerOf r               the two bytes of a reading
 --     rawReading unit low high   the reading that all sixteen bits of two bytes make, in the unit of the family
---     clearedOf r configuration  a reading without the bits that its configuration leaves undefined: sixteenths are rounded down to the step, half degrees stay
+--     clearedOf r configuration  a reading without the bits that its configuration leaves undefined: sixteenths are
+--                                rounded down to the step, half degrees stay
 --     readingOf unit low high configuration
 --                                the reading that two bytes hold: the raw one, cleared
 use Prim.Native.Nat.{ℕ, _+_, _*_, _/_, _%_}

@@ -1,4 +1,5 @@
--- A reading is settled by its unit and count; a reading goes to its two bytes and back, and two bytes to their raw reading and back: `reading-register` and `register-reading`.
+-- A reading is settled by its unit and count; a reading goes to its two bytes and back, and two bytes to their raw
+-- reading and back: `reading-register` and `register-reading`.
 use Prim.Native.Nat.{ℕ, _+_, _*_, _/_, _%_, _<_}
 use mathlib.Core.Path.{_≡_, refl}
 use native.Mathlib.Omega.{arith}
@@ -31,7 +32,8 @@ count-with inHalfDegrees z = refl
 bits-joined : (z : ℤ) → countBytes z .low + 256 * countBytes z .high ≡ bits16 z
 bits-joined z = let n = bits16 z in omega arith
 
-pub reading-register : (r : Reading) → Fits16 (countOf r) → rawReading (unitOf r) (registerOf r .low) (registerOf r .high) ≡ r
+pub reading-register : (r : Reading) → Fits16 (countOf r)
+    → rawReading (unitOf r) (registerOf r .low) (registerOf r .high) ≡ r
 reading-register r f = rw (bits-joined (countOf r), signed-bits (countOf r) f) (reading-values r)
 
 pub register-reading : (unit : Unit) (low high : ℕ) → low < 256 → high < 256

@@ -1,5 +1,5 @@
--- The units of a temperature and one conversion each way between them. Each number carries its unit in its type, so that half
--- degrees cannot stand where sixteenths are asked.
+-- The units of a temperature and one conversion each way between them. Each number carries its unit in its type, so
+-- that half degrees cannot stand where sixteenths are asked.
 --     n sixteenths         a count from 0 on
 --     a plus b             the sum of two counts of sixteenths
 --     a atMost b           whether a ≤ b; a below b, whether a < b

@@ -1,4 +1,5 @@
--- Both coarser units round down: at most the count, and less than one of the unit below it; and nothing is lost from half degrees or whole degrees to sixteenths.
+-- Both coarser units round down: at most the count, and less than one of the unit below it; and nothing is lost from
+-- half degrees or whole degrees to sixteenths.
 use mathlib.Core.Path.{_≡_, refl, ap}
 use mathlib.Core.Bool.{true}
 use native.Mathlib.Omega.{arith}
@@ -13,7 +14,8 @@ use Rattle.temperature.specs.declared.Sixteenths.{Sixteenths}
 use Rattle.temperature.specs.declared.WholeDegrees.{WholeDegrees}
 use Rattle.temperature.specs.Range.{inRange, wholeInRange}
 use Rattle.temperature.specs.RangeLaws.{between-size}
-use Rattle.temperature.specs.Units.{_sixteenths, _plus_, _atMost_, _below_, toHalfDegrees, eightfold, sixteenfold, toSixteenths, wholeToSixteenths, wholeOf}
+use Rattle.temperature.specs.Units.{_sixteenths, _plus_, _atMost_, _below_, toHalfDegrees, eightfold, sixteenfold}
+use Rattle.temperature.specs.Units.{toSixteenths, wholeToSixteenths, wholeOf}
 
 -- ## Both coarser units round down: at most the count, and less than one of the unit below it
 

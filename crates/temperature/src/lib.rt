@@ -8,7 +8,8 @@ ghost use Rattle.temperature.specs.Degrees.{degreesOf, IsSixteenths};
 ghost use Rattle.temperature.specs.Measured.{measuredOf, nearestHalves, roundedOf};
 ghost use Rattle.temperature.specs.Range.{between, inRange, wholeInRange, isLimit};
 ghost use Rattle.temperature.specs.Register.{countOf, countBytes, readingOf, registerOf};
-ghost use Rattle.temperature.specs.Units.{converted, notConverted, toHalfDegrees, toSixteenths, wholeToSixteenths, wholeOf};
+ghost use Rattle.temperature.specs.Units.{converted, notConverted, toHalfDegrees, toSixteenths};
+ghost use Rattle.temperature.specs.Units.{wholeToSixteenths, wholeOf};
 ghost use Rattle.basic_laws.specs.Complement.{signed16, bits16};
 use family::Unit;
 

@@ -1,9 +1,11 @@
--- A number of any size in plain decimal: as many digits as it needs, so that no zero stands in front of another digit; 0 is one digit.
+-- A number of any size in plain decimal: as many digits as it needs, so that no zero stands in front of another digit;
+-- 0 is one digit.
 --     decimal x              the number in plain decimal
 --     signedDecimal z        a number with a sign: how far it is from zero, with a minus in front where it is negative
 --     isNegative cs          whether some characters start with a minus
 --     decimalIn cs           the number that decimal digits stand for
---     plainDecimal cs        whether some characters are a number in plain decimal: digits, the first of several no zero
+--     plainDecimal cs        whether some characters are a number in plain decimal: digits, the first of several no
+--                            zero
 use Prim.Native.Nat.{ℕ, zero, suc, _/_}
 use mathlib.Core.Bool.{Bool, not, _&&_, _||_}
 use mathlib.Core.List.{List, _++_}

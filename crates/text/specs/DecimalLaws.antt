@@ -8,7 +8,8 @@ use mathlib.Core.Bool.{Bool, true, false, not, _&&_, _||_, false≢true}
 use mathlib.Core.List.{List, [], _∷_, _++_}
 use native.Mathlib.Omega.{arith}
 use native.Mathlib.Nat.{pow-suc, pow-le-pow-right}
-use borrow.Author.Tests.{lt-ltb, le-ltb, le-leb, lt-leb, ltb-true, ltb-false, eq-eqb, ne-eqb, eqb-true, eqb-false, not-true}
+use borrow.Author.Tests.{lt-ltb, le-ltb, le-leb, lt-leb, ltb-true, ltb-false, eq-eqb, ne-eqb, eqb-true, eqb-false}
+use borrow.Author.Tests.{not-true}
 use lib.Dec.{eqb, leb, ltb, lit<}
 use lib.IntN.{ℤ, pos, natAbs}
 use lib.ListN.{length, take, drop, getD, length-drop}
@@ -19,8 +20,10 @@ use Rattle.basic_laws.specs.ChoiceLaws.{and-left, and-right}
 use Rattle.basic_laws.specs.Fold.{fold, all}
 use Rattle.text.specs.Ascii.{ascii}
 use Rattle.text.specs.Digits.{digits, digitOf, valueOf, isDigit, spells, numberIn, thenDigit}
-use Rattle.text.specs.DigitsLaws.{digits-length, digits-are, number-digits, digits-number, number-below, digit-value}
-use Rattle.text.specs.Decimal.{lengthWithin, decimalLength, decimal, signedDecimal, isNegative, decimalIn, plainDecimal}
+use Rattle.text.specs.DigitsLaws.{digits-length, digits-are, number-digits, digits-number, number-below}
+use Rattle.text.specs.DigitsLaws.{digit-value}
+use Rattle.text.specs.Decimal.{lengthWithin, decimalLength, decimal, signedDecimal, isNegative, decimalIn}
+use Rattle.text.specs.Decimal.{plainDecimal}
 
 -- ## How many digits
 
@@ -56,7 +59,8 @@ unfolding lengthWithin
 within-below zero x h = omega arith
 within-below (suc n) x h = by-test (ltb x 10) refl (within-below n (x / 10))
   where
-    by-test : (t : Bool) → ltb x 10 ≡ t → (x / 10 ≤ n → x / 10 < 10 ^ lengthWithin n (x / 10)) → x < 10 ^ (if t then 1 else suc (lengthWithin n (x / 10)))
+    by-test : (t : Bool) → ltb x 10 ≡ t → (x / 10 ≤ n → x / 10 < 10 ^ lengthWithin n (x / 10))
+        → x < 10 ^ (if t then 1 else suc (lengthWithin n (x / 10)))
     by-test true e tenth = ltb-true x 10 e
     by-test false e tenth =
         let b = ltb-false x 10 e in
@@ -69,7 +73,8 @@ unfolding lengthWithin
 within-most zero x k h = omega arith
 within-most (suc n) x k h = by-test (ltb x 10) refl k h (within-most n (x / 10))
   where
-    by-test : (t : Bool) → ltb x 10 ≡ t → (k : ℕ) → x < 10 ^ suc k → ((k : ℕ) → x / 10 < 10 ^ suc k → lengthWithin n (x / 10) ≤ suc k)
+    by-test : (t : Bool) → ltb x 10 ≡ t → (k : ℕ) → x < 10 ^ suc k
+        → ((k : ℕ) → x / 10 < 10 ^ suc k → lengthWithin n (x / 10) ≤ suc k)
         → (if t then 1 else suc (lengthWithin n (x / 10))) ≤ suc k
     by-test true e k h tenth = omega arith
     by-test false e zero h tenth = let b = ltb-false x 10 e in absurd (omega arith)
@@ -145,7 +150,8 @@ unfolding numberIn fold all
 first-counts c [] e h = within-some (decimalIn (c ∷ [])) (decimalIn (c ∷ []))
 first-counts c (d ∷ cs) e h =
     let no-zero : not (eqb c 0x30) ≡ true = rw (ne-eqb (suc (suc (length cs))) 1 (λ z. omega arith)) at h in
-    let v = first-value c (and-left (isDigit 10 c) (spells 10 (d ∷ cs)) e) (eqb-false c 0x30 (not-true (eqb c 0x30) no-zero)) in
+    let v = first-value c (and-left (isDigit 10 c) (spells 10 (d ∷ cs)) e)
+    (eqb-false c 0x30 (not-true (eqb c 0x30) no-zero)) in
     let one : 10 ^ 0 ≤ thenDigit 10 0 c = omega arith in
     let z : 0 + length (d ∷ cs) ≡ length (d ∷ cs) = omega arith in
     let all-digits = rw z at (fold-least (d ∷ cs) (thenDigit 10 0 c) 0 one) in
@@ -155,9 +161,11 @@ pub decimal-written : (cs : List ℕ) → plainDecimal cs ≡ true → decimal (
 unfolding decimal
 decimal-written [] h = absurd (false≢true h)
 decimal-written (c ∷ cs) h =
-    let shaped = and-left (leb 1 (length (c ∷ cs)) && spells 10 (c ∷ cs)) (eqb (length (c ∷ cs)) 1 || not (eqb c 0x30)) h in
+    let shaped = and-left (leb 1 (length (c ∷ cs)) && spells 10 (c ∷ cs)) (eqb (length (c ∷ cs)) 1
+    || not (eqb c 0x30)) h in
     let spelt = and-right (leb 1 (length (c ∷ cs))) (spells 10 (c ∷ cs)) shaped in
-    let first = and-right (leb 1 (length (c ∷ cs)) && spells 10 (c ∷ cs)) (eqb (length (c ∷ cs)) 1 || not (eqb c 0x30)) h in
+    let first = and-right (leb 1 (length (c ∷ cs)) && spells 10 (c ∷ cs)) (eqb (length (c ∷ cs)) 1
+    || not (eqb c 0x30)) h in
     let least = first-counts c cs spelt first in
     let most = decimal-most (decimalIn (c ∷ cs)) (length cs) (number-below 10 (c ∷ cs) spelt) in
     let same : decimalLength (decimalIn (c ∷ cs)) ≡ length (c ∷ cs) = omega arith in
@@ -200,7 +208,8 @@ zero-first cs h = number-below 10 cs (and-right (isDigit 10 0x30) (spells 10 cs)
 counted-plain : (cs : List ℕ) → spells 10 cs ≡ true → length cs ≡ decimalLength (decimalIn cs) → plainDecimal cs ≡ true
 counted-plain [] s l = absurd (let some = within-some (decimalIn []) (decimalIn []) in omega arith)
 counted-plain (c ∷ []) s l = sym (plain-single (c ∷ []) (omega arith) s refl)
-counted-plain (c ∷ d ∷ cs) s l = sym (plain-several (c ∷ d ∷ cs) (omega arith) s (λ one. omega arith)) ∙ by-test (eqb c 0x30) refl
+counted-plain (c ∷ d ∷ cs) s l = sym (plain-several (c ∷ d ∷ cs) (omega arith) s (λ one. omega arith))
+    ∙ by-test (eqb c 0x30) refl
   where
     by-test : (t : Bool) → eqb c 0x30 ≡ t → not t ≡ true
     by-test true e =
@@ -214,7 +223,8 @@ pub decimal-plain : (x : ℕ) → plainDecimal (decimal x) ≡ true
 unfolding decimal
 decimal-plain x =
     let same = ap decimalLength (sym (decimal-read x)) in
-    counted-plain (decimal x) (digits-are 10 (lit< tt) (omega arith) (decimalLength x) x) (digits-length 10 (decimalLength x) x ∙ same)
+    counted-plain (decimal x) (digits-are 10 (lit< tt) (omega arith) (decimalLength x) x)
+    (digits-length 10 (decimalLength x) x ∙ same)
 
 -- ## Behind a minus
 

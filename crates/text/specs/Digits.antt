@@ -1,5 +1,5 @@
--- Numbers and bytes as digits, most significant first, in any base from 2 to 16; hexadecimal and decimal are the two in use. The digits from ten
--- on are A to F, and lower case is no digit.
+-- Numbers and bytes as digits, most significant first, in any base from 2 to 16; hexadecimal and decimal are the two in
+-- use. The digits from ten on are A to F, and lower case is no digit.
 --     digitOf v              the character of a value below 16
 --     valueOf c              the value of a character; 16 for one that is no digit
 --     isDigit base c         whether a character is a digit below a base

@@ -1,5 +1,5 @@
--- Digits to numbers and bytes and back: both round trips of a number of n digits, over any base from 2 to 16, and of bytes; one digit or byte more, as
--- a loop reads or lays them.
+-- Digits to numbers and bytes and back: both round trips of a number of n digits, over any base from 2 to 16, and of
+-- bytes; one digit or byte more, as a loop reads or lays them.
 --     number-digits, digits-number      the two round trips of a number
 --     bytes-hex, hex-bytes              the two round trips of bytes
 use Prim.Native.Nat.{ℕ, zero, suc, _+_, _-_, _*_, _/_, _%_, _^_, _<_, _≤_}
@@ -7,7 +7,8 @@ use mathlib.Core.Path.{_≡_, refl, sym, ap, _∙_}
 use mathlib.Core.Bool.{Bool, true, false, _&&_, false≢true}
 use mathlib.Core.List.{List, [], _∷_, _++_, append-assoc, append-nil}
 use native.Mathlib.Omega.{arith}
-use native.Mathlib.Nat.{pow-suc, pow-succ', pow-zero, mod-lt, mod-eq-of-lt, div-add-mod, div-eq-of-lt, mul-add-div, mul-add-mod-self-left, div-lt-iff-lt-mul, mul-le-mul-left, mul-suc}
+use native.Mathlib.Nat.{pow-suc, pow-succ', pow-zero, mod-lt, mod-eq-of-lt, div-add-mod, div-eq-of-lt, mul-add-div}
+use native.Mathlib.Nat.{mul-add-mod-self-left, div-lt-iff-lt-mul, mul-le-mul-left, mul-suc}
 use native.Mathlib.Numerals.{add-one}
 use borrow.Author.Tests.{lt-ltb, le-ltb, le-leb, lt-leb, leb-true, ltb-true, ltb-false}
 use lib.Dec.{ltb, leb, lit<}
@@ -17,7 +18,8 @@ use Rattle.basic_laws.specs.Fold.{fold, all}
 use Rattle.basic_laws.specs.FoldLaws.{fold-append, fold-step, all-append, all-at}
 use Rattle.basic_laws.specs.Bytes.{Bytes}
 use Rattle.basic_laws.specs.ChoiceLaws.{and-left, and-right}
-use Rattle.text.specs.Digits.{digitOf, valueOf, isDigit, spells, digits, hexDigits, thenDigit, numberIn, hexOf, bytesOf, codeDigits}
+use Rattle.text.specs.Digits.{digitOf, valueOf, isDigit, spells, digits, hexDigits, thenDigit, numberIn, hexOf}
+use Rattle.text.specs.Digits.{bytesOf, codeDigits}
 
 -- ## One digit
 
@@ -93,7 +95,8 @@ digit-more base x d n below digit =
     omega arith
 
 -- one digit more, as a loop reads them
-pub number-next : (base : ℕ) (cs : List ℕ) (i : ℕ) → i < length cs → base * numberIn base (take i cs) + valueOf (getD cs i 0) ≡ numberIn base (take (i + 1) cs)
+pub number-next : (base : ℕ) (cs : List ℕ) (i : ℕ) → i < length cs
+    → base * numberIn base (take i cs) + valueOf (getD cs i 0) ≡ numberIn base (take (i + 1) cs)
 unfolding numberIn
 number-next base cs i h = fold-step (thenDigit base) 0 i cs 0 h
 
@@ -107,7 +110,8 @@ number-below base cs e = rw (take-length) at (upto (length cs) (omega arith))
     upto (suc i) h =
         let k : i < length cs = omega arith in
         rw (← add-one i, ← number-next base cs i k)
-        (digit-more base (numberIn base (take i cs)) (valueOf (getD cs i 0)) i (upto i (omega arith)) (ltb-true (valueOf (getD cs i 0)) base (all-at (isDigit base) cs 0 i k e)))
+        (digit-more base (numberIn base (take i cs)) (valueOf (getD cs i 0)) i (upto i (omega arith))
+        (ltb-true (valueOf (getD cs i 0)) base (all-at (isDigit base) cs 0 i k e)))
 
 module _ (base : ℕ) (some : 0 < base) (few : base ≤ 16) where
   digit-is : (x : ℕ) → isDigit base (digitOf (x % base)) ≡ true
@@ -120,7 +124,11 @@ module _ (base : ℕ) (some : 0 < base) (few : base ≤ 16) where
   unfolding digits all
   digits-are zero x = refl
   digits-are (suc n) x =
-      rw (all-append (isDigit base) (digits base n (x / base)) (digitOf (x % base) ∷ []), digits-are n (x / base), digit-is x)
+      rw (
+        all-append (isDigit base) (digits base n (x / base)) (digitOf (x % base) ∷ []),
+        digits-are n (x / base),
+        digit-is x,
+      )
 
   pub number-digits : (n x : ℕ) → x < base ^ n → numberIn base (digits base n x) ≡ x
   unfolding digits numberIn fold
@@ -130,19 +138,32 @@ module _ (base : ℕ) (some : 0 < base) (few : base ≤ 16) where
       let k : x / base < base ^ n = div-lt-iff-lt-mul some .1 p in
       let r = mod-lt x some in
       let s : x % base < 16 = omega arith in
-      rw (fold-append (thenDigit base) 0 (digits base n (x / base)) (digitOf (x % base) ∷ []), number-digits n (x / base) k, value-digit (x % base) s) (div-add-mod x base)
+      rw (
+        fold-append (thenDigit base) 0 (digits base n (x / base)) (digitOf (x % base) ∷ []),
+        number-digits n (x / base) k,
+        value-digit (x % base) s,
+      ) (div-add-mod x base)
 
   -- the digits of the number of digits
-  digits-more : (n x : ℕ) (cs : List ℕ) → spells base cs ≡ true → digits base (n + length cs) (fold (thenDigit base) x cs) ≡ digits base n x ++ cs
+  digits-more : (n x : ℕ) (cs : List ℕ) → spells base cs ≡ true
+      → digits base (n + length cs) (fold (thenDigit base) x cs) ≡ digits base n x ++ cs
   unfolding digits fold all
   digits-more n x [] h = let z : n + 0 ≡ n = omega arith in rw (z, append-nil (digits base n x))
   digits-more n x (c ∷ cs) h =
       let d = and-left (isDigit base c) (spells base cs) h in
       let v : valueOf c < base = ltb-true (valueOf c) base d in
       let m : n + suc (length cs) ≡ suc n + length cs = omega arith in
-      let q : thenDigit base x c / base ≡ x = mul-add-div some x (valueOf c) ∙ ap (λ (k : ℕ). x + k) (div-eq-of-lt v) ∙ omega arith in
+      let q : thenDigit base x c / base ≡ x = mul-add-div some x (valueOf c) ∙ ap (λ (k : ℕ). x + k) (div-eq-of-lt v)
+      ∙ omega arith in
       let r : thenDigit base x c % base ≡ valueOf c = mul-add-mod-self-left base x (valueOf c) ∙ mod-eq-of-lt v in
-      rw (m, digits-more (suc n) (thenDigit base x c) cs (and-right (isDigit base c) (spells base cs) h), q, r, digit-value base c few d, append-assoc (digits base n x) (c ∷ []) cs)
+      rw (
+        m,
+        digits-more (suc n) (thenDigit base x c) cs (and-right (isDigit base c) (spells base cs) h),
+        q,
+        r,
+        digit-value base c few d,
+        append-assoc (digits base n x) (c ∷ []) cs,
+      )
 
   pub digits-number : (cs : List ℕ) → spells base cs ≡ true → digits base (length cs) (numberIn base cs) ≡ cs
   unfolding numberIn digits
@@ -156,7 +177,8 @@ pub code-read : (x : ℕ) → x < 2 ^ 64 → numberIn 16 (codeDigits x) ≡ x
 code-read x h = number-digits 16 (lit< tt) (omega arith) 16 x h
 
 pub code-written : (cs : List ℕ) → length cs ≡ 16 → spells 16 cs ≡ true → codeDigits (numberIn 16 cs) ≡ cs
-code-written cs e h = ap (λ (n : ℕ). hexDigits n (numberIn 16 cs)) (sym e) ∙ digits-number 16 (lit< tt) (omega arith) cs h
+code-written cs e h = ap (λ (n : ℕ). hexDigits n (numberIn 16 cs)) (sym e)
+    ∙ digits-number 16 (lit< tt) (omega arith) cs h
 
 -- ## Bytes
 
@@ -174,7 +196,11 @@ hex-append (x ∷ a) b = let i = hex-append a b in rw (i, append-assoc)
 pub hex-are : (bs : List ℕ) → spells 16 (hexOf bs) ≡ true
 unfolding hexOf all
 hex-are [] = refl
-hex-are (b ∷ bs) = rw (all-append (isDigit 16) (hexDigits 2 b) (hexOf bs), digits-are 16 (lit< tt) (omega arith) 2 b, hex-are bs)
+hex-are (b ∷ bs) = rw (
+  all-append (isDigit 16) (hexDigits 2 b) (hexOf bs),
+  digits-are 16 (lit< tt) (omega arith) 2 b,
+  hex-are bs,
+)
 
 pub pairs-length : (n : ℕ) (cs : List ℕ) → length cs ≡ 2 * n → length (bytesOf cs) ≡ n
 unfolding bytesOf
@@ -207,10 +233,12 @@ bytes-bytes [] h k = lit< tt
 bytes-bytes (a ∷ []) h k = lit< tt
 bytes-bytes (a ∷ b ∷ cs) h zero =
     let x = ltb-true (valueOf a) 16 (and-left (isDigit 16 a) (isDigit 16 b && spells 16 cs) h) in
-    let y = ltb-true (valueOf b) 16 (and-left (isDigit 16 b) (spells 16 cs) (and-right (isDigit 16 a) (isDigit 16 b && spells 16 cs) h)) in
+    let y = ltb-true (valueOf b) 16 (and-left (isDigit 16 b) (spells 16 cs)
+    (and-right (isDigit 16 a) (isDigit 16 b && spells 16 cs) h)) in
     omega arith
 bytes-bytes (a ∷ b ∷ cs) h (suc k) =
-    bytes-bytes cs (and-right (isDigit 16 b) (spells 16 cs) (and-right (isDigit 16 a) (isDigit 16 b && spells 16 cs) h)) k
+    bytes-bytes cs (and-right (isDigit 16 b) (spells 16 cs)
+    (and-right (isDigit 16 a) (isDigit 16 b && spells 16 cs) h)) k
 
 pub bytes-hex : (bs : List ℕ) → Bytes bs → bytesOf (hexOf bs) ≡ bs
 unfolding bytesOf hexOf digits
@@ -238,6 +266,12 @@ hex-bytes (suc n) (a ∷ b ∷ cs) e h =
     rw (p, q, digit-value 16 a (omega arith) da, digit-value 16 b (omega arith) db, i)
 
 -- one byte more behind those whose digits are written
-pub hex-more : (bs : List ℕ) (i : ℕ) → i < length bs → hexOf (take (i + 1) bs) ≡ hexOf (take i bs) ++ hexDigits 2 (getD bs i 0)
+pub hex-more : (bs : List ℕ) (i : ℕ) → i < length bs
+    → hexOf (take (i + 1) bs) ≡ hexOf (take i bs) ++ hexDigits 2 (getD bs i 0)
 unfolding hexOf
-hex-more bs i h = rw (add-one i, take-suc bs i 0 h, hex-append (take i bs) (getD bs i 0 ∷ []), append-nil (hexDigits 2 (getD bs i 0)))
+hex-more bs i h = rw (
+  add-one i,
+  take-suc bs i 0 h,
+  hex-append (take i bs) (getD bs i 0 ∷ []),
+  append-nil (hexDigits 2 (getD bs i 0)),
+)

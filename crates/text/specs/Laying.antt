@@ -2,7 +2,8 @@
 --     hasRoom out at n                   whether n characters from a place on end within the buffer
 --     layAnswer out at text              the place behind the text, or the refusal
 --     layLeaves out at text              the buffer with the text, or as it was
---     decodeAnswer, decodeLeaves out cs  the same for the bytes that digits stand for, laid at the front; any other character is refused with 2
+--     decodeAnswer, decodeLeaves out cs  the same for the bytes that digits stand for, laid at the front; any other
+--                                        character is refused with 2
 use Prim.Native.Nat.{ℕ, _+_}
 use mathlib.Core.Bool.{Bool}
 use mathlib.Core.List.{List}
@@ -19,7 +20,8 @@ hasRoom out at n = leb (at + n) (length out)
 
 abbrev pub layAnswer : List ℕ → ℕ → List ℕ → Written
 layAnswer out at text =
-    if hasRoom out at (length text) then record { refusal = accepted; next = at + length text } else record { refusal = noRoom; next = 0 }
+    if hasRoom out at (length text) then record { refusal = accepted; next = at + length text }
+    else record { refusal = noRoom; next = 0 }
 
 abbrev pub layLeaves : List ℕ → ℕ → List ℕ → List ℕ
 layLeaves out at text = if hasRoom out at (length text) then laid out at text else out

@@ -1,11 +1,12 @@
--- How text is cut into lines: a line feed ends a line, and what stands after the last feed is a line without one. Any byte but the feed is a
--- character of its line.
+-- How text is cut into lines: a line feed ends a line, and what stands after the last feed is a line without one. Any
+-- byte but the feed is a character of its line.
 --     Line                   the characters before the feed or the end, and whether there was a feed
 --     linesOf s              the lines of some bytes, in order; none of no bytes
 --     lineBytes l            a line as it stands in the text, with its feed if it has one
 --     linesBytes ls          lines put back one after the other
 --     width l                how many bytes a line takes: its characters, and its feed if it has one
---     sameLine l m           whether two lines are the same: their characters, and that both or neither of them has a feed
+--     sameLine l m           whether two lines are the same: their characters, and that both or neither of them has a
+--                            feed
 --     carriageReturn         the character that some editors put in front of the feed
 --     space                  the character between two words
 --     feedAt s               how many bytes stand before the first feed; all where there is none

@@ -1,5 +1,5 @@
--- How the lines of some bytes are cut: where the first feed stands, as a loop finds it; the first line and the others; one line after the other, by
--- places; and that the lines put back are the bytes.
+-- How the lines of some bytes are cut: where the first feed stands, as a loop finds it; the first line and the others;
+-- one line after the other, by places; and that the lines put back are the bytes.
 --     lines-bytes                            the lines of some bytes put back are the bytes
 --     lines-cut                              a line with its feed in front of some bytes is cut off as it was
 --     plain-lines                            a line without a feed is all of its text
@@ -7,7 +7,8 @@
 --     lines-fed, lines-open                  the same by where the first line ends
 --     same-line-equal, same-line-itself      the test whether two lines are the same is equality
 --     line-by-end, behind-fed, behind-open   the line that starts at a place, and the place behind it, by where it ends
---     lines-behind, bytes-parted             the lines behind the first n, put back: their lines, and the bytes in front of them
+--     lines-behind, bytes-parted             the lines behind the first n, put back: their lines, and the bytes in
+--                                            front of them
 --     lines-from, lines-place, lines-within  where they begin
 --     digits-no-feed                         none of some digits is a feed
 use Prim.Native.Nat.{ℕ, zero, suc, _+_, _-_, _<_, _≤_}
@@ -27,10 +28,12 @@ use Rattle.basic_laws.specs.FirstLaws.{at-within}
 use Rattle.basic_laws.specs.Same.{same}
 use Rattle.basic_laws.specs.SameLaws.{same-equal, same-itself}
 use Rattle.text.specs.Digits.{isDigit, spells}
-use Rattle.text.specs.Lines.{lineFeed, Line, longer, linesOf, sameLine, feedAt, notFeed, width, firstLine, lineBytes, linesBytes}
+use Rattle.text.specs.Lines.{lineFeed, Line, longer, linesOf, sameLine, feedAt, notFeed, width, firstLine}
+use Rattle.text.specs.Lines.{lineBytes, linesBytes}
 
 -- the first line, and those of what follows its feed
-pub lines-first : (c : ℕ) (s : List ℕ) → linesOf (c ∷ s) ≡ firstLine (c ∷ s) ∷ linesOf (drop (feedAt (c ∷ s) + 1) (c ∷ s))
+pub lines-first : (c : ℕ) (s : List ℕ) → linesOf (c ∷ s)
+    ≡ firstLine (c ∷ s) ∷ linesOf (drop (feedAt (c ∷ s) + 1) (c ∷ s))
 unfolding linesOf firstAt
 lines-first c [] = by-test (eqb c lineFeed)
   where
@@ -79,9 +82,11 @@ pub lines-cut : (cs s : List ℕ) → all notFeed cs ≡ true
     → linesOf (cs ++ (lineFeed ∷ []) ++ s) ≡ record { chars = cs; fed = true } ∷ linesOf s
 unfolding linesOf all
 lines-cut [] s h = refl
-lines-cut (c ∷ cs) s h = let e = not-true (eqb c lineFeed) (and-left (notFeed c) (all notFeed cs) h) in rw (e, lines-cut cs s (and-right (notFeed c) (all notFeed cs) h))
+lines-cut (c ∷ cs) s h = let e = not-true (eqb c lineFeed) (and-left (notFeed c) (all notFeed cs) h) in
+    rw (e, lines-cut cs s (and-right (notFeed c) (all notFeed cs) h))
 
-pub plain-lines : (c : ℕ) (u : List ℕ) → all notFeed (c ∷ u) ≡ true → linesOf (c ∷ u) ≡ record { chars = c ∷ u; fed = false } ∷ []
+pub plain-lines : (c : ℕ) (u : List ℕ) → all notFeed (c ∷ u) ≡ true
+    → linesOf (c ∷ u) ≡ record { chars = c ∷ u; fed = false } ∷ []
 unfolding linesOf all
 plain-lines c [] h = rw (not-true (eqb c lineFeed) (and-left (notFeed c) true h)) refl
 plain-lines c (d ∷ u) h =
@@ -110,7 +115,8 @@ module _ (s : List ℕ) (at : ℕ) where
   unfolding linesOf
   lines-done h = rw (drop-of-length-le s h)
 
-  pub lines-next : at < length s → linesOf (drop at s) ≡ firstLine (drop at s) ∷ linesOf (drop (at + width (firstLine (drop at s))) s)
+  pub lines-next : at < length s → linesOf (drop at s)
+      ≡ firstLine (drop at s) ∷ linesOf (drop (at + width (firstLine (drop at s))) s)
   lines-next h =
       let k : 0 < length (drop at s) = rw (length-drop at s) (omega arith) in
       lines-split (drop at s) k
@@ -122,16 +128,19 @@ module _ (s : List ℕ) (at e : ℕ) (before : at < length s) (ends : at + feedA
   first-length = omega arith
 
   pub first-size : length (take (e - at) (drop at s)) ≡ e - at
-  first-size = let w = at-within lineFeed (drop at s) in let l = first-length in length-take-le (e - at) (drop at s) (omega arith)
+  first-size = let w = at-within lineFeed (drop at s) in let l = first-length in
+      length-take-le (e - at) (drop at s) (omega arith)
 
-  pub lines-fed : e < length s → linesOf (drop at s) ≡ record { chars = take (e - at) (drop at s); fed = true } ∷ linesOf (drop (e + 1) s)
+  pub lines-fed : e < length s → linesOf (drop at s)
+      ≡ record { chars = take (e - at) (drop at s); fed = true } ∷ linesOf (drop (e + 1) s)
   lines-fed h =
       let t = drop at s in
       let d = length-drop at s in
       let k : e - at < length t = omega arith in
       let z = first-size in
       let n : at + (length (take (e - at) t) + 1) ≡ e + 1 = omega arith in
-      let f : firstLine t ≡ record { chars = take (e - at) t; fed = true } = rw (first-length, lt-ltb (e - at) (length t) k) in
+      let f : firstLine t ≡ record { chars = take (e - at) t; fed = true } =
+      rw (first-length, lt-ltb (e - at) (length t) k) in
       lines-next s at before ∙ ap (λ (l : Line). l ∷ linesOf (drop (at + width l) s)) f
       ∙ ap (λ (k : ℕ). record { chars = take (e - at) t; fed = true } ∷ linesOf (drop k s)) n
 
@@ -142,7 +151,8 @@ module _ (s : List ℕ) (at e : ℕ) (before : at < length s) (ends : at + feedA
       let d = length-drop at s in
       let w = at-within lineFeed t in
       let k : length t ≤ e - at = omega arith in
-      let f : firstLine t ≡ record { chars = t; fed = false } = rw (first-length, le-ltb (e - at) (length t) k, take-all (e - at) t k) in
+      let f : firstLine t ≡ record { chars = t; fed = false } =
+      rw (first-length, le-ltb (e - at) (length t) k, take-all (e - at) t k) in
       let n : length s ≤ at + length t = omega arith in
       lines-next s at before ∙ ap (λ (l : Line). l ∷ linesOf (drop (at + width l) s)) f
       ∙ ap (λ (m : List ℕ). record { chars = t; fed = false } ∷ linesOf m) (drop-of-length-le s n)
@@ -155,7 +165,8 @@ same-line-equal l m e = by-feeds (l .fed) (m .fed) refl refl e
     both : l .fed ≡ m .fed → same (l .chars) (m .chars) ≡ true → l ≡ m
     both f s =
         let c = same-equal (l .chars) (m .chars) s in
-        ap (λ (cs : List ℕ). record { chars = cs; fed = l .fed }) c ∙ ap (λ (t : Bool). record { chars = m .chars; fed = t }) f
+        ap (λ (cs : List ℕ). record { chars = cs; fed = l .fed }) c
+        ∙ ap (λ (t : Bool). record { chars = m .chars; fed = t }) f
 
     by-feeds : (t u : Bool) → l .fed ≡ t → m .fed ≡ u → (Bool·beq t u && same (l .chars) (m .chars)) ≡ true → l ≡ m
     by-feeds true true p q s = both (p ∙ sym q) s
@@ -187,7 +198,8 @@ first-width t h = by-test (ltb (feedAt t) (length t)) refl
         let l = length-take-le (feedAt t) t w in (omega arith, omega arith)
 
 -- so the line that starts at a place before the end goes on behind it, and ends within the text
-pub line-ends : (s : List ℕ) (at : ℕ) → at < length s → let next = at + width (firstLine (drop at s)) in (at < next) × (next ≤ length s)
+pub line-ends : (s : List ℕ) (at : ℕ) → at < length s → let next = at + width (firstLine (drop at s)) in
+    (at < next) × (next ≤ length s)
 line-ends s at h =
     let l = length-drop at s in
     let w = first-width (drop at s) (omega arith) in
@@ -206,8 +218,10 @@ line-by-end s at e h ends =
     (most, rw n (ap (λ (u : Bool). record { chars = take (e - at) t; fed = u }) (by-test (ltb e (length s)) refl)))
   where
     by-test : (u : Bool) → ltb e (length s) ≡ u → ltb (e - at) (length (drop at s)) ≡ u
-    by-test true k = let d = length-drop at s in let l = ltb-true e (length s) k in lt-ltb (e - at) (length (drop at s)) (omega arith)
-    by-test false k = let d = length-drop at s in let l = ltb-false e (length s) k in le-ltb (e - at) (length (drop at s)) (omega arith)
+    by-test true k = let d = length-drop at s in let l = ltb-true e (length s) k in
+        lt-ltb (e - at) (length (drop at s)) (omega arith)
+    by-test false k = let d = length-drop at s in let l = ltb-false e (length s) k in
+        le-ltb (e - at) (length (drop at s)) (omega arith)
 
 -- and the place behind it, where it has a feed and where it has none
 module _ (s : List ℕ) (at e : ℕ) (ends : e ≡ at + feedAt (drop at s)) where
@@ -246,20 +260,24 @@ module _ (s : List ℕ) (at e : ℕ) (ends : e ≡ at + feedAt (drop at s)) wher
 
 -- ## Lines counted one by one
 
-module _ (s : List ℕ) (at next count : ℕ) (before : at < length s) (behind : next ≡ at + width (firstLine (drop at s))) where
-  pub count-on : count + length (linesOf (drop at s)) ≡ length (linesOf s) → count + 1 + length (linesOf (drop next s)) ≡ length (linesOf s)
+module _ (s : List ℕ) (at next count : ℕ) (before : at < length s) (behind : next
+    ≡ at + width (firstLine (drop at s))) where
+  pub count-on : count + length (linesOf (drop at s)) ≡ length (linesOf s)
+      → count + 1 + length (linesOf (drop next s)) ≡ length (linesOf s)
   count-on e =
       let one : length (linesOf (drop at s)) ≡ suc (length (linesOf (drop next s))) =
       ap length (lines-next s at before) ∙ ap (λ (n : ℕ). suc (length (linesOf (drop n s)))) (sym behind) in
       omega arith
 
-pub count-end : (s : List ℕ) (at count : ℕ) → length s ≤ at → count + length (linesOf (drop at s)) ≡ length (linesOf s) → count ≡ length (linesOf s)
+pub count-end : (s : List ℕ) (at count : ℕ) → length s ≤ at → count + length (linesOf (drop at s)) ≡ length (linesOf s)
+    → count ≡ length (linesOf s)
 count-end s at count h e = let none = ap length (lines-done s at h) in omega arith
 
 pub line-bytes-append : (ls ms : List Line) → linesBytes (ls ++ ms) ≡ linesBytes ls ++ linesBytes ms
 unfolding linesBytes
 line-bytes-append [] ms = refl
-line-bytes-append (l ∷ ls) ms = rw (line-bytes-append ls ms) (sym (append-assoc (lineBytes l) (linesBytes ls) (linesBytes ms)))
+line-bytes-append (l ∷ ls) ms = rw (line-bytes-append ls ms)
+    (sym (append-assoc (lineBytes l) (linesBytes ls) (linesBytes ms)))
 
 behind-none : (n : ℕ) → linesOf (linesBytes (drop n (linesOf []))) ≡ drop n (linesOf [])
 unfolding linesOf linesBytes
@@ -276,23 +294,27 @@ lines-behind (c ∷ s) (suc n) = rw (lines-first c s) (lines-behind (drop (feedA
 module _ (s : List ℕ) (n : ℕ) where
   pub bytes-parted : s ≡ linesBytes (take n (linesOf s)) ++ linesBytes (drop n (linesOf s))
   bytes-parted =
-      sym (lines-bytes s) ∙ ap linesBytes (sym (take-append-drop n (linesOf s))) ∙ line-bytes-append (take n (linesOf s)) (drop n (linesOf s))
+      sym (lines-bytes s) ∙ ap linesBytes (sym (take-append-drop n (linesOf s)))
+      ∙ line-bytes-append (take n (linesOf s)) (drop n (linesOf s))
 
   pub lines-from : drop (length (linesBytes (take n (linesOf s)))) s ≡ linesBytes (drop n (linesOf s))
   lines-from =
       let before = linesBytes (take n (linesOf s)) in
       ap (drop (length before)) bytes-parted ∙ drop-at before (linesBytes (drop n (linesOf s))) (length before) refl
 
-  pub lines-place : (at : ℕ) → at ≤ length s → linesOf (drop at s) ≡ drop n (linesOf s) → length (linesBytes (take n (linesOf s))) ≡ at
+  pub lines-place : (at : ℕ) → at ≤ length s → linesOf (drop at s) ≡ drop n (linesOf s)
+      → length (linesBytes (take n (linesOf s))) ≡ at
   lines-place at h e =
       let behind : linesBytes (drop n (linesOf s)) ≡ drop at s = ap linesBytes (sym e) ∙ lines-bytes (drop at s) in
-      let whole = ap length bytes-parted ∙ length-append (linesBytes (take n (linesOf s))) (linesBytes (drop n (linesOf s))) in
+      let whole = ap length bytes-parted ∙ length-append (linesBytes (take n (linesOf s)))
+      (linesBytes (drop n (linesOf s))) in
       let size = ap length behind ∙ length-drop at s in
       omega arith
 
   pub lines-within : length (linesBytes (take n (linesOf s))) ≤ length s
   lines-within =
-      let whole = ap length bytes-parted ∙ length-append (linesBytes (take n (linesOf s))) (linesBytes (drop n (linesOf s))) in
+      let whole = ap length bytes-parted ∙ length-append (linesBytes (take n (linesOf s)))
+      (linesBytes (drop n (linesOf s))) in
       omega arith
 
 -- ## Digits

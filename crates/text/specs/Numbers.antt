@@ -19,7 +19,8 @@ noNumber = record { valid = false; number = 0 }
 
 abbrev pub numberRead : ℕ → ℕ → List ℕ → NumberRead
 numberRead base bound cs =
-    if spells base cs && leb (numberIn base cs) bound then record { valid = true; number = numberIn base cs } else noNumber
+    if spells base cs && leb (numberIn base cs) bound then record { valid = true; number = numberIn base cs }
+    else noNumber
 
 -- the greatest number of 64 bits
 abbrev pub greatest : ℕ

@@ -1,9 +1,12 @@
--- Lines of fields, put into a lent buffer field by field. A line is laid where 64 bytes are left from its place on, more than any line needs; else it is refused with 1.
+-- Lines of fields, put into a lent buffer field by field. A line is laid where 64 bytes are left from its place on,
+-- more than any line needs; else it is refused with 1.
 --     line fields                fields with a space between two of them and a line feed at the end
 --     flag b                     a truth value, 0 or 1
---     fieldLeaves out at x c     the buffer with the field x at a place and the character c behind it; of the two, what does not fit is left out
+--     fieldLeaves out at x c     the buffer with the field x at a place and the character c behind it; of the two, what
+--                                does not fit is left out
 --     fieldNext out at x c       the place behind them; 0 where c did not fit
---     Puts d at x d' r           what every part of a line comes to: where x fits into d from a place on, d' is d with x there, and r is the place behind it
+--     Puts d at x d' r           what every part of a line comes to: where x fits into d from a place on, d' is d with
+--                                x there, and r is the place behind it
 --     lineAnswer out at x        the place behind the line x, or refusal 1
 --     lineLeaves out at x        the buffer with the line, or as it was
 use Prim.Native.Nat.{ℕ, _+_, _≤_}
@@ -44,7 +47,8 @@ abbrev pub lineRoom : ℕ
 lineRoom = 64
 
 abbrev pub lineAnswer : List ℕ → ℕ → List ℕ → Written
-lineAnswer out at x = if hasRoom out at lineRoom then record { refusal = accepted; next = at + length x } else record { refusal = noRoom; next = 0 }
+lineAnswer out at x = if hasRoom out at lineRoom then record { refusal = accepted; next = at + length x }
+    else record { refusal = noRoom; next = 0 }
 
 abbrev pub lineLeaves : List ℕ → ℕ → List ℕ → List ℕ
 lineLeaves out at x = if hasRoom out at lineRoom then laid out at x else out

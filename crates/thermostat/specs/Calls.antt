@@ -1,11 +1,13 @@
--- The two calls by which a host changes the mode, the polarity or one-shot of a DS1821: a read of the status, and a write of the byte read with those bits changed and a
--- 1 for both flags. Each is a reset and, where the probe shows presence, a command and a byte. In thermostat mode it shows none, and both get 4 (house).
+-- The two calls by which a host changes the mode, the polarity or one-shot of a DS1821: a read of the status, and a
+-- write of the byte read with those bits changed and a 1 for both flags. Each is a reset and, where the probe shows
+-- presence, a command and a byte. In thermostat mode it shows none, and both get 4 (house).
 --     alone                 the wire with this probe alone on it
 --     byteSent x p          the probe after the eight bits of the byte x
---     byteShownBy p         the byte that the line shows in eight read slots, first bit lowest; afterReading p, the probe after them
+--     byteShownBy p         the byte that the line shows in eight read slots, first bit lowest; afterReading p, the
+--                           probe after them
 --     statusRead p          the first call
---     changedStatus s a     the byte of the second call, from bit 0: one-shot, polarity and mode as asked, 1 and 1 for the flags, and the upper three bits of the byte s
---                           that was read; changedBits, these bits
+--     changedStatus s a     the byte of the second call, from bit 0: one-shot, polarity and mode as asked, 1 and 1 for
+--                           the flags, and the upper three bits of the byte s that was read; changedBits, these bits
 --     statusChanged p s a   the second call
 use Prim.Native.Nat.{ℕ}
 use mathlib.Core.Bool.{Bool, true}
@@ -55,5 +57,8 @@ changedStatus s a = numberOf (changedBits s a)
 unfoldable pub statusChanged : Thermostat → ℕ → Asked → Changed
 statusChanged p s a =
     let r = probeReset p in
-    if r .presence then record { refusal = accepted; probe = byteSent (changedStatus s a) (byteSent writeStatus (r .probe)) }
+    if r .presence then record {
+      refusal = accepted;
+      probe = byteSent (changedStatus s a) (byteSent writeStatus (r .probe));
+    }
     else record { refusal = noPresence; probe = r .probe }

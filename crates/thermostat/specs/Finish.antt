@@ -1,9 +1,13 @@
 -- The end of a conversion: the sensor gives whole degrees, and the probe compares them with its limits.
---     above t b             whether t degrees are above the limit byte b; below t b, whether they are below it; reaches t b, at it or above it
---     outputAfter p t       the thermostat output: active at or above the high limit; if not that, inactive below the low one; else as it was
---     measured p t          the probe after a reading: a flag that stands stays, a temperature above the high limit sets the high flag, one below the low limit the low
---                           flag; the next conversion runs at once in thermostat mode and where one-shot is clear, as it stands then
---     finished p t          13 while no conversion runs, then 11 outside -55 to +125 degrees; else the probe has measured t. A refusal leaves it as it was
+--     above t b             whether t degrees are above the limit byte b; below t b, whether they are below it; reaches
+--                           t b, at it or above it
+--     outputAfter p t       the thermostat output: active at or above the high limit; if not that, inactive below the
+--                           low one; else as it was
+--     measured p t          the probe after a reading: a flag that stands stays, a temperature above the high limit
+--                           sets the high flag, one below the low limit the low flag; the next conversion runs at once
+--                           in thermostat mode and where one-shot is clear, as it stands then
+--     finished p t          13 while no conversion runs, then 11 outside -55 to +125 degrees; else the probe has
+--                           measured t. A refusal leaves it as it was
 use Prim.Native.Nat.{ℕ}
 use mathlib.Core.Bool.{Bool, true, false, not, _||_}
 use lib.Signed.{leZ, ltZ}

@@ -1,5 +1,6 @@
 -- Power-up, which the start is too: it alone takes up the mode (house).
---     probePoweredUp k     the probe as power finds it: limits, mode, polarity and one-shot as they were kept, flags and temperature 0, output inactive, quiet; in thermostat
+--     probePoweredUp k     the probe as power finds it: limits, mode, polarity and one-shot as they were kept, flags
+--                          and temperature 0, output inactive, quiet; in thermostat
 --                     mode a conversion runs from there on, else none
 use mathlib.Core.Bool.{false}
 use Rattle.thermostat.specs.declared.Kept.{Kept}

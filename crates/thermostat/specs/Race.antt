@@ -1,14 +1,17 @@
--- The race for the status register: conversions that finish while the two calls go on. The calls are taken apart into their resets and slots, and the sensor's finishes may
--- fall before, between and after these in any number. A finish between two bits of the status tears the byte: the host reads bits that never stood together.
+-- The race for the status register: conversions that finish while the two calls go on. The calls are taken apart into
+-- their resets and slots, and the sensor's finishes may fall before, between and after these in any number. A finish
+-- between two bits of the status tears the byte: the host reads bits that never stood together.
 --     Event               a reset or a slot of the master's, or a finish of the sensor's
 --     afterEvents es p    the probe after the events, in order; a finish that is refused changes nothing
 --     linesShown es p     what the line shows in the slots among them, in order
 --     mastersOwn es       the master's events alone
---     readEvents          the first call: a reset, ACh and eight read slots; writeEvents b, the second: a reset, 0Ch and the byte b
+--     readEvents          the first call: a reset, ACh and eight read slots; writeEvents b, the second: a reset, 0Ch
+--                         and the byte b
 --     statusSeen es p     the byte that the host makes of the last eight of the first call's sixteen slots
 --     setIn es p          the flags that finishes set in the course of the events
---     Raced p a es        what is claimed of them: the flags at the end are those of the beginning and those that finishes set, none is lost and none comes of itself; and
---                         mode, polarity and one-shot are as asked, and the limits as they were, or in thermostat mode all of these as they were
+--     Raced p a es        what is claimed of them: the flags at the end are those of the beginning and those that
+--                         finishes set, none is lost and none comes of itself; and mode, polarity and one-shot are as
+--                         asked, and the limits as they were, or in thermostat mode all of these as they were
 --     RaceClaim           it holds of every probe, every change and every interleaving: law `race`
 use Prim.Native.Nat.{ℕ}
 use mathlib.Core.Bool.{Bool, false, _&&_, _||_}

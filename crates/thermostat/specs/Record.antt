@@ -42,7 +42,19 @@ withKept p k = record {
 }
 
 abbrev pub withHigh : Thermostat → ℕ → Thermostat
-withHigh p b = withKept p (record { high = b; low = p .kept .low; mode = p .kept .mode; polarity = p .kept .polarity; oneshot = p .kept .oneshot })
+withHigh p b = withKept p (record {
+  high = b;
+  low = p .kept .low;
+  mode = p .kept .mode;
+  polarity = p .kept .polarity;
+  oneshot = p .kept .oneshot;
+})
 
 abbrev pub withLow : Thermostat → ℕ → Thermostat
-withLow p b = withKept p (record { high = p .kept .high; low = b; mode = p .kept .mode; polarity = p .kept .polarity; oneshot = p .kept .oneshot })
+withLow p b = withKept p (record {
+  high = p .kept .high;
+  low = b;
+  mode = p .kept .mode;
+  polarity = p .kept .polarity;
+  oneshot = p .kept .oneshot;
+})

@@ -1,12 +1,15 @@
--- The reset and the slot of a DS1821. In thermostat mode it neither hears the wire nor answers; else it takes a command right after a reset, and then takes or sends
--- one byte, lowest bit first, as every 1-Wire device does (`shifted`, `byteSlot`), and is quiet.
+-- The reset and the slot of a DS1821. In thermostat mode it neither hears the wire nor answers; else it takes a command
+-- right after a reset, and then takes or sends one byte, lowest bit first, as every 1-Wire device does (`shifted`,
+-- `byteSlot`), and is quiet.
 --     probeRegister p r          what is sent of a register: the byte as it stands
 --     probeOffer p               what the probe puts on the line in the next slot: 1 unless it sends a 0
 --     probeLineShown p m         what the line shows where the master offers m: the AND of both
---     runsAfter c running        whether a conversion runs after command c; stageAfter c, where it leads; commandDone p c, the probe after it, converting or not
+--     runsAfter c running        whether a conversion runs after command c; stageAfter c, where it leads; commandDone p
+--                                c, the probe after it, converting or not
 --     stored p w b               the probe after the host wrote the byte b
 --     probeHeard p l             the probe after a slot in which the line showed l
---     probeSlotted p m           one slot in which the master offers m; resetDone p, a reset, with presence outside thermostat mode. Neither is ever refused
+--     probeSlotted p m           one slot in which the master offers m; resetDone p, a reset, with presence outside
+--                                thermostat mode. Neither is ever refused
 use Prim.Native.Nat.{ℕ, _+_}
 use mathlib.Core.Bool.{Bool, true, false, not, _&&_}
 use lib.Dec.{ltb, eqb}
@@ -23,7 +26,8 @@ use Rattle.thermostat.specs.declared.Writable.{Writable}
 use Rattle.thermostat.specs.declared.Writable.the-variants.{NewHigh, NewLow, NewStatus}
 use Rattle.thermostat.specs.Record.{probeWithStage, withConverting, withHigh, withLow}
 use Rattle.thermostat.specs.Status.{statusOf, statusWritten}
-use Rattle.thermostat.specs.Commands.{startConversion, stopConversion, readTemperature, writeHigh, writeLow, readHigh, readLow, writeStatus, readStatus}
+use Rattle.thermostat.specs.Commands.{startConversion, stopConversion, readTemperature, writeHigh, writeLow}
+use Rattle.thermostat.specs.Commands.{readHigh, readLow, writeStatus, readStatus}
 use Rattle.thermostat.specs.declared.wire.ResetDone.{ResetDone}
 use Rattle.thermostat.specs.declared.wire.Slotted.{Slotted}
 
@@ -107,4 +111,7 @@ unfoldable pub probeSlotted : Thermostat → Bool → Slotted
 probeSlotted p m = record { line = probeLineShown p m; probe = probeHeard p (probeLineShown p m) }
 
 unfoldable pub probeReset : Thermostat → ResetDone
-probeReset p = record { presence = not (p .thermostat); probe = if p .thermostat then p else probeWithStage p awaitCommand }
+probeReset p = record {
+  presence = not (p .thermostat);
+  probe = if p .thermostat then p else probeWithStage p awaitCommand;
+}

@@ -1,6 +1,7 @@
 // The two calls by which a host changes the mode, the polarity or one-shot of a DS1821 and loses no flag.
 ghost use mathlib.Core.Path.{_≡_};
-ghost use Rattle.thermostat.specs.Calls.{byteSent, byteShownBy, afterReading, statusRead, changedStatus, statusChanged};
+ghost use Rattle.thermostat.specs.Calls.{byteSent, byteShownBy, afterReading, statusRead, changedStatus};
+ghost use Rattle.thermostat.specs.Calls.{statusChanged};
 ghost use Rattle.thermostat.specs.Replies.{probeByteRead};
 use crate::Thermostat;
 use crate::rules::Asked;

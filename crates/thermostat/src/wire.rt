@@ -1,9 +1,11 @@
 // The wire of a DS1821: resets and slots, its commands, and the bytes that it takes and sends.
 ghost use mathlib.Core.Path.{_≡_};
 ghost use Rattle.thermostat.specs.declared.ProbeStage.the-variants.{Take, Send};
-ghost use Rattle.thermostat.specs.Slot.{probeRegister, stored, runsAfter, stageAfter, commandDone, heardCommand, heardByte, sentOn, probeOffer, probeLineShown, probeHeard, probeSlotted, probeReset};
-use crate::Readable;
+ghost use Rattle.thermostat.specs.Slot.{probeRegister, stored, runsAfter, stageAfter, commandDone, heardCommand};
+ghost use Rattle.thermostat.specs.Slot.{heardByte, sentOn, probeOffer, probeLineShown, probeHeard, probeSlotted};
+ghost use Rattle.thermostat.specs.Slot.{probeReset};
 use crate::ProbeStage;
+use crate::Readable;
 use crate::Thermostat;
 use crate::Writable;
 use commands::Shifted;

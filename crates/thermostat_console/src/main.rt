@@ -34,7 +34,8 @@ fn write_answer(text: &[u8])
 
 // A line, with its feed or without, answered.
 fn answer_line(probe: Thermostat, line: &[u8], fed: bool, out: &mut [u8]) -> Thermostat
-    requires { ⌜ (lineRoom ≤ length (now out)) × Answerable probeConsole firstProbe (probeConsole .says probe (record { chars = now line; fed = fed })) ⌝ }
+    requires { ⌜ (lineRoom ≤ length (now out))
+        × Answerable probeConsole firstProbe (probeConsole .says probe (record { chars = now line; fed = fed })) ⌝ }
     ensures { λ r. ⌜ r ≡ probeConsole .next probe (record { chars = now (line .entry); fed = fed }) ⌝ }
 {
     let said = thermostat_session::answer(probe, line, fed, out);
@@ -45,8 +46,10 @@ fn answer_line(probe: Thermostat, line: &[u8], fed: bool, out: &mut [u8]) -> The
 
 // A line that has its feed is answered, and held no more.
 fn end_line(probe: Thermostat, line: &[u8], held: usize, whole: bool, out: &mut [u8]) -> Session
-    requires { ⌜ (held ≤ length (now line)) × (lineRoom ≤ length (now out)) × Answerable probeConsole firstProbe (endSaid probeConsole (runAt probe (now line) held) whole) ⌝ }
-    ensures { λ r. ⌜ (runAt (r .probe) (now (line .entry)) (r .held) ≡ heldEnded probeConsole (runAt probe (now (line .entry)) held) whole) × (r .held ≤ held) ⌝ }
+    requires { ⌜ (held ≤ length (now line)) × (lineRoom ≤ length (now out))
+        × Answerable probeConsole firstProbe (endSaid probeConsole (runAt probe (now line) held) whole) ⌝ }
+    ensures { λ r. ⌜ (runAt (r .probe) (now (line .entry)) (r .held)
+        ≡ heldEnded probeConsole (runAt probe (now (line .entry)) held) whole) × (r .held ≤ held) ⌝ }
 {
     if whole {
         return Session {
@@ -64,8 +67,10 @@ fn end_line(probe: Thermostat, line: &[u8], held: usize, whole: bool, out: &mut 
 
 // All that was read, line by line.
 fn take(start: Session, line: &mut [u8], chunk: &[u8], out: &mut [u8]) -> Session
-    requires { ⌜ (lineRoom ≤ length (now out)) × Standing probeConsole firstProbe (start .probe) (now line) (start .held) ⌝ }
-    ensures session { λ r. ⌜ runAt (r .probe) (now (line .exit)) (r .held) ≡ runAfter probeConsole (runAt (start .probe) (now (line .entry)) (start .held)) (now (chunk .entry)) ⌝ }
+    requires { ⌜ (lineRoom ≤ length (now out))
+        × Standing probeConsole firstProbe (start .probe) (now line) (start .held) ⌝ }
+    ensures session { λ r. ⌜ runAt (r .probe) (now (line .exit)) (r .held)
+        ≡ runAfter probeConsole (runAt (start .probe) (now (line .entry)) (start .held)) (now (chunk .entry)) ⌝ }
     ensures standing { λ r. ⌜ Standing probeConsole firstProbe (r .probe) (now (line .exit)) (r .held) ⌝ }
 {
     let mut s = start;

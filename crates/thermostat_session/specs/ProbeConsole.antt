@@ -1,8 +1,8 @@
 -- The answer to each request on each DS1821: what is replied, and the probe after it.
 --     probeResponded p q       the answer to the request q on the probe p, from the definitions of the calls
 --     probeAsked l             what a line asks for; one that has no feed asks for nothing that there is
---     probeSaid p l out        what the call for a line answers: how many bytes of text there are and the probe, or refusal 1 and the probe as it was where less than a
---                              line's room is lent
+--     probeSaid p l out        what the call for a line answers: how many bytes of text there are and the probe, or
+--                              refusal 1 and the probe as it was where less than a line's room is lent
 --     probeLeaves p l out      the lent bytes after it: the text from byte 0 on, or as they were
 use Prim.Native.Nat.{ℕ}
 use mathlib.Core.List.{List}
@@ -21,7 +21,8 @@ use Rattle.thermostat.specs.Calls.{statusRead, statusChanged}
 use Rattle.thermostat.specs.declared.rules.StatusRead.{StatusRead}
 use Rattle.thermostat_session.specs.ProbeRequests.{probeRequestOf}
 use Rattle.thermostat_session.specs.declared.requests.ProbeRequest.{ProbeRequest}
-use Rattle.thermostat_session.specs.declared.requests.ProbeRequest.the-variants.{Bad, Start, Reset, Slot, Finish, Cycle, Status, Change, Show}
+use Rattle.thermostat_session.specs.declared.requests.ProbeRequest.the-variants.{Bad, Start, Reset, Slot, Finish}
+use Rattle.thermostat_session.specs.declared.requests.ProbeRequest.the-variants.{Cycle, Status, Change, Show}
 use Rattle.thermostat_session.specs.ProbeLines.{replyLine}
 use Rattle.thermostat_session.specs.declared.answers.Reply.{Reply}
 use Rattle.thermostat_session.specs.declared.answers.Reply.the-variants.{Unknown, Plain, Bit, StatusByte, Probe}
@@ -60,7 +61,9 @@ abbrev pub probeTold : Responded → ProbeSaid
 probeTold r = record { refusal = accepted; count = length (replyLine (r .reply)); probe = r .probe }
 
 abbrev pub probeSaid : Thermostat → Line → List ℕ → ProbeSaid
-probeSaid p l out = if leb lineRoom (length out) then probeTold (probeResponded p (probeAsked l)) else record { refusal = noRoom; count = 0; probe = p }
+probeSaid p l out = if leb lineRoom (length out) then probeTold (probeResponded p (probeAsked l))
+    else record { refusal = noRoom; count = 0; probe = p }
 
 abbrev pub probeLeaves : Thermostat → Line → List ℕ → List ℕ
-probeLeaves p l out = if leb lineRoom (length out) then laid out 0 (replyLine (probeResponded p (probeAsked l) .reply)) else out
+probeLeaves p l out = if leb lineRoom (length out) then laid out 0 (replyLine (probeResponded p (probeAsked l) .reply))
+    else out

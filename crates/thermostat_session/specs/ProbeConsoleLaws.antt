@@ -1,4 +1,5 @@
--- What is said of a line, by whether there is room for it; and what is held of a line tells what the whole line asks for, however long it is.
+-- What is said of a line, by whether there is room for it; and what is held of a line tells what the whole line asks
+-- for, however long it is.
 use Prim.Native.Nat.{ℕ, _+_, _<_, _≤_}
 use mathlib.Core.Path.{_≡_, refl, ap, _∙_}
 use mathlib.Core.List.{List}
@@ -20,19 +21,23 @@ use Rattle.thermostat_session.specs.ProbeConsole.{probeResponded, probeA
 use Rattle.thermostat_session.specs.declared.Responded.{Responded}
 
 module _ (p : Thermostat) (l : Line) (out : List ℕ) where
-  pub said-without : length out < lineRoom → (record { refusal = noRoom; count = 0; probe = p } ≡ probeSaid p l out) × (out ≡ probeLeaves p l out) × (0 ≤ lineRoom)
+  pub said-without : length out < lineRoom → (record { refusal = noRoom; count = 0; probe = p } ≡ probeSaid p l out)
+      × (out ≡ probeLeaves p l out) × (0 ≤ lineRoom)
   said-without h = rw (lt-leb lineRoom (length out) h) (refl, refl, omega arith)
 
-  pub said-with : lineRoom ≤ length out → (r : Responded) → r ≡ probeResponded p (probeAsked l) → (w : Written) → w ≡ lineAnswer out 0 (replyLine (r .reply))
+  pub said-with : lineRoom ≤ length out → (r : Responded) → r ≡ probeResponded p (probeAsked l) → (w : Written)
+      → w ≡ lineAnswer out 0 (replyLine (r .reply))
       → (out' : List ℕ) → out' ≡ lineLeaves out 0 (replyLine (r .reply)) → w .next ≤ 0 + lineRoom
-      → (record { refusal = w .refusal; count = w .next; probe = r .probe } ≡ probeSaid p l out) × (out' ≡ probeLeaves p l out) × (w .next ≤ lineRoom)
+      → (record { refusal = w .refusal; count = w .next; probe = r .probe } ≡ probeSaid p l out)
+      × (out' ≡ probeLeaves p l out) × (w .next ≤ lineRoom)
   said-with h r answers w answer out' left few =
       let room-is : 0 + lineRoom ≤ length out = omega arith in
       let t = le-leb (0 + lineRoom) (length out) room-is in
       let said = rw t at answer in
       let same : 0 + length (replyLine (r .reply)) ≡ length (replyLine (r .reply)) = omega arith in (
         rw (t, ← answers)
-            (ap (λ (v : Written). record { refusal = v .refusal; count = v .next; probe = r .probe }) said ∙ ap (λ (n : ℕ). record { refusal = 0; count = n; probe = r .probe }) same),
+            (ap (λ (v : Written). record { refusal = v .refusal; count = v .next; probe = r .probe }) said
+            ∙ ap (λ (n : ℕ). record { refusal = 0; count = n; probe = r .probe }) same),
         rw (t, ← answers) (rw t at left),
         omega arith,
       )

@@ -1,5 +1,5 @@
--- The lines that answer the requests of the thermostat console. A status is two hexadecimal digits; temperature and limits are whole degrees with their sign; a truth
--- value is 0 or 1.
+-- The lines that answer the requests of the thermostat console. A status is two hexadecimal digits; temperature and
+-- limits are whole degrees with their sign; a truth value is 0 or 1.
 --     statusLine r s        REFUSAL STATUS
 --     probeLine p           TEMPERATURE HIGH LOW STATUS OUTPUT CONVERTING THERMOSTAT of a probe as it stands
 --     replyLine a           the line of a reply: ? to what is no request, REFUSAL, 0 and a bit, or one of those above
@@ -24,10 +24,12 @@ statusLine refusal status = line (decimal refusal ∷ hexDigits 2 status ∷ [])
 -- the seven fields
 unfoldable pub fieldsLine : ℤ → ℤ → ℤ → ℕ → Bool → Bool → Bool → List ℕ
 fieldsLine temperature high low status output converting thermostat =
-    line (signedDecimal temperature ∷ signedDecimal high ∷ signedDecimal low ∷ hexDigits 2 status ∷ flag output ∷ flag converting ∷ flag thermostat ∷ [])
+    line (signedDecimal temperature ∷ signedDecimal high ∷ signedDecimal low ∷ hexDigits 2 status ∷ flag output
+    ∷ flag converting ∷ flag thermostat ∷ [])
 
 abbrev pub probeLine : Thermostat → List ℕ
-probeLine p = fieldsLine (limitOf (p .temperature) .0) (limitOf (p .kept .high) .0) (limitOf (p .kept .low) .0) (statusOf p) (p .output) (p .converting) (p .thermostat)
+probeLine p = fieldsLine (limitOf (p .temperature) .0) (limitOf (p .kept .high) .0) (limitOf (p .kept .low) .0)
+    (statusOf p) (p .output) (p .converting) (p .thermostat)
 
 unfoldable pub replyLine : Reply → List ℕ
 replyLine Unknown = badLine

@@ -25,7 +25,8 @@ status-short refusal status p =
     let b = digits-length 16 2 status in
     simp length-append (omega arith)
 
-pub fields-short : (temperature high low : ℤ) (status : ℕ) (output converting thermostat : Bool) → Fits16 temperature → Fits16 high → Fits16 low
+pub fields-short : (temperature high low : ℤ) (status : ℕ) (output converting thermostat : Bool) → Fits16 temperature
+    → Fits16 high → Fits16 low
     → length (fieldsLine temperature high low status output converting thermostat) ≤ lineRoom
 unfolding fieldsLine
 fields-short temperature high low status output converting thermostat f g h =
@@ -42,7 +43,8 @@ fields-short temperature high low status output converting thermostat f g h =
     wide {z} fits = wider w16 w32 z (lit≤ tt) fits
 
 -- a short line ends within a line's room, and where it is refused there is no place
-pub answer-short : (out : List ℕ) (at : ℕ) (x : List ℕ) (w : Written) → w ≡ lineAnswer out at x → length x ≤ lineRoom → w .next ≤ at + lineRoom
+pub answer-short : (out : List ℕ) (at : ℕ) (x : List ℕ) (w : Written) → w ≡ lineAnswer out at x → length x ≤ lineRoom
+    → w .next ≤ at + lineRoom
 answer-short out at x w answer h = by-test (hasRoom out at lineRoom) refl
   where
     by-test : (t : Bool) → hasRoom out at lineRoom ≡ t → w .next ≤ at + lineRoom

@@ -1,5 +1,7 @@
--- What a line asks of a DS1821: the table of its console, by name, number of fields and request. Whatever matches no row, or has a field that is none, is `Bad`.
---     degreesAsked w         whole degrees, written as a count of sixteenths is: -32768 to 32767 in one to five digits, with a minus in front where negative
+-- What a line asks of a DS1821: the table of its console, by name, number of fields and request. Whatever matches no
+-- row, or has a field that is none, is `Bad`.
+--     degreesAsked w         whole degrees, written as a count of sixteenths is: -32768 to 32767 in one to five digits,
+--                            with a minus in front where negative
 --     limitIn w              a limit: degrees from -128 to 127, as the signed byte that the probe keeps
 --     askedIn m p o          three bits: mode, polarity, one-shot
 --     ofProbe ws             the calls on the probe, by the words of a line
@@ -22,7 +24,8 @@ use Rattle.thermostat_session.specs.declared.requests.AskedRead.{AskedRe
 use Rattle.thermostat_session.specs.declared.requests.DegreesRead.{DegreesRead}
 use Rattle.thermostat_session.specs.declared.requests.LimitRead.{LimitRead}
 use Rattle.thermostat_session.specs.declared.requests.ProbeRequest.{ProbeRequest}
-use Rattle.thermostat_session.specs.declared.requests.ProbeRequest.the-variants.{Bad, Start, Reset, Slot, Finish, Cycle, Status, Change, Show}
+use Rattle.thermostat_session.specs.declared.requests.ProbeRequest.the-variants.{Bad, Start, Reset, Slot, Finish}
+use Rattle.thermostat_session.specs.declared.requests.ProbeRequest.the-variants.{Cycle, Status, Change, Show}
 
 -- ## Fields
 
@@ -35,7 +38,10 @@ degreesAsked w = countInDegrees (countIn w)
 
 -- what is read of a limit: degrees that a signed byte holds
 abbrev pub asLimit : DegreesRead → LimitRead
-asLimit d = record { valid = d .valid && eqb (limitByteOf (d .degrees) .refusal) accepted; byte = limitByteOf (d .degrees) .byte }
+asLimit d = record {
+  valid = d .valid && eqb (limitByteOf (d .degrees) .refusal) accepted;
+  byte = limitByteOf (d .degrees) .byte;
+}
 
 unfoldable pub limitIn : List ℕ → LimitRead
 limitIn w = asLimit (degreesAsked w)
@@ -75,11 +81,13 @@ probeChangeAsked status a = if status .valid && a .valid then Change (status .nu
 
 -- ## The table
 
--- START HIGH LOW MODE POLARITY ONESHOT; RESET; SLOT BIT; FINISH DEGREES; CYCLE; STATUS; CHANGE STATUS MODE POLARITY ONESHOT; SHOW
+-- START HIGH LOW MODE POLARITY ONESHOT; RESET; SLOT BIT; FINISH DEGREES; CYCLE; STATUS; CHANGE STATUS MODE POLARITY
+-- ONESHOT; SHOW
 unfoldable pub ofProbe : List (List ℕ) → ProbeRequest
 ofProbe ws =
     let field = wordOf ws in
-    if asks (ascii "start") 5 ws then startAsked (limitIn (field 1)) (limitIn (field 2)) (askedIn (field 3) (field 4) (field 5))
+    if asks (ascii "start") 5 ws then startAsked (limitIn (field 1)) (limitIn (field 2))
+    (askedIn (field 3) (field 4) (field 5))
     else if asks (ascii "reset") 0 ws then Reset
     else if asks (ascii "slot") 1 ws then probeSlotAsked (bitIn (field 1))
     else if asks (ascii "finish") 1 ws then finishAsked (degreesAsked (field 1))

@@ -10,11 +10,13 @@ use Rattle.lines.specs.Fields.{byteIn, bitIn}
 use Rattle.bench_requests.specs.Requests.{asks}
 use Rattle.bench_requests.specs.RequestsLaws.{asks-name, asks-fields}
 use Rattle.thermostat_session.specs.declared.requests.ProbeRequest.the-variants.{Bad, Reset, Cycle, Status, Show}
-use Rattle.thermostat_session.specs.ProbeRequests.{degreesAsked, limitIn, askedIn, startAsked, probeSlotAsked, finishAsked, probeChangeAsked, ofProbe}
+use Rattle.thermostat_session.specs.ProbeRequests.{degreesAsked, limitIn, askedIn, startAsked, probeSlotAsked}
+use Rattle.thermostat_session.specs.ProbeRequests.{finishAsked, probeChangeAsked, ofProbe}
 
 module _ (ws : List (List ℕ)) where
   pub row-start : asks (ascii "start") 5 ws ≡ true
-      → startAsked (limitIn (wordOf ws 1)) (limitIn (wordOf ws 2)) (askedIn (wordOf ws 3) (wordOf ws 4) (wordOf ws 5)) ≡ ofProbe ws
+      → startAsked (limitIn (wordOf ws 1)) (limitIn (wordOf ws 2)) (askedIn (wordOf ws 3) (wordOf ws 4) (wordOf ws 5))
+      ≡ ofProbe ws
   unfolding ofProbe same
   row-start e = rw (asks-name (ascii "start") 5 ws e, asks-fields (ascii "start") 5 ws e)
 
@@ -38,7 +40,8 @@ module _ (ws : List (List ℕ)) where
   unfolding ofProbe same
   row-status e = rw (asks-name (ascii "status") 0 ws e, asks-fields (ascii "status") 0 ws e)
 
-  pub row-change : asks (ascii "change") 4 ws ≡ true → probeChangeAsked (byteIn (wordOf ws 1)) (askedIn (wordOf ws 2) (wordOf ws 3) (wordOf ws 4)) ≡ ofProbe ws
+  pub row-change : asks (ascii "change") 4 ws ≡ true
+      → probeChangeAsked (byteIn (wordOf ws 1)) (askedIn (wordOf ws 2) (wordOf ws 3) (wordOf ws 4)) ≡ ofProbe ws
   unfolding ofProbe same
   row-change e = rw (asks-name (ascii "change") 4 ws e, asks-fields (ascii "change") 4 ws e)
 
@@ -46,8 +49,10 @@ module _ (ws : List (List ℕ)) where
   unfolding ofProbe same
   row-show e = rw (asks-name (ascii "show") 0 ws e, asks-fields (ascii "show") 0 ws e)
 
-  pub no-row : asks (ascii "start") 5 ws ≡ false → asks (ascii "reset") 0 ws ≡ false → asks (ascii "slot") 1 ws ≡ false → asks (ascii "finish") 1 ws ≡ false
-      → asks (ascii "cycle") 0 ws ≡ false → asks (ascii "status") 0 ws ≡ false → asks (ascii "change") 4 ws ≡ false → asks (ascii "show") 0 ws ≡ false
+  pub no-row : asks (ascii "start") 5 ws ≡ false → asks (ascii "reset") 0 ws ≡ false → asks (ascii "slot") 1 ws ≡ false
+      → asks (ascii "finish") 1 ws ≡ false
+      → asks (ascii "cycle") 0 ws ≡ false → asks (ascii "status") 0 ws ≡ false → asks (ascii "change") 4 ws ≡ false
+      → asks (ascii "show") 0 ws ≡ false
       → Bad ≡ ofProbe ws
   unfolding ofProbe
   no-row a b c d e f g h = rw (a, b, c, d, e, f, g, h)

@@ -1,5 +1,5 @@
--- 81 characters of a line tell what the thermostat console says to it, so that what it says does not depend on where its input is cut; and what a call has said stands
--- at the front of its buffer.
+-- 81 characters of a line tell what the thermostat console says to it, so that what it says does not depend on where
+-- its input is cut; and what a call has said stands at the front of its buffer.
 use Prim.Native.Nat.{ℕ, _≤_}
 use mathlib.Core.Path.{_≡_, ap}
 use mathlib.Core.List.{List}
@@ -33,15 +33,19 @@ probe-enough = record {
 }
 
 -- whatever the cuts, each line is answered on the probe that the lines before it left
-pub probe-session : (p : Thermostat) (cs : List (List ℕ)) → session probeConsole (freshRun p) cs ≡ inTurn probeConsole p (linesOf (together cs))
+pub probe-session : (p : Thermostat) (cs : List (List ℕ))
+    → session probeConsole (freshRun p) cs ≡ inTurn probeConsole p (linesOf (together cs))
 probe-session = session-cuts probeConsole probe-enough
 
 -- what the call for a line leaves at the front of a buffer with room, and the probe
-pub said-front : (p : Thermostat) (l : Line) (out : List ℕ) → lineRoom ≤ length out → (r : ProbeSaid) → r ≡ probeSaid p l out → (out' : List ℕ) → out' ≡ probeLeaves p l out → r .count ≤ lineRoom
+pub said-front : (p : Thermostat) (l : Line) (out : List ℕ) → lineRoom ≤ length out → (r : ProbeSaid)
+    → r ≡ probeSaid p l out → (out' : List ℕ) → out' ≡ probeLeaves p l out → r .count ≤ lineRoom
     → (take (r .count) out' ≡ probeConsole .says p l) × (r .probe ≡ probeConsole .next p l)
 said-front p l out room r answer out' left few =
     let t = le-leb lineRoom (length out) room in
     let said = rw t at answer in
     let wrote = rw t at left in
-    let count = ap (λ (q : ProbeSaid). q .count) said in
-    (laid-front out (replyLine (probeResponded p (probeAsked l) .reply)) out' (r .count) count wrote (omega arith) .1, ap (λ (q : ProbeSaid). q .probe) said)
+    let count = ap (λ (q : ProbeSaid). q .count) said in (
+      laid-front out (replyLine (probeResponded p (probeAsked l) .reply)) out' (r .count) count wrote (omega arith) .1,
+      ap (λ (q : ProbeSaid). q .probe) said,
+    )

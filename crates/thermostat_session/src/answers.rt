@@ -35,7 +35,8 @@ pub enum Reply {
 }
 
 fn put_status(out: &mut [u8], at: usize, refusal: u8, status: u8) -> usize
-    ensures { λ r. ⌜ Puts (now (out .entry)) at (statusLine refusal status) (now (out .exit)) r × (length (statusLine refusal status) ≤ lineRoom) ⌝ }
+    ensures { λ r. ⌜ Puts (now (out .entry)) at (statusLine refusal status) (now (out .exit)) r
+        × (length (statusLine refusal status) ≤ lineRoom) ⌝ }
 {
     let behind_refusal = put_number(out, at, refusal as u64, SPACE);
     put_digits(out, behind_refusal, 2, status as u64, LINE_FEED)
@@ -65,7 +66,9 @@ fn put_fields(
     converting: bool,
     thermostat: bool,
 ) -> usize
-    ensures { λ r. ⌜ Puts (now (out .entry)) at (fieldsLine temperature high low status output converting thermostat) (now (out .exit)) r × (length (fieldsLine temperature high low status output converting thermostat) ≤ lineRoom) ⌝ }
+    ensures { λ r. ⌜ Puts (now (out .entry)) at (fieldsLine temperature high low status output converting thermostat)
+        (now (out .exit)) r × (length (fieldsLine temperature high low status output converting thermostat)
+        ≤ lineRoom) ⌝ }
 {
     let behind_temperature = put_signed(out, at, temperature as i32, SPACE);
     let behind_high = put_signed(out, behind_temperature, high as i32, SPACE);

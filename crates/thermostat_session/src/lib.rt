@@ -7,7 +7,8 @@ ghost use Prim.Native.Nat.{_≤_};
 ghost use Rattle.text.specs.Lines.{Line};
 ghost use Rattle.text.specs.Putting.{lineRoom};
 ghost use Rattle.thermostat.specs.Calls.{statusRead};
-ghost use Rattle.thermostat_session.specs.ProbeConsole.{replies, statusReplied, probeResponded, probeAsked, probeSaid, probeLeaves};
+ghost use Rattle.thermostat_session.specs.ProbeConsole.{replies, statusReplied, probeResponded, probeAsked};
+ghost use Rattle.thermostat_session.specs.ProbeConsole.{probeSaid, probeLeaves};
 use crate::answers::Reply;
 use crate::requests::ProbeRequest;
 use refusals::ACCEPTED;
@@ -97,7 +98,8 @@ fn asked(line: &[u8], fed: bool) -> ProbeRequest
 // of the answer is laid at the front of what is lent. No answer is longer than a line's room.
 pub fn answer(probe: Thermostat, line: &[u8], fed: bool, out: &mut [u8]) -> ProbeSaid
     ensures answer { λ r. ⌜ r ≡ probeSaid probe (record { chars = now (line .entry); fed = fed }) (now (out .entry)) ⌝ }
-    ensures written { λ r. ⌜ now (out .exit) ≡ probeLeaves probe (record { chars = now (line .entry); fed = fed }) (now (out .entry)) ⌝ }
+    ensures written { λ r. ⌜ now (out .exit) ≡ probeLeaves probe (record { chars = now (line .entry); fed = fed })
+        (now (out .entry)) ⌝ }
     ensures fits { λ r. ⌜ r .count ≤ lineRoom ⌝ }
 {
     if out.len() < LINE_ROOM {

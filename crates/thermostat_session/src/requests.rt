@@ -2,7 +2,9 @@
 ghost use mathlib.Core.Path.{_≡_};
 ghost use Rattle.lines.specs.Words.{wordsOf, wordOf};
 ghost use Rattle.lines.specs.Fields.{byteIn, bitIn};
-ghost use Rattle.thermostat_session.specs.ProbeRequests.{degreesAsked, limitIn, askedIn, startAsked, probeSlotAsked, finishAsked, probeChangeAsked, ofProbe, probeRequestOf};
+ghost use Rattle.thermostat_session.specs.ProbeRequests.{degreesAsked, limitIn, askedIn, startAsked};
+ghost use Rattle.thermostat_session.specs.ProbeRequests.{probeSlotAsked, finishAsked, probeChangeAsked, ofProbe};
+ghost use Rattle.thermostat_session.specs.ProbeRequests.{probeRequestOf};
 use bench_requests::LONGEST;
 use bench_requests::asks;
 use lines::fields;
@@ -89,7 +91,10 @@ fn asked_in(mode: &[u8], polarity: &[u8], oneshot: &[u8]) -> AskedRead
 
 // `start HIGH LOW MODE POLARITY ONESHOT`
 fn start(line: &[u8]) -> ProbeRequest
-    ensures { λ r. ⌜ r ≡ startAsked (limitIn (wordOf (wordsOf (now (line .entry))) 1)) (limitIn (wordOf (wordsOf (now (line .entry))) 2)) (askedIn (wordOf (wordsOf (now (line .entry))) 3) (wordOf (wordsOf (now (line .entry))) 4) (wordOf (wordsOf (now (line .entry))) 5)) ⌝ }
+    ensures { λ r. ⌜ r ≡ startAsked (limitIn (wordOf (wordsOf (now (line .entry))) 1))
+        (limitIn (wordOf (wordsOf (now (line .entry))) 2))
+        (askedIn (wordOf (wordsOf (now (line .entry))) 3) (wordOf (wordsOf (now (line .entry))) 4)
+        (wordOf (wordsOf (now (line .entry))) 5)) ⌝ }
 {
     let high = limit_in(word(line, 1));
     let low = limit_in(word(line, 2));
@@ -132,7 +137,9 @@ fn finish(line: &[u8]) -> ProbeRequest
 
 // `change STATUS MODE POLARITY ONESHOT`
 fn change(line: &[u8]) -> ProbeRequest
-    ensures { λ r. ⌜ r ≡ probeChangeAsked (byteIn (wordOf (wordsOf (now (line .entry))) 1)) (askedIn (wordOf (wordsOf (now (line .entry))) 2) (wordOf (wordsOf (now (line .entry))) 3) (wordOf (wordsOf (now (line .entry))) 4)) ⌝ }
+    ensures { λ r. ⌜ r ≡ probeChangeAsked (byteIn (wordOf (wordsOf (now (line .entry))) 1))
+        (askedIn (wordOf (wordsOf (now (line .entry))) 2) (wordOf (wordsOf (now (line .entry))) 3)
+        (wordOf (wordsOf (now (line .entry))) 4)) ⌝ }
 {
     let status = text::read_fixed(word(line, 1), 16, 2);
     let a = asked_in(word(line, 2), word(line, 3), word(line, 4));

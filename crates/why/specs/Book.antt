@@ -1,10 +1,11 @@
 -- The answer by the book of a history, which knows neither flag nor record; and what an alarm search has to do with it.
 --     isAmong code codes       whether a code is one of some
 --     padOf b code             the scratchpad of the device with a code, as it stands
---     byBook h code            the answer by the book: reason, reading and limits are those of the code's page, where the code was added; today's limits are the
---                              only thing that is looked up on the bench
+--     byBook h code            the answer by the book: reason, reading and limits are those of the code's page, where
+--                              the code was added; today's limits are the only thing that is looked up on the bench
 --     ByTheBook                after every history the answer for every code is that of the book
---     ListedByReason h         an alarm search after the history lists the added codes whose reason is high, low or both, and no other code has one of these
+--     ListedByReason h         an alarm search after the history lists the added codes whose reason is high, low or
+--                              both, and no other code has one of these
 --     WhyPromise b code r      the first as what a call promises: of every history that leads to the bench given
 use Prim.Native.Nat.{ℕ, _≤_}
 use mathlib.Core.Bool.{Bool, true, false, _||_}
@@ -43,7 +44,8 @@ ByTheBook = (h : List Call) → Each Typed h → (code : ℕ) → whyOf (after h
 
 pub record ListedByReason (h : List Call) : Type 0 where
   pub listed : free (after h) ≡ true → (places room : ℕ) → fewestPlaces ≤ places → fewestBytes ≤ room
-      → List·Permᴰ (those (λ code. onTheList (whyOf (after h) code .reason)) (added h)) (searchOutcome alarmSearch (after h) places room .listed)
+      → List·Permᴰ (those (λ code. onTheList (whyOf (after h) code .reason)) (added h))
+      (searchOutcome alarmSearch (after h) places room .listed)
   pub no-other : (code : ℕ) → isAmong code (added h) ≡ false → onTheList (whyOf (after h) code .reason) ≡ false
 
 abbrev pub WhyPromise : Bench → ℕ → Why → Type 0

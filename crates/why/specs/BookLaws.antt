@@ -1,5 +1,6 @@
--- Both claims hold: `by-the-book` and `listed-by-reason`. The invariant of the histories gives each device's page from the book and the codes on the bench from
--- the addings, so that the device with a code is found exactly where the code was added. A page's reason is high, low or both exactly where the page has the verdict.
+-- Both claims hold: `by-the-book` and `listed-by-reason`. The invariant of the histories gives each device's page from
+-- the book and the codes on the bench from the addings, so that the device with a code is found exactly where the code
+-- was added. A page's reason is high, low or both exactly where the page has the verdict.
 use Prim.Native.Nat.{ℕ, zero, suc, _<_}
 use mathlib.Core.Bool.{Bool, true, false, _||_}
 use mathlib.Core.List.{List, [], _∷_, map, List·Permᴰ, List·Permᴰ·nil}
@@ -40,16 +41,19 @@ use Rattle.why.specs.declared.rules.Why.{Why}
 
 -- ## Whether a code was added
 
-among-at : (code : ℕ) (ds : List Device) (i : ℕ) → i < length ds → getD ds i vacant .code ≡ code → isAmong code (map (λ d. d .code) ds) ≡ true
+among-at : (code : ℕ) (ds : List Device) (i : ℕ) → i < length ds → getD ds i vacant .code ≡ code
+    → isAmong code (map (λ d. d .code) ds) ≡ true
 among-at code [] i h e = absurd (omega arith)
 among-at code (d ∷ ds) zero h e = rw (eq-eqb (d .code) code e)
 among-at code (d ∷ ds) (suc i) h e = by-test (eqb (d .code) code) (among-at code ds i (omega arith) e)
   where
-    by-test : (t : Bool) → isAmong code (map (λ d. d .code) ds) ≡ true → (t || isAmong code (map (λ d. d .code) ds)) ≡ true
+    by-test : (t : Bool) → isAmong code (map (λ d. d .code) ds) ≡ true
+        → (t || isAmong code (map (λ d. d .code) ds)) ≡ true
     by-test true e = refl
     by-test false e = e
 
-among-none : (code : ℕ) (ds : List Device) → Each (λ d. d .code ≢ code) ds → isAmong code (map (λ d. d .code) ds) ≡ false
+among-none : (code : ℕ) (ds : List Device) → Each (λ d. d .code ≢ code) ds
+    → isAmong code (map (λ d. d .code) ds) ≡ false
 among-none code [] h = refl
 among-none code (d ∷ ds) h = rw (ne-eqb (d .code) code (h .0)) (among-none code ds (h .1))
 
@@ -62,7 +66,8 @@ module _ (h : List Call) (t : Each Typed h) where
       let b = after h in
       let marked = reached-after h t .marked in
       let same = device-live b code i e in
-      let own = each-at (λ d. d .page ≡ page h (d .code)) (live b) i vacant (place-live b code i e) (marked .pages-are) in
+      let own = each-at (λ d. d .page ≡ page h (d .code)) (live b) i vacant (place-live b code i e)
+      (marked .pages-are) in
       ap (λ (d : Device). d .page) (sym same) ∙ own ∙ ap (page h) (place-found b code i e)
 
   among-added : (code : ℕ) (u : Bool) → isAmong code (codesOf (after h)) ≡ u → isAmong code (added h) ≡ u
@@ -77,15 +82,20 @@ module _ (h : List Call) (t : Each Typed h) where
   found-by-book code = by-place (placeOf (after h) code) refl
     where
       by-place : (p : Place) → placeOf (after h) code ≡ p
-          → whyAt (after h) p ≡ (if isAmong code (added h) then toldBy (page h code) (padOf (after h) code) else silent accepted NotOnBench)
+          → whyAt (after h) p ≡ (if isAmong code (added h) then toldBy (page h code) (padOf (after h) code)
+          else silent accepted NotOnBench)
       by-place (At i) e =
-          let among = among-added code true (among-at code (live (after h)) i (place-live (after h) code i e) (place-found (after h) code i e)) in
-          rw (among, pad-at code i e) (ap (λ (p : Page). toldBy p (deviceAt (after h) i .scratchpad)) (page-at code i e))
-      by-place Nowhere e = rw (among-added code false (among-none code (live (after h)) (place-nowhere (after h) code e))) refl
+          let among = among-added code true (among-at code (live (after h)) i (place-live (after h) code i e)
+          (place-found (after h) code i e)) in
+          rw (among, pad-at code i e) (ap (λ (p : Page). toldBy p (deviceAt (after h) i .scratchpad))
+          (page-at code i e))
+      by-place Nowhere e = rw (among-added code false
+          (among-none code (live (after h)) (place-nowhere (after h) code e))) refl
 
 pub by-the-book : ByTheBook
 unfolding whyOf
-by-the-book h t code = ap (λ (w : Why). if sound code then w else silent (codeRefusal code) NotOnBench) (found-by-book h t code)
+by-the-book h t code = ap (λ (w : Why). if sound code then w
+    else silent (codeRefusal code) NotOnBench) (found-by-book h t code)
 
 -- as the call promises it
 pub why-promised : (b : Bench) (code : ℕ) (r : Why) → r ≡ whyOf b code → WhyPromise b code r
@@ -113,17 +123,22 @@ said-alarmed p pad = by-test (p .taken) refl
 
 each-among : (l : List ℕ) → Each (λ code. isAmong code l ≡ true) l
 each-among [] = tt
-each-among (c ∷ l) = (rw (eq-eqb c c refl), each-implies (λ (code : ℕ) (e : isAmong code l ≡ true). later code (eqb c code) e) l (each-among l))
+each-among (c ∷ l) = (
+  rw (eq-eqb c c refl),
+  each-implies (λ (code : ℕ) (e : isAmong code l ≡ true). later code (eqb c code) e) l (each-among l),
+)
   where
     later : (code : ℕ) (u : Bool) → isAmong code l ≡ true → (u || isAmong code l) ≡ true
     later code true e = refl
     later code false e = e
 
 module _ (h : List Call) (t : Each Typed h) where
-  on-the-list : (code : ℕ) → sound code ≡ true → isAmong code (added h) ≡ true → onTheList (whyOf (after h) code .reason) ≡ alarmed (page h code)
+  on-the-list : (code : ℕ) → sound code ≡ true → isAmong code (added h) ≡ true
+      → onTheList (whyOf (after h) code .reason) ≡ alarmed (page h code)
   on-the-list code s a =
       let is : byBook h code ≡ toldBy (page h code) (padOf (after h) code) = rw (s, a) refl in
-      ap (λ (w : Why). onTheList (w .reason)) (by-the-book h t code ∙ is) ∙ said-alarmed (page h code) (padOf (after h) code)
+      ap (λ (w : Why). onTheList (w .reason)) (by-the-book h t code ∙ is)
+      ∙ said-alarmed (page h code) (padOf (after h) code)
 
   codes-sound : Each (λ code. sound code ≡ true) (added h)
   codes-sound = let r = reached-after h t in rw (r .marked .codes-are) at (r .sound .codes-sound)
@@ -135,20 +150,24 @@ module _ (h : List Call) (t : Each Typed h) where
 
   -- the codes with one of these reasons are the book's alarms
   pub reasons-alarms : those (λ code. onTheList (whyOf (after h) code .reason)) (added h) ≡ alarms h
-  reasons-alarms = those-same (λ code. onTheList (whyOf (after h) code .reason)) (λ code. alarmed (page h code)) (added h) (reasons-are (added h) codes-sound (each-among (added h)))
+  reasons-alarms = those-same (λ code. onTheList (whyOf (after h) code .reason)) (λ code. alarmed (page h code))
+      (added h) (reasons-are (added h) codes-sound (each-among (added h)))
 
 -- whichever way a search ends, it lists the codes that it is to list
-comes-lists : (command : ℕ) (everybody codes : List ℕ) (b : Bench) (o : Outcome) → (everybody ≡ [] → codes ≡ []) → Comes command everybody codes b o
+comes-lists : (command : ℕ) (everybody codes : List ℕ) (b : Bench) (o : Outcome) → (everybody ≡ [] → codes ≡ [])
+    → Comes command everybody codes b o
     → List·Permᴰ codes (o .listed)
 comes-lists command [] codes b o none c = rw (none refl, c .listed-is) List·Permᴰ·nil
 comes-lists command (n ∷ ns) [] b o none c = rw (c .listed-is) List·Permᴰ·nil
 comes-lists command (n ∷ ns) (k ∷ ks) b o none c = c .all-listed
 
 -- a code that was not added is refused, or not on the bench
-not-added : (h : List Call) → Each Typed h → (code : ℕ) → isAmong code (added h) ≡ false → onTheList (whyOf (after h) code .reason) ≡ false
+not-added : (h : List Call) → Each Typed h → (code : ℕ) → isAmong code (added h) ≡ false
+    → onTheList (whyOf (after h) code .reason) ≡ false
 not-added h t code a = ap (λ (w : Why). onTheList (w .reason)) (by-the-book h t code) ∙ rw a (by-test (sound code))
   where
-    by-test : (u : Bool) → onTheList ((if u then silent accepted NotOnBench else silent (codeRefusal code) NotOnBench) .reason) ≡ false
+    by-test : (u : Bool) → onTheList ((if u then silent accepted NotOnBench
+        else silent (codeRefusal code) NotOnBench) .reason) ≡ false
     by-test true = refl
     by-test false = refl
 
@@ -158,6 +177,7 @@ listed-by-reason h t = record {
   listed = λ f places room p q.
       rw (reasons-alarms h t)
       (comes-lists alarmSearch (added h) (alarms h) (after h) (searchOutcome alarmSearch (after h) places room)
-      (λ (e : added h ≡ []). ap (those (λ code. alarmed (page h code))) e) (demand-3 h t f places room p q .alarm-search .comes));
+      (λ (e : added h ≡ []). ap (those (λ code. alarmed (page h code))) e)
+      (demand-3 h t f places room p q .alarm-search .comes));
   no-other = not-added h t;
 }

@@ -1,14 +1,17 @@
--- Why a code is on the list of an alarm search, or is not (request E1): the reason, the reading and the two limits as they stood at the last conversion that
--- finished since power-up, and whether either of today's limits differs.
---     bandOf t high low      where a whole degree stands to its limits, equality included; with low above high it may be past both
---     bandOn p               where a page's reading stands to the page's limits: never by the flag, never by today's limits
+-- Why a code is on the list of an alarm search, or is not (request E1): the reason, the reading and the two limits as
+-- they stood at the last conversion that finished since power-up, and whether either of today's limits differs.
+--     bandOf t high low      where a whole degree stands to its limits, equality included; with low above high it may
+--                            be past both
+--     bandOn p               where a page's reading stands to the page's limits: never by the flag, never by today's
+--                            limits
 --     onTheList r            whether the reason puts a code on the list: high, low or both
 --     reasonNumber r         the number of a reason, 0 to 5
 --     silent n r             a refusal or a reason without numbers: zero, zero, zero and no
 --     limitsDiffer p pad     whether a limit of today, in scratchpad bytes 2 and 3, is another than the page's
 --     toldBy p pad           what a page says, with the scratchpad as it stands today
 --     whyAt b place          the same for the device at a place, or that there is none
---     whyOf b code           the answer for a code: 5, then 7, for a code that is not sound; else by the device with that code, or that there is none
+--     whyOf b code           the answer for a code: 5, then 7, for a code that is not sound; else by the device with
+--                            that code, or that there is none
 use Prim.Native.Nat.{ℕ}
 use mathlib.Core.Bool.{Bool, true, false, not, _&&_}
 use mathlib.Core.List.{List}

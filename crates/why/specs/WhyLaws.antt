@@ -19,7 +19,8 @@ module _ (b : Bench) (code : ℕ) where
   unfolding whyOf
   why-refused h = rw (ne-eqb (codeRefusal code) accepted h) refl
 
-  pub why-absent : codeRefusal code ≡ accepted → looked b code .refusal ≢ accepted → silent accepted NotOnBench ≡ whyOf b code
+  pub why-absent : codeRefusal code ≡ accepted → looked b code .refusal ≢ accepted
+      → silent accepted NotOnBench ≡ whyOf b code
   unfolding whyOf looked
   why-absent s h = rw (eq-eqb (codeRefusal code) accepted s) (by-place (placeOf b code) h)
     where
@@ -32,6 +33,7 @@ module _ (b : Bench) (code : ℕ) where
   unfolding whyOf looked
   why-there s h = rw (eq-eqb (codeRefusal code) accepted s) (by-place (placeOf b code) h)
     where
-      by-place : (p : Place) → lookedAt b p .refusal ≡ accepted → toldBy (lookedAt b p .device .page) (lookedAt b p .device .scratchpad) ≡ whyAt b p
+      by-place : (p : Place) → lookedAt b p .refusal ≡ accepted
+          → toldBy (lookedAt b p .device .page) (lookedAt b p .device .scratchpad) ≡ whyAt b p
       by-place (At i) k = refl
       by-place Nowhere k = absurd (omega arith)

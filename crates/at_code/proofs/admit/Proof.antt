@@ -17,11 +17,21 @@ is-free-requires c κs = search needs
 
 returns-2 : tie.Need-returns-2
 unfolding admission
-returns-2 c = simp (← c .before .before .before .refusal-of .ensures, eq-eqb _ _ (c .before .before .if1 .left), ← c .before .is-free .ensures, c .if2 .taken)
+returns-2 c = simp (
+  ← c .before .before .before .refusal-of .ensures,
+  eq-eqb _ _ (c .before .before .if1 .left),
+  ← c .before .is-free .ensures,
+  c .if2 .taken,
+)
 
 returns-3 : tie.Need-returns-3
 unfolding admission
-returns-3 c = simp (← c .before .before .before .refusal-of .ensures, eq-eqb _ _ (c .before .before .if1 .left), ← c .before .is-free .ensures, c .if2 .left)
+returns-3 c = simp (
+  ← c .before .before .before .refusal-of .ensures,
+  eq-eqb _ _ (c .before .before .if1 .left),
+  ← c .before .is-free .ensures,
+  c .if2 .left,
+)
 
 pub admit-spec : {M : Type 1} → statement M
 admit-spec = tie.close (tie.spec refusal-of-requires returns is-free-requires returns-2 returns-3)

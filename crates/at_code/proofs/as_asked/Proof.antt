@@ -27,7 +27,11 @@ configuration-as-asked-requires c κs = search needs
 
 returns-3 : tie.Need-returns-3
 unfolding asAsked
-returns-3 c = rw (c .configuration-as-asked .ensures, eq-eqb _ _ (c .before .before .before .if1 .left), eq-eqb _ _ (c .before .if2 .left))
+returns-3 c = rw (
+  c .configuration-as-asked .ensures,
+  eq-eqb _ _ (c .before .before .before .if1 .left),
+  eq-eqb _ _ (c .before .if2 .left),
+)
 
 pub as-asked-spec : {M : Type 1} → statement M
 as-asked-spec =

@@ -23,7 +23,14 @@ returns c =
     let family = judging .before in
     let reply = family .before .before in
     let address = reply .before in
-    simp (fetched-by, ← address .address .ensures, ← reply .read-reply .ensures, ← family .family-of .ensures, ← judging .judge .ensures, eq-eqb _ _ (c .before .before .if1 .taken))
+    simp (
+      fetched-by,
+      ← address .address .ensures,
+      ← reply .read-reply .ensures,
+      ← family .family-of .ensures,
+      ← judging .judge .ensures,
+      eq-eqb _ _ (c .before .before .if1 .taken),
+    )
 
 refuse-requires : tie.Need-refuse-requires
 refuse-requires c κs = search needs
@@ -34,7 +41,15 @@ returns-2 c =
     let family = judging .before in
     let reply = family .before .before in
     let address = reply .before in
-    simp (fetched-by, ← address .address .ensures, ← reply .read-reply .ensures, ← family .family-of .ensures, ← judging .judge .ensures, ne-eqb _ _ (c .before .before .if1 .left), c .refuse .ensures)
+    simp (
+      fetched-by,
+      ← address .address .ensures,
+      ← reply .read-reply .ensures,
+      ← family .family-of .ensures,
+      ← judging .judge .ensures,
+      ne-eqb _ _ (c .before .before .if1 .left),
+      c .refuse .ensures,
+    )
 
 pub fetch-spec : {M : Type 1} → statement M
 fetch-spec =

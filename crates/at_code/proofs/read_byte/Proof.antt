@@ -1,4 +1,5 @@
--- The loop's invariant: i read slots have been made, and the register holds the number that they showed in its upper i bits. `shifted-on` puts in the next bit.
+-- The loop's invariant: i read slots have been made, and the register holds the number that they showed in its upper i
+-- bits. `shifted-on` puts in the next bit.
 use Prim.Native.Nat.{ℕ, suc, _≤_, _+_, _-_, _*_, _^_}
 use mathlib.Core.Path.{_≡_, _∙_, refl, ap}
 use mathlib.Core.Bool.{true}
@@ -49,7 +50,13 @@ loop-again c =
       omega arith,
       rw (c .before .before .slot .ensures, p .loop .inv .1) (reads-more calls i b),
       c .push .ensures
-          ∙ rw (c .before .before .slot .ensures, p .loop .inv .1, p .loop .inv .2, left) (shifted-on i (8 - (i + 1)) (numberOf (bitsShown calls i b)) (slotted (afterSlots i b) true .line) seven)
+          ∙ rw (
+            c .before .before .slot .ensures,
+            p .loop .inv .1,
+            p .loop .inv .2,
+            left,
+          ) (shifted-on i (8 - (i + 1)) (numberOf (bitsShown calls i b)) (slotted (afterSlots i b) true .line)
+          seven)
           ∙ ap (λ (n : ℕ). n * 2 ^ (8 - (i + 1))) (shown-more calls i b),
     )
 

@@ -1,4 +1,5 @@
--- The loop's invariant says what is still to come: the bits that are left, sent on the bench as it stands, give the answer.
+-- The loop's invariant says what is still to come: the bits that are left, sent on the bench as it stands, give the
+-- answer.
 use Prim.Native.Nat.{_≤_, _-_}
 use mathlib.Core.Path.{_≡_, _∙_, sym}
 use native.Mathlib.Omega.{arith}
@@ -30,8 +31,13 @@ loop-less c = search needs
 loop-again : tie.Need-loop-again Inv-loop μ-loop
 loop-again c =
     let at-loop = c .before .before .before in
-    let count = at-loop .before .args .count in
-    (omega arith, rw (c .before .slot .ensures, ← bits-turn calls count (at-loop .loop .i) _ _ (c .before .before .loop-test .taken)) (at-loop .loop .inv .1))
+    let count = at-loop .before .args .count in (
+      omega arith,
+      rw (
+        c .before .slot .ensures,
+        ← bits-turn calls count (at-loop .loop .i) _ _ (c .before .before .loop-test .taken),
+      ) (at-loop .loop .inv .1),
+    )
 
 returns : tie.Need-returns Inv-loop μ-loop
 returns c =

@@ -23,14 +23,26 @@ write-and-compare-requires c κs = search needs
 
 returns-2 : tie.Need-returns-2
 unfolding writeAt
-returns-2 c = simp (← c .before .before .before .before .before .admit .ensures, eq-eqb _ _ (c .before .before .before .before .if1 .left), ← c .before .before .before .reset .ensures, c .before .if2 .taken, c .write-and-compare .ensures)
+returns-2 c = simp (
+  ← c .before .before .before .before .before .admit .ensures,
+  eq-eqb _ _ (c .before .before .before .before .if1 .left),
+  ← c .before .before .before .reset .ensures,
+  c .before .if2 .taken,
+  c .write-and-compare .ensures,
+)
 
 refuse-requires-2 : tie.Need-refuse-requires-2
 refuse-requires-2 c κs = search needs
 
 returns-3 : tie.Need-returns-3
 unfolding writeAt
-returns-3 c = simp (← c .before .before .before .before .before .admit .ensures, eq-eqb _ _ (c .before .before .before .before .if1 .left), ← c .before .before .before .reset .ensures, c .before .if2 .left, c .refuse2 .ensures)
+returns-3 c = simp (
+  ← c .before .before .before .before .before .admit .ensures,
+  eq-eqb _ _ (c .before .before .before .before .if1 .left),
+  ← c .before .before .before .reset .ensures,
+  c .before .if2 .left,
+  c .refuse2 .ensures,
+)
 
 pub write-at-spec : {M : Type 1} → statement M
 write-at-spec =

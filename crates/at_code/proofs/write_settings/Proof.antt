@@ -1,4 +1,5 @@
--- The address, then the two limits and, where the family has one, the configuration: the sends one behind the other are the definition's.
+-- The address, then the two limits and, where the family has one, the configuration: the sends one behind the other are
+-- the definition's.
 use Rattle.master_rules.specs.Access.{settingsSent}
 use borrow.Author.Needs.{needs}
 use Rattle.at_code.proofs.write_settings.Statement.{statement}

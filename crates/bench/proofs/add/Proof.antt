@@ -26,11 +26,22 @@ put-last-requires c κs = search needs
 
 returns-2 : tie.Need-returns-2
 unfolding addedTo
-returns-2 c = simp (← c .before .before .before .before .refusal-of .ensures, eq-eqb _ _ (c .before .before .before .if1 .left), ← c .before .before .find .ensures, c .enum-told .given .1)
+returns-2 c = simp (
+  ← c .before .before .before .before .refusal-of .ensures,
+  eq-eqb _ _ (c .before .before .before .if1 .left),
+  ← c .before .before .find .ensures,
+  c .enum-told .given .1,
+)
 
 returns-3 : tie.Need-returns-3
 unfolding addedTo
-returns-3 c = simp (← c .before .before .before .before .before .refusal-of .ensures, eq-eqb _ _ (c .before .before .before .before .if1 .left), ← c .before .before .before .find .ensures, c .before .enum-told2 .given .1, c .put-last .ensures)
+returns-3 c = simp (
+  ← c .before .before .before .before .before .refusal-of .ensures,
+  eq-eqb _ _ (c .before .before .before .before .if1 .left),
+  ← c .before .before .before .find .ensures,
+  c .before .enum-told2 .given .1,
+  c .put-last .ensures,
+)
 
 pub add-spec : {M : Type 1} → statement M
 add-spec =

@@ -1,4 +1,5 @@
--- The code is there, and its device ends its copy or is refused; or the code is refused. `known` is the place that was found, which lies within the table.
+-- The code is there, and its device ends its copy or is refused; or the code is refused. `known` is the place that was
+-- found, which lies within the table.
 use mathlib.Core.Path.{_≡_, sym, _∙_}
 use lib.ListN.{length, length-map}
 use Rattle.bench.specs.BenchLaws.{place-within}
@@ -34,8 +35,15 @@ enum-told c = search needs
 returns : tie.Need-returns
 unfolding copyFinished
 returns c =
-    let ended = c .before in let device = ended .before in let known = device .before .before in let found = known .before .before in
-    simp (← found .find .ensures, known .place .given .1, ← device .device-at .ensures, ← ended .end-copy .ensures, c .put-back .ensures)
+    let ended = c .before in let device = ended .before in let known = device .before .before in let found =
+    known .before .before in
+    simp (
+      ← found .find .ensures,
+      known .place .given .1,
+      ← device .device-at .ensures,
+      ← ended .end-copy .ensures,
+      c .put-back .ensures,
+    )
 
 returns-2 : tie.Need-returns-2
 unfolding copyFinished

@@ -17,7 +17,8 @@ device-at-requires : tie.Need-device-at-requires
 device-at-requires c κs =
     let a = c .before .before .before .before in
     let long : length (a .args .bench .devices) ≡ 32 = simp length-map at (a .good .0 .1 .1 .0 .1 .0 .1) in
-    place-within (a .args .bench) (a .args .code) _ long (sym (c .before .before .before .find .ensures) ∙ c .before .place .given .1)
+    place-within (a .args .bench) (a .args .code) _ long (sym (c .before .before .before .find .ensures)
+    ∙ c .before .place .given .1)
 
 enum-told : tie.Need-enum-told
 enum-told c = search needs
@@ -27,11 +28,19 @@ vacant-place-requires c κs = search needs
 
 returns : tie.Need-returns
 unfolding looked
-returns c = simp (← c .before .before .before .before .find .ensures, c .before .before .place .given .1, c .device-at .ensures)
+returns c = simp (
+  ← c .before .before .before .before .find .ensures,
+  c .before .before .place .given .1,
+  c .device-at .ensures,
+)
 
 returns-2 : tie.Need-returns-2
 unfolding looked
-returns-2 c = simp (← c .before .before .before .find .ensures, c .before .enum-told .given .1, c .vacant-place .ensures)
+returns-2 c = simp (
+  ← c .before .before .before .find .ensures,
+  c .before .enum-told .given .1,
+  c .vacant-place .ensures,
+)
 
 pub look-spec : {M : Type 1} → statement M
 look-spec =

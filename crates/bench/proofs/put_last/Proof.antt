@@ -39,7 +39,13 @@ returns-3 c =
     let test = c .before .before in
     let pins = test .before in
     let row = pins .before in
-    simp (lt-ltb _ _ (row .before .if1 .left), ← row .family-row .ensures, ← pins .pins-wrong .ensures, test .if2 .left, c .join .ensures)
+    simp (
+      lt-ltb _ _ (row .before .if1 .left),
+      ← row .family-row .ensures,
+      ← pins .pins-wrong .ensures,
+      test .if2 .left,
+      c .join .ensures,
+    )
 
 pub put-last-spec : {M : Type 1} → statement M
 put-last-spec =

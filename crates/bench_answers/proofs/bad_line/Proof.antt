@@ -22,7 +22,8 @@ returns : tie.Need-returns
 returns c =
     let room = c .before .before in
     let a = room .before .before .before .args in
-    let none = line-refused (now (a .out)) (a .at) (badLine) (sym (room .has-room .ensures) ∙ not-true (room .has-room .result) (c .before .if1 .taken)) in
+    let none = line-refused (now (a .out)) (a .at) (badLine) (sym (room .has-room .ensures)
+    ∙ not-true (room .has-room .result) (c .before .if1 .taken)) in
     (c .no-room .ensures ∙ none .0, none .1)
 
 put-bad-requires : tie.Need-put-bad-requires
@@ -40,7 +41,8 @@ returns-2 c =
     let room = put .before .before .before in
     let a = room .before .before .before .args in
     let short = bad-short in
-    let done = line-done (now (a .out)) (a .at) (badLine) (sym (room .has-room .ensures) ∙ not-false (room .has-room .result) (put .before .before .if1 .left)) short _ _ (put .put-bad .ensures) in
+    let done = line-done (now (a .out)) (a .at) (badLine) (sym (room .has-room .ensures)
+    ∙ not-false (room .has-room .result) (put .before .before .if1 .left)) short _ _ (put .put-bad .ensures) in
     (c .behind .ensures ∙ done .0, done .1)
 
 pub bad-line-spec : {M : Type 1} → statement M

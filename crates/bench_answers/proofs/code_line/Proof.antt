@@ -23,7 +23,8 @@ returns : tie.Need-returns
 returns c =
     let room = c .before .before in
     let a = room .before .before .before .args in
-    let none = line-refused (now (a .out)) (a .at) (codeLine (a .code)) (sym (room .has-room .ensures) ∙ not-true (room .has-room .result) (c .before .if1 .taken)) in
+    let none = line-refused (now (a .out)) (a .at) (codeLine (a .code)) (sym (room .has-room .ensures)
+    ∙ not-true (room .has-room .result) (c .before .if1 .taken)) in
     (c .no-room .ensures ∙ none .0, none .1)
 
 put-digits-requires : tie.Need-put-digits-requires
@@ -42,7 +43,10 @@ returns-2 c =
     let room = put .before .before .before in
     let a = room .before .before .before .args in
     let short = code-short (a .code) in
-    let done = line-done (now (a .out)) (a .at) (codeLine (a .code)) (sym (room .has-room .ensures) ∙ not-false (room .has-room .result) (put .before .before .if1 .left)) short _ _ (field-puts (now (a .out)) (a .at) (hexDigits 16 (a .code)) 0x0A (put .put-digits .last .0) (put .put-digits .result) (put .put-digits .ensures .0, put .put-digits .ensures .1)) in
+    let done = line-done (now (a .out)) (a .at) (codeLine (a .code)) (sym (room .has-room .ensures)
+    ∙ not-false (room .has-room .result) (put .before .before .if1 .left)) short
+    _ _ (field-puts (now (a .out)) (a .at) (hexDigits 16 (a .code)) 0x0A (put .put-digits .last .0)
+    (put .put-digits .result) (put .put-digits .ensures .0, put .put-digits .ensures .1)) in
     (c .behind .ensures ∙ done .0, done .1)
 
 pub code-line-spec : {M : Type 1} → statement M

@@ -19,7 +19,8 @@ returns : tie.Need-returns
 returns c =
     let lay = c .before .before in
     let a = c .before .before .before .before .before .before .args in
-    puts-laid (now (a .out)) (a .at) badLine (lay .lay .last .0) (lay .lay .result) (lay .lay .ensures .0) (lay .lay .ensures .1)
+    puts-laid (now (a .out)) (a .at) badLine (lay .lay .last .0) (lay .lay .result) (lay .lay .ensures .0)
+    (lay .lay .ensures .1)
 
 pub put-bad-spec : {M : Type 1} → statement M
 put-bad-spec = tie.close (tie.spec slice-aggregate-lay lay-requires same-length returns)

@@ -23,8 +23,13 @@ returns c =
     let bit = c .before .before in
     let refusal = bit .before .before .before .before in
     let a = refusal .before .before .before .args in
-    puts-field (decimal (a .refusal)) 0x20 (field-puts (now (a .out)) (a .at) (decimal (a .refusal)) 0x20 (refusal .put-number .last .0) (refusal .put-number .result) (refusal .put-number .ensures .0, refusal .put-number .ensures .1))
-    (field-puts (refusal .put-number .last .0) (refusal .put-number .result) (flag (a .bit)) 0x0A (bit .put-flag .last .0) (bit .put-flag .result) (bit .put-flag .ensures .0, bit .put-flag .ensures .1))
+    puts-field (decimal (a .refusal)) 0x20 (field-puts (now (a .out)) (a .at) (decimal (a .refusal)) 0x20
+    (refusal .put-number .last .0) (refusal .put-number .result) (
+      refusal .put-number .ensures .0,
+      refusal .put-number .ensures .1,
+    ))
+    (field-puts (refusal .put-number .last .0) (refusal .put-number .result) (flag (a .bit)) 0x0A
+    (bit .put-flag .last .0) (bit .put-flag .result) (bit .put-flag .ensures .0, bit .put-flag .ensures .1))
 
 pub put-bit-spec : {M : Type 1} → statement M
 put-bit-spec = tie.close (tie.spec put-number-requires put-flag-requires same-length returns)

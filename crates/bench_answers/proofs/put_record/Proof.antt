@@ -42,10 +42,29 @@ returns c =
     let pad = settings .before .before .before .before .before in
     let refusal = pad .before .before .before .before .before in
     let a = refusal .before .before .before .args in
-    puts-field (decimal (a .refusal)) 0x20 (field-puts (now (a .out)) (a .at) (decimal (a .refusal)) 0x20 (refusal .put-number .last .0) (refusal .put-number .result) (refusal .put-number .ensures .0, refusal .put-number .ensures .1))
-    (puts-field (hexOf (a .pad)) 0x20 (field-puts (refusal .put-number .last .0) (refusal .put-number .result) (hexOf (a .pad)) 0x20 (pad .put-bytes .last .0) (pad .put-bytes .result) (pad .put-bytes .ensures .0, pad .put-bytes .ensures .1))
-    (puts-field (settingsDigits (a .eeprom)) 0x20 (field-puts (pad .put-bytes .last .0) (pad .put-bytes .result) (settingsDigits (a .eeprom)) 0x20 (settings .put-bytes2 .last .0) (settings .put-bytes2 .result) (settings .put-bytes2 .ensures .0, settings .put-bytes2 .ensures .1))
-    (puts-field (flag (a .alarm)) 0x20 (field-puts (settings .put-bytes2 .last .0) (settings .put-bytes2 .result) (flag (a .alarm)) 0x20 (alarm .put-flag .last .0) (alarm .put-flag .result) (alarm .put-flag .ensures .0, alarm .put-flag .ensures .1)) (field-puts (alarm .put-flag .last .0) (alarm .put-flag .result) (busyDigit (a .activity)) 0x0A (busy .put-busy .last .0) (busy .put-busy .result) (busy .put-busy .ensures .0, busy .put-busy .ensures .1)))))
+    puts-field (decimal (a .refusal)) 0x20 (field-puts (now (a .out)) (a .at) (decimal (a .refusal)) 0x20
+    (refusal .put-number .last .0) (refusal .put-number .result) (
+      refusal .put-number .ensures .0,
+      refusal .put-number .ensures .1,
+    ))
+    (puts-field (hexOf (a .pad)) 0x20 (field-puts (refusal .put-number .last .0) (refusal .put-number .result)
+    (hexOf (a .pad)) 0x20 (pad .put-bytes .last .0) (pad .put-bytes .result) (
+      pad .put-bytes .ensures .0,
+      pad .put-bytes .ensures .1,
+    ))
+    (puts-field (settingsDigits (a .eeprom)) 0x20
+    (field-puts (pad .put-bytes .last .0) (pad .put-bytes .result) (settingsDigits (a .eeprom)) 0x20
+    (settings .put-bytes2 .last .0) (settings .put-bytes2 .result) (
+      settings .put-bytes2 .ensures .0,
+      settings .put-bytes2 .ensures .1,
+    ))
+    (puts-field (flag (a .alarm)) 0x20 (field-puts (settings .put-bytes2 .last .0) (settings .put-bytes2 .result)
+    (flag (a .alarm)) 0x20 (alarm .put-flag .last .0) (alarm .put-flag .result) (
+      alarm .put-flag .ensures .0,
+      alarm .put-flag .ensures .1,
+    )) (field-puts (alarm .put-flag .last .0) (alarm .put-flag .result)
+    (busyDigit (a .activity)) 0x0A (busy .put-busy .last .0) (busy .put-busy .result)
+    (busy .put-busy .ensures .0, busy .put-busy .ensures .1)))))
 
 pub put-record-spec : {M : Type 1} → statement M
 put-record-spec =

@@ -23,7 +23,9 @@ returns : tie.Need-returns
 returns c =
     let room = c .before .before in
     let a = room .before .before .before .args in
-    let none = line-refused (now (a .out)) (a .at) (recordLine (a .refusal) (a .pad) (a .eeprom) (a .alarm) (a .activity)) (sym (room .has-room .ensures) ∙ not-true (room .has-room .result) (c .before .if1 .taken)) in
+    let none = line-refused (now (a .out)) (a .at)
+    (recordLine (a .refusal) (a .pad) (a .eeprom) (a .alarm) (a .activity)) (sym (room .has-room .ensures)
+    ∙ not-true (room .has-room .result) (c .before .if1 .taken)) in
     (c .no-room .ensures ∙ none .0, none .1)
 
 put-record-requires : tie.Need-put-record-requires
@@ -43,7 +45,9 @@ returns-2 c =
     let a = start .args in
     let long : length (a .pad) ≡ 8 = search (needs, start .good .1 .1 .1 .0) in
     let short = record-short (a .refusal) (a .pad) (a .eeprom) (a .alarm) (a .activity) (search needs) long in
-    let done = line-done (now (a .out)) (a .at) (recordLine (a .refusal) (a .pad) (a .eeprom) (a .alarm) (a .activity)) (sym (room .has-room .ensures) ∙ not-false (room .has-room .result) (put .before .before .if1 .left)) short _ _ (put .put-record .ensures) in
+    let done = line-done (now (a .out)) (a .at) (recordLine (a .refusal) (a .pad) (a .eeprom) (a .alarm) (a .activity))
+    (sym (room .has-room .ensures) ∙ not-false (room .has-room .result) (put .before .before .if1 .left)) short
+    _ _ (put .put-record .ensures) in
     (c .behind .ensures ∙ done .0, done .1)
 
 pub record-line-spec : {M : Type 1} → statement M

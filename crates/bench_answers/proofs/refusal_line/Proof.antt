@@ -23,7 +23,8 @@ returns : tie.Need-returns
 returns c =
     let room = c .before .before in
     let a = room .before .before .before .args in
-    let none = line-refused (now (a .out)) (a .at) (refusalLine (a .refusal)) (sym (room .has-room .ensures) ∙ not-true (room .has-room .result) (c .before .if1 .taken)) in
+    let none = line-refused (now (a .out)) (a .at) (refusalLine (a .refusal)) (sym (room .has-room .ensures)
+    ∙ not-true (room .has-room .result) (c .before .if1 .taken)) in
     (c .no-room .ensures ∙ none .0, none .1)
 
 put-number-requires : tie.Need-put-number-requires
@@ -42,7 +43,10 @@ returns-2 c =
     let room = put .before .before .before in
     let a = room .before .before .before .args in
     let short = refusal-short (a .refusal) (search needs) in
-    let done = line-done (now (a .out)) (a .at) (refusalLine (a .refusal)) (sym (room .has-room .ensures) ∙ not-false (room .has-room .result) (put .before .before .if1 .left)) short _ _ (field-puts (now (a .out)) (a .at) (decimal (a .refusal)) 0x0A (put .put-number .last .0) (put .put-number .result) (put .put-number .ensures .0, put .put-number .ensures .1)) in
+    let done = line-done (now (a .out)) (a .at) (refusalLine (a .refusal)) (sym (room .has-room .ensures)
+    ∙ not-false (room .has-room .result) (put .before .before .if1 .left)) short
+    _ _ (field-puts (now (a .out)) (a .at) (decimal (a .refusal)) 0x0A (put .put-number .last .0)
+    (put .put-number .result) (put .put-number .ensures .0, put .put-number .ensures .1)) in
     (c .behind .ensures ∙ done .0, done .1)
 
 pub refusal-line-spec : {M : Type 1} → statement M

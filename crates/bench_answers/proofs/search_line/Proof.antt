@@ -22,7 +22,9 @@ returns : tie.Need-returns
 returns c =
     let room = c .before .before in
     let a = room .before .before .before .args in
-    let none = line-refused (now (a .out)) (a .at) (searchLine (a .refusal) (a .codes) (a .passes) (a .slots) (a .bytes)) (sym (room .has-room .ensures) ∙ not-true (room .has-room .result) (c .before .if1 .taken)) in
+    let none = line-refused (now (a .out)) (a .at)
+    (searchLine (a .refusal) (a .codes) (a .passes) (a .slots) (a .bytes)) (sym (room .has-room .ensures)
+    ∙ not-true (room .has-room .result) (c .before .if1 .taken)) in
     (c .no-room .ensures ∙ none .0, none .1)
 
 put-counts-requires : tie.Need-put-counts-requires
@@ -39,8 +41,11 @@ returns-2 c =
     let put = c .before .before .before in
     let room = put .before .before .before in
     let a = room .before .before .before .args in
-    let short = search-short (a .refusal) (a .codes) (a .passes) (a .slots) (a .bytes) (search needs) (search needs) (search needs) (search needs) (search needs) in
-    let done = line-done (now (a .out)) (a .at) (searchLine (a .refusal) (a .codes) (a .passes) (a .slots) (a .bytes)) (sym (room .has-room .ensures) ∙ not-false (room .has-room .result) (put .before .before .if1 .left)) short _ _ (put .put-counts .ensures) in
+    let short = search-short (a .refusal) (a .codes) (a .passes) (a .slots) (a .bytes) (search needs) (search needs)
+    (search needs) (search needs) (search needs) in
+    let done = line-done (now (a .out)) (a .at) (searchLine (a .refusal) (a .codes) (a .passes) (a .slots) (a .bytes))
+    (sym (room .has-room .ensures) ∙ not-false (room .has-room .result) (put .before .before .if1 .left)) short
+    _ _ (put .put-counts .ensures) in
     (c .behind .ensures ∙ done .0, done .1)
 
 pub search-line-spec : {M : Type 1} → statement M

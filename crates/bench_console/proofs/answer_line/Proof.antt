@@ -22,7 +22,9 @@ write-answer-requires c κs =
     let told = c .before .before .before .before in
     let a = told .before .before .before .before in
     let l : Line = record { chars = now (a .args .line); fed = a .args .fed } in
-    let front = told-front (a .args .bench) (a .args .store) l (now (a .args .out)) (a .pre .0) (told .answer .result) (told .answer .ensures .0) (told .answer .last .1 .1 .1 .1 .0) (told .answer .ensures .1 .0) (told .answer .ensures .1 .1) in
+    let front = told-front (a .args .bench) (a .args .store) l (now (a .args .out)) (a .pre .0) (told .answer .result)
+    (told .answer .ensures .0) (told .answer .last .1 .1 .1 .1 .0) (told .answer .ensures .1 .0)
+    (told .answer .ensures .1 .1) in
     rw (front .0) (a .pre .1)
 
 same-length : tie.Need-same-length
@@ -33,7 +35,9 @@ returns c =
     let told = c .before .before .before .before .before in
     let a = told .before .before .before .before in
     let l : Line = record { chars = now (a .args .line); fed = a .args .fed } in
-    told-front (a .args .bench) (a .args .store) l (now (a .args .out)) (a .pre .0) (told .answer .result) (told .answer .ensures .0) (told .answer .last .1 .1 .1 .1 .0) (told .answer .ensures .1 .0) (told .answer .ensures .1 .1) .1
+    told-front (a .args .bench) (a .args .store) l (now (a .args .out)) (a .pre .0) (told .answer .result)
+    (told .answer .ensures .0) (told .answer .last .1 .1 .1 .1 .0) (told .answer .ensures .1 .0)
+    (told .answer .ensures .1 .1) .1
 
 pub answer-line-spec : {M : Type 1} → statement M
 answer-line-spec =

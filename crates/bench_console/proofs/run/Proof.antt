@@ -12,7 +12,8 @@ use Rattle.bench_console.proofs.run.Tie as tie
 
 abbrev Inv-loop : tie.InvT-loop
 Inv-loop line₀ out₀ s₀ reads₀ line out s reads =
-    (length line ≡ length line₀) × (length out ≡ length out₀) × Standing benchConsole nothingYet (both (s .bench) (s .store)) line (s .held)
+    (length line ≡ length line₀) × (length out ≡ length out₀)
+    × Standing benchConsole nothingYet (both (s .bench) (s .store)) line (s .held)
 
 abbrev μ-loop : tie.MeasureT-loop
 μ-loop line₀ out₀ s₀ reads₀ line out s reads = reads
@@ -54,8 +55,11 @@ loop-less c = search needs
 loop-again : tie.Need-loop-again Inv-loop μ-loop
 loop-again c =
     let turn = c .before .before .before .before .before .before in
-    let l = turn .before .before .before .before in
-    (turn .read-some .kept .1 .0 ∙ l .loop .inv .0, turn .read-some .kept .1 .1 .0 ∙ l .loop .inv .1, turn .read-some .ensures)
+    let l = turn .before .before .before .before in (
+      turn .read-some .kept .1 .0 ∙ l .loop .inv .0,
+      turn .read-some .kept .1 .1 .0 ∙ l .loop .inv .1,
+      turn .read-some .ensures,
+    )
 
 same-length-3 : tie.Need-same-length-3 Inv-loop μ-loop
 same-length-3 c = search needs

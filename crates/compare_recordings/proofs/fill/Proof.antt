@@ -1,4 +1,5 @@
--- The loop's invariant: what was read so far is within the buffer, which has its length. The measure is what is left of it.
+-- The loop's invariant: what was read so far is within the buffer, which has its length. The measure is what is left of
+-- it.
 use Prim.Native.Nat.{_≤_, _-_}
 use mathlib.Core.Path.{_≡_}
 use lib.ListN.{length}

@@ -34,7 +34,8 @@ write-shown-requires c κs =
     let part = line .before .before in
     let a = part .before .before .before .before .before .args in
     let told = part .part .ensures in
-    heading-shown (now (a .reference)) (now (a .other)) (replicate 64 0) (part .part .last .1 .1 .0) (part .part .last .1 .1 .1 .0) (line .heading .result) (line .heading .last .0) (now (part .part .result)) refl
+    heading-shown (now (a .reference)) (now (a .other)) (replicate 64 0) (part .part .last .1 .1 .0)
+    (part .part .last .1 .1 .1 .0) (line .heading .result) (line .heading .last .0) (now (part .part .result)) refl
     (line .heading .ensures .0 .0) (line .heading .ensures .1) (told .1 .0) (told .1 .1 .0) (told .0)
 
 returns : tie.Need-returns

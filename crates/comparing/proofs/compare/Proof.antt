@@ -1,4 +1,5 @@
--- The loop's invariant: so many lines are the same in both, and the lines behind them begin at the place. The measure is what is left of the reference.
+-- The loop's invariant: so many lines are the same in both, and the lines behind them begin at the place. The measure
+-- is what is left of the reference.
 use Prim.Native.Nat.{_-_}
 use denote.Ref.{now}
 use mathlib.Core.Path.{sym, _∙_}
@@ -7,7 +8,8 @@ use native.Mathlib.Omega.{arith}
 use borrow.Author.Needs.{needs}
 use Rattle.text.specs.LinesLaws.{line-ends}
 use borrow.Author.Tests.{not-true, not-false}
-use Rattle.comparing.specs.DepartureLaws.{Walked, walk-start, walk-on, walk-differs, walk-other-ended, walk-ended, walk-equal}
+use Rattle.comparing.specs.DepartureLaws.{Walked, walk-start, walk-on, walk-differs, walk-other-ended, walk-ended}
+use Rattle.comparing.specs.DepartureLaws.{walk-equal}
 use Rattle.comparing.proofs.compare.Statement.{statement}
 use Rattle.comparing.proofs.compare.Tie as tie
 
@@ -28,7 +30,8 @@ returns c =
     let l = c .before .before .before in
     let a = l .before .before .before .args in
     c .behind-shared .ensures
-    ∙ walk-other-ended (now (a .reference)) (now (a .other)) (l .loop .at) (l .loop .shared) (l .loop .inv) (c .before .before .loop-test .taken) (c .before .if1 .taken)
+    ∙ walk-other-ended (now (a .reference)) (now (a .other)) (l .loop .at) (l .loop .shared) (l .loop .inv)
+    (c .before .before .loop-test .taken) (c .before .if1 .taken)
 
 same-line-requires : tie.Need-same-line-requires Inv-loop μ-loop
 same-line-requires c κs = search needs
@@ -42,7 +45,8 @@ returns-2 c =
     let l = k .before .before .before in
     let a = l .before .before .before .args in
     c .behind-shared2 .ensures
-    ∙ walk-differs (now (a .reference)) (now (a .other)) (l .loop .at) (l .loop .shared) (l .loop .inv) (k .before .before .loop-test .taken) (k .before .if1 .left)
+    ∙ walk-differs (now (a .reference)) (now (a .other)) (l .loop .at) (l .loop .shared) (l .loop .inv)
+    (k .before .before .loop-test .taken) (k .before .if1 .left)
     (sym (k .same-line .ensures) ∙ not-true (k .same-line .result) (c .before .if2 .taken))
 
 line-behind-requires : tie.Need-line-behind-requires Inv-loop μ-loop
@@ -66,8 +70,10 @@ loop-again c =
     let k = c .before .before in
     let l = k .before .before .before in
     let a = l .before .before .before .args in
-    walk-on (now (a .reference)) (now (a .other)) (l .loop .at) (l .loop .shared) (l .loop .inv) (k .before .before .loop-test .taken) (k .before .if1 .left)
-    (sym (k .same-line .ensures) ∙ not-false (k .same-line .result) (c .before .if2 .left)) (c .line-behind .result) (c .line-behind .ensures)
+    walk-on (now (a .reference)) (now (a .other)) (l .loop .at) (l .loop .shared) (l .loop .inv)
+    (k .before .before .loop-test .taken) (k .before .if1 .left)
+    (sym (k .same-line .ensures) ∙ not-false (k .same-line .result) (c .before .if2 .left)) (c .line-behind .result)
+    (c .line-behind .ensures)
 
 behind-shared-requires-3 : tie.Need-behind-shared-requires-3 Inv-loop μ-loop
 behind-shared-requires-3 c κs = search needs
@@ -77,13 +83,15 @@ returns-3 c =
     let l = c .before .before .before in
     let a = l .before .before .before .args in
     c .behind-shared3 .ensures
-    ∙ walk-ended (now (a .reference)) (now (a .other)) (l .loop .at) (l .loop .shared) (l .loop .inv) (c .before .before .loop-test .left) (c .before .if3 .taken)
+    ∙ walk-ended (now (a .reference)) (now (a .other)) (l .loop .at) (l .loop .shared) (l .loop .inv)
+    (c .before .before .loop-test .left) (c .before .if3 .taken)
 
 returns-4 : tie.Need-returns-4 Inv-loop μ-loop
 returns-4 c =
     let l = c .before .before in
     let a = l .before .before .before .args in
-    walk-equal (now (a .reference)) (now (a .other)) (l .loop .at) (l .loop .shared) (l .loop .inv) (c .before .loop-test .left) (c .if3 .left)
+    walk-equal (now (a .reference)) (now (a .other)) (l .loop .at) (l .loop .shared) (l .loop .inv)
+    (c .before .loop-test .left) (c .if3 .left)
 
 pub compare-spec : {M : Type 1} → statement M
 compare-spec =

@@ -15,12 +15,15 @@ use Rattle.comparing.proofs.part.Tie as tie
 
 -- what was found, by its side
 found : (c : tie.After-compare) (side : Side) → c .compare .result .side ≡ side →
-    let a = c .before .before .before .args in let s = recordingOf side (now (a .reference)) (now (a .other)) in let place = c .compare .result .place in
+    let a = c .before .before .before .args in let s = recordingOf side (now (a .reference)) (now (a .other)) in
+    let place = c .compare .result .place in
     (place ≤ length s) × (take (length s - place) (drop place s) ≡ partOf (now (a .reference)) (now (a .other)))
-found c side e = let a = c .before .before .before .args in from-side (now (a .reference)) (now (a .other)) (c .compare .result) (c .compare .ensures) side e
+found c side e = let a = c .before .before .before .args in
+    from-side (now (a .reference)) (now (a .other)) (c .compare .result) (c .compare .ensures) side e
 
 -- the numbers that go with it
-numbers : (c : tie.After-side-number) → let a = c .before .before .before .before .args in let d = departureOf (now (a .reference)) (now (a .other)) in
+numbers : (c : tie.After-side-number) → let a = c .before .before .before .before .args in let d =
+    departureOf (now (a .reference)) (now (a .other)) in
     (c .side-number .result ≡ sideNumber (d .side)) × (c .before .compare .result .line ≡ d .line)
 numbers c =
     let answered = c .before .compare .ensures in (

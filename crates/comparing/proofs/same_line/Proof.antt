@@ -10,10 +10,13 @@ use Rattle.comparing.proofs.same_line.Tie as tie
 
 -- each end is within its recording
 within : (c : tie.After-line-end) → c .line-end .result ≤ length (now (c .before .before .before .args .reference))
-within c = let a = c .before .before .before in line-by-end (now (a .args .reference)) (a .args .at) (c .line-end .result) (a .pre .0) (c .line-end .ensures) .0
+within c = let a = c .before .before .before in
+    line-by-end (now (a .args .reference)) (a .args .at) (c .line-end .result) (a .pre .0) (c .line-end .ensures) .0
 
-within-other : (c : tie.After-line-end2) → c .line-end2 .result ≤ length (now (c .before .before .before .before .args .other))
-within-other c = let a = c .before .before .before .before in line-by-end (now (a .args .other)) (a .args .at) (c .line-end2 .result) (a .pre .1) (c .line-end2 .ensures) .0
+within-other : (c : tie.After-line-end2) → c .line-end2 .result
+    ≤ length (now (c .before .before .before .before .args .other))
+within-other c = let a = c .before .before .before .before in
+    line-by-end (now (a .args .other)) (a .args .at) (c .line-end2 .result) (a .pre .1) (c .line-end2 .ensures) .0
 
 line-end-requires : tie.Need-line-end-requires
 line-end-requires c κs = search needs
@@ -25,7 +28,8 @@ returns : tie.Need-returns
 returns c =
     let k = c .before in
     let a = k .before .before .before .before in
-    lines-apart (now (a .args .reference)) (now (a .args .other)) (a .args .at) (k .before .line-end .result) (k .line-end2 .result)
+    lines-apart (now (a .args .reference)) (now (a .args .other)) (a .args .at) (k .before .line-end .result)
+    (k .line-end2 .result)
     (a .pre .0) (a .pre .1) (k .before .line-end .ensures) (k .line-end2 .ensures) (c .if1 .taken)
 
 sub-same : tie.Need-sub-same
@@ -54,8 +58,10 @@ returns-2 c =
     let e = c .before .before .before in
     let k = e .before in
     let a = k .before .before .before .before in
-    lines-by-characters (now (a .args .reference)) (now (a .args .other)) (a .args .at) (k .before .line-end .result) (k .line-end2 .result)
-    (a .pre .0) (a .pre .1) (k .before .line-end .ensures) (k .line-end2 .ensures) (e .if1 .left) (c .same .result) (c .same .ensures)
+    lines-by-characters (now (a .args .reference)) (now (a .args .other)) (a .args .at) (k .before .line-end .result)
+    (k .line-end2 .result)
+    (a .pre .0) (a .pre .1) (k .before .line-end .ensures) (k .line-end2 .ensures) (e .if1 .left) (c .same .result)
+    (c .same .ensures)
 
 pub same-line-spec : {M : Type 1} → statement M
 same-line-spec =

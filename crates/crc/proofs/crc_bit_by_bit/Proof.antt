@@ -1,4 +1,5 @@
--- The loop's invariant says what is still to come: the register as it stands, fed with the bits that are left, gives the answer.
+-- The loop's invariant says what is still to come: the register as it stands, fed with the bits that are left, gives
+-- the answer.
 use Prim.Native.Nat.{_≤_, _-_}
 use mathlib.Core.Path.{_≡_, _∙_, sym}
 use native.Mathlib.Omega.{arith}
@@ -10,7 +11,8 @@ use Rattle.crc.proofs.crc_bit_by_bit.Statement.{statement}
 use Rattle.crc.proofs.crc_bit_by_bit.Tie as tie
 
 abbrev Inv-loop : tie.InvT-loop
-Inv-loop register number count r₀ left₀ i₀ r left i = (i ≤ count) × (crcBits r (bitsOf (count - i) left) ≡ crcBits register (bitsOf count number))
+Inv-loop register number count r₀ left₀ i₀ r left i =
+    (i ≤ count) × (crcBits r (bitsOf (count - i) left) ≡ crcBits register (bitsOf count number))
 
 abbrev μ-loop : tie.MeasureT-loop
 μ-loop register number count r₀ left₀ i₀ r left i = count - i
@@ -30,8 +32,11 @@ loop-less c = search needs
 loop-again : tie.Need-loop-again Inv-loop μ-loop
 loop-again c =
     let at-loop = c .before .before in
-    let count = at-loop .before .args .count in
-    (omega arith, rw (c .crc-bit .ensures, ← crc-turn _ _ count (at-loop .loop .i) (c .before .loop-test .taken)) (at-loop .loop .inv .1))
+    let count = at-loop .before .args .count in (
+      omega arith,
+      rw (c .crc-bit .ensures, ← crc-turn _ _ count (at-loop .loop .i) (c .before .loop-test .taken))
+          (at-loop .loop .inv .1),
+    )
 
 returns : tie.Need-returns Inv-loop μ-loop
 returns c =

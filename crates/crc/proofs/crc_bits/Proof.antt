@@ -1,4 +1,5 @@
--- The loop's invariant says what is still to come: the register as it stands, fed with the bits that are left, gives the answer.
+-- The loop's invariant says what is still to come: the register as it stands, fed with the bits that are left, gives
+-- the answer.
 use mathlib.Core.Path.{_≡_, _∙_, refl}
 use borrow.Author.Needs.{needs}
 use Rattle.basic_laws.specs.Bits.{bitsOf}
@@ -8,7 +9,8 @@ use Rattle.crc.proofs.crc_bits.Statement.{statement}
 use Rattle.crc.proofs.crc_bits.Tie as tie
 
 abbrev Inv-loop : tie.InvT-loop
-Inv-loop register number count table r₀ left₀ rest₀ r left rest = crcBits r (bitsOf rest left) ≡ crcBits register (bitsOf count number)
+Inv-loop register number count table r₀ left₀ rest₀ r left rest =
+    crcBits r (bitsOf rest left) ≡ crcBits register (bitsOf count number)
 
 abbrev μ-loop : tie.MeasureT-loop
 μ-loop register number count table r₀ left₀ rest₀ r left rest = rest
@@ -31,7 +33,11 @@ loop-less c = search needs
 loop-again : tie.Need-loop-again Inv-loop μ-loop
 loop-again c =
     let at-loop = c .before .before .before in
-    rw (c .crc-byte .ensures, crc-byte-turn _ (at-loop .loop .left) (at-loop .loop .rest) (c .before .before .loop-test .taken)) (at-loop .loop .inv)
+    rw (
+      c .crc-byte .ensures,
+      crc-byte-turn _ (at-loop .loop .left) (at-loop .loop .rest)
+          (c .before .before .loop-test .taken),
+    ) (at-loop .loop .inv)
 
 crc-bit-by-bit-requires : tie.Need-crc-bit-by-bit-requires Inv-loop μ-loop
 crc-bit-by-bit-requires c κs = search needs

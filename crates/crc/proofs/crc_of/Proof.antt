@@ -39,8 +39,11 @@ loop-less c = search needs
 
 loop-again : tie.Need-loop-again Inv-loop μ-loop
 loop-again c =
-    let at-loop = c .before .before .before .before in
-    (omega arith, c .crc-byte .ensures ∙ rw (at-loop .loop .inv .1) (crc-byte-more _ _ (c .before .before .before .loop-test .taken)))
+    let at-loop = c .before .before .before .before in (
+      omega arith,
+      c .crc-byte .ensures ∙ rw (at-loop .loop .inv .1)
+          (crc-byte-more _ _ (c .before .before .before .loop-test .taken)),
+    )
 
 returns : tie.Need-returns Inv-loop μ-loop
 returns c =

@@ -1,4 +1,5 @@
--- The reader is one that pieces have led to, and the buffers keep their lengths. The measure is the number of turns that are left.
+-- The reader is one that pieces have led to, and the buffers keep their lengths. The measure is the number of turns
+-- that are left.
 use mathlib.Core.Path.{_≡_, refl, _∙_}
 use native.Mathlib.Omega.{arith}
 use borrow.Author.Tests.{not-false}
@@ -47,8 +48,11 @@ loop-less c = search needs
 loop-again : tie.Need-loop-again Inv-loop μ-loop
 loop-again c =
     let turn = c .before .before .before .before .before .before in
-    let inv = turn .before .before .before .before .before .loop .inv in
-    (turn .next-piece .kept .1 .0 ∙ inv .0, turn .next-piece .kept .1 .1 .0 ∙ inv .1, turn .next-piece .ensures (not-false _ (c .if1 .left)))
+    let inv = turn .before .before .before .before .before .loop .inv in (
+      turn .next-piece .kept .1 .0 ∙ inv .0,
+      turn .next-piece .kept .1 .1 .0 ∙ inv .1,
+      turn .next-piece .ensures (not-false _ (c .if1 .left)),
+    )
 
 same-length-3 : tie.Need-same-length-3 Inv-loop μ-loop
 same-length-3 c = search needs

@@ -13,7 +13,8 @@ count-allowed-requires c κs = search needs
 returns : tie.Need-returns
 returns c =
     let f = c .before .before .before .args .f in
-    let e : countAllowed (f .presence) (f .count) ≡ false = sym (c .before .count-allowed .ensures) ∙ not-true (c .before .count-allowed .result) (c .if1 .taken) in
+    let e : countAllowed (f .presence) (f .count) ≡ false =
+    sym (c .before .count-allowed .ensures) ∙ not-true (c .before .count-allowed .result) (c .if1 .taken) in
     rw e
 
 slice-aggregate-clear-from : tie.Need-slice-aggregate-clear-from
@@ -26,7 +27,8 @@ returns-2 : tie.Need-returns-2
 returns-2 c =
     let f = c .before .before .before .before .before .args .f in
     let a = c .before .before .before .count-allowed in
-    let e : countAllowed (f .presence) (f .count) ≡ true = sym (a .ensures) ∙ not-false (a .result) (c .before .before .if1 .left) in
+    let e : countAllowed (f .presence) (f .count) ≡ true =
+    sym (a .ensures) ∙ not-false (a .result) (c .before .before .if1 .left) in
     c .clear-from .ensures ∙ rw e
 
 pub can-carry-spec : {M : Type 1} → statement M

@@ -1,4 +1,5 @@
--- The loop's invariant: whether the bytes from `i` on are clear, from bit `from` of the first, is the answer. The measure is what is left.
+-- The loop's invariant: whether the bytes from `i` on are clear, from bit `from` of the first, is the answer. The
+-- measure is what is left.
 use mathlib.Core.Bool.{_&&_}
 use borrow.Author.Tests.{eq-eqb, ne-eqb}
 use denote.Ref.{now}
@@ -21,18 +22,25 @@ abbrev μ-loop : tie.MeasureT-loop
 
 -- one turn, at the byte that it reads
 step : (c : tie.After-shared-slice-known Inv-loop μ-loop)
-    → clearFrom (c .before .before .loop .from) (drop (c .before .before .loop .i) (now (c .before .before .before .args .bytes)))
-    ≡ (eqb (getD (now (c .before .before .before .args .bytes)) (c .before .before .loop .i) 0 / 2 ^ c .before .before .loop .from) 0
+    → clearFrom (c .before .before .loop .from)
+    (drop (c .before .before .loop .i) (now (c .before .before .before .args .bytes)))
+    ≡ (eqb (getD (now (c .before .before .before .args .bytes)) (c .before .before .loop .i) 0 / 2
+    ^ c .before .before .loop .from) 0
     && clearFrom 0 (drop (c .before .before .loop .i + 1) (now (c .before .before .before .args .bytes))))
 step c =
     let l = c .before .before in
-    clear-step (now (l .before .args .bytes)) (l .loop .from) (l .loop .i) (l .loop .inv .0) (c .before .loop-test .taken) (c .shared-slice-known .given (l .loop .i) .fits)
+    clear-step (now (l .before .args .bytes)) (l .loop .from) (l .loop .i) (l .loop .inv .0)
+    (c .before .loop-test .taken) (c .shared-slice-known .given (l .loop .i) .fits)
 
 cast-i : tie.Need-cast-i Inv-loop μ-loop
 cast-i c = search needs
 
 loop-holds : tie.Need-loop-holds Inv-loop μ-loop
-loop-holds c = (omega arith, clear-start (now (c .args .bytes)) (c .args .place % 8) (c .args .place / 8) (c .args .place) refl refl)
+loop-holds c = (
+  omega arith,
+  clear-start (now (c .args .bytes)) (c .args .place % 8) (c .args .place / 8)
+      (c .args .place) refl refl,
+)
 
 shared-slice-read-rest : tie.Need-shared-slice-read-rest Inv-loop μ-loop
 shared-slice-read-rest c = search needs
@@ -66,7 +74,8 @@ loop-again c =
 returns-2 : tie.Need-returns-2 Inv-loop μ-loop
 returns-2 c =
     let l = c .before in
-    sym (sym (l .loop .inv .1) ∙ clear-end (now (l .before .args .bytes)) (l .loop .from) (l .loop .i) (c .loop-test .left))
+    sym (sym (l .loop .inv .1) ∙ clear-end (now (l .before .args .bytes)) (l .loop .from) (l .loop .i)
+    (c .loop-test .left))
 
 pub clear-from-spec : {M : Type 1} → statement M
 clear-from-spec =

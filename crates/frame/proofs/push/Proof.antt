@@ -46,7 +46,11 @@ returns-2 c =
     let f = a .args .f in
     let b = a .args .bit in
     let room : f .count < 512 = omega arith in
-    let made : record { presence = f .presence; count = f .count + 1; bits = set (f .bits) (f .count / 8) (c .with-bit .result) } ≡ pushed f b =
+    let made : record {
+      presence = f .presence;
+      count = f .count + 1;
+      bits = set (f .bits) (f .count / 8) (c .with-bit .result);
+    } ≡ pushed f b =
     rw (c .with-bit .ensures) (sym (push-made f b (held a) room)) in
     (made, ap slotsOf made ∙ push-history f b (held a))
 

@@ -13,7 +13,8 @@ returns : tie.Need-returns
 returns c = sym (slot-none (c .before .before .args .f) (c .before .before .args .i) (c .if1 .taken))
 
 returns-2 : tie.Need-returns-2
-returns-2 c = sym (slot-past (c .before .before .before .args .f) (c .before .before .before .args .i) (long (c .before .before .before)) (c .if2 .taken))
+returns-2 c = sym (slot-past (c .before .before .before .args .f) (c .before .before .before .args .i)
+    (long (c .before .before .before)) (c .if2 .taken))
 
 cast-byte : tie.Need-cast-byte
 cast-byte c = search needs
@@ -28,7 +29,8 @@ shr-result : tie.Need-shr-result
 shr-result c = search needs
 
 returns-3 : tie.Need-returns-3
-returns-3 c = sym (slot-here (c .before .before .before .args .f) (c .before .before .before .args .i) (long (c .before .before .before)) (c .before .if1 .left) (c .if2 .left))
+returns-3 c = sym (slot-here (c .before .before .before .args .f) (c .before .before .before .args .i)
+    (long (c .before .before .before)) (c .before .if1 .left) (c .if2 .left))
 
 pub slot-bit-spec : {M : Type 1} → statement M
 slot-bit-spec =

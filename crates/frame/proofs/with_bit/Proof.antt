@@ -16,7 +16,8 @@ weight : (c : tie.Start) → 1 * 2 ^ c .args .i % 256 ≡ 2 ^ c .args .i
 weight c = let h : c .args .i ≤ 7 = omega arith in let k : 2 ^ c .args .i ≤ 128 = pow-mono h in omega arith
 
 sum : (c : tie.Start) (b : Bool)
-    → withBit (c .args .byte) (c .args .i) b + c .args .byte / 2 ^ c .args .i % 2 * 2 ^ c .args .i ≡ c .args .byte + bitNumber b * 2 ^ c .args .i
+    → withBit (c .args .byte) (c .args .i) b + c .args .byte / 2 ^ c .args .i % 2 * 2 ^ c .args .i
+    ≡ c .args .byte + bitNumber b * 2 ^ c .args .i
 sum c b = with-sum (c .args .byte) (c .args .i) b (c .fits .byte .fits) (c .pre)
 
 cast-weight : tie.Need-cast-weight
@@ -40,7 +41,8 @@ sub-cleared c = rw (weight c) (let e = sum c false in omega arith)
 add-result : tie.Need-add-result
 add-result c =
     let a = c .before in
-    rw (weight a) (let e = sum a true in let h = with-lt (a .args .byte) (a .args .i) true in let o = sum a false in record { fits = omega arith })
+    rw (weight a) (let e = sum a true in let h = with-lt (a .args .byte) (a .args .i) true in let o = sum a false in
+    record { fits = omega arith })
 
 returns : tie.Need-returns
 returns c =

@@ -1,4 +1,5 @@
--- The four ends of the call: the buffer is too short, the line stands whole in the piece, it ends there, and it has no feed.
+-- The four ends of the call: the buffer is too short, the line stands whole in the piece, it ends there, and it has no
+-- feed.
 use Prim.Native.Nat.{ℕ, _+_}
 use mathlib.Core.Path.{ap, _∙_}
 use mathlib.Core.Bool.{true}
@@ -8,7 +9,8 @@ use lib.ListN.{take}
 use Rattle.naming.specs.Naming.{lineNamed}
 use Rattle.naming.specs.declared.Named.{Named}
 use Rattle.host.specs.HostNaming.{toldName, openTold}
-use Rattle.host.specs.Laws.{lent-short, lent-in-place, lent-gathered, lent-open, ends-within, held-front, held-fits, held-few}
+use Rattle.host.specs.Laws.{lent-short, lent-in-place, lent-gathered, lent-open, ends-within, held-front}
+use Rattle.host.specs.Laws.{held-fits, held-few}
 use borrow.Author.Needs.{needs}
 use Rattle.host.proofs.next.Statement.{statement}
 use Rattle.host.proofs.next.Tie as tie
@@ -23,7 +25,8 @@ returns : tie.Need-returns
 returns c =
     let r = c .before in
     let a = r .before .before .before .before in
-    let ends = lent-short (now (a .args .line)) (a .args .held) (now (a .args .bytes)) (a .args .at) (a .args .ended) (r .before .if1 .taken) in
+    let ends = lent-short (now (a .args .line)) (a .args .held) (now (a .args .bytes)) (a .args .at) (a .args .ended)
+    (r .before .if1 .taken) in
     (c .tell-name .ensures ∙ ap (λ (n : Named). toldName n 0) (r .refuse .ensures) ∙ ends .0, ends .1)
 
 least-requires : tie.Need-least-requires
@@ -57,7 +60,8 @@ returns-2 c =
     let e = t .before .before in
     let l = e .before in
     let a = l .before .before .before .before in
-    lent-in-place (now (a .args .line)) (a .args .held) (now (a .args .bytes)) (a .args .at) (a .args .ended) (l .before .if1 .left) (l .least .result) (e .line-end .result) (l .least .ensures) (e .line-end .ensures)
+    lent-in-place (now (a .args .line)) (a .args .held) (now (a .args .bytes)) (a .args .at) (a .args .ended)
+    (l .before .if1 .left) (l .least .result) (e .line-end .result) (l .least .ensures) (e .line-end .ensures)
     (t .before .if2 .taken) (t .if3 .taken) (c .tell-name2 .result)
     (c .tell-name2 .ensures ∙ ap (λ (m : Named). toldName m (e .line-end .result + 1)) (n .name-line .ensures))
 
@@ -84,7 +88,8 @@ part-name-line-end-2 c =
     let h = c .before .before .before in
     let l = h .before .before .before .before .before .before in
     let a = l .before .before .before .before in
-    held-fits (now (a .args .line)) (take (a .args .held) (now (a .args .line))) _ (l .before .if1 .left) (h .hold .result) (h .hold .last .0) (h .hold .ensures .0) (h .hold .ensures .1)
+    held-fits (now (a .args .line)) (take (a .args .held) (now (a .args .line))) _ (l .before .if1 .left)
+    (h .hold .result) (h .hold .last .0) (h .hold .ensures .0) (h .hold .ensures .1)
 
 name-line-requires-2 : tie.Need-name-line-requires-2
 name-line-requires-2 c κs = search needs
@@ -109,9 +114,11 @@ returns-3 c =
     let line = now (a .args .line) in
     let u = take (a .args .held) line in
     let room = l .before .if1 .left in
-    let front = held-front line u _ room (h .hold .result) (h .hold .last .0) (h .hold .ensures .0) (h .hold .ensures .1) in
+    let front = held-front line u _ room (h .hold .result) (h .hold .last .0) (h .hold .ensures .0)
+    (h .hold .ensures .1) in
     let next = e .line-end .result + 1 in
-    lent-gathered line (a .args .held) (now (a .args .bytes)) (a .args .at) (a .args .ended) room (l .least .result) (e .line-end .result) (l .least .ensures) (e .line-end .ensures)
+    lent-gathered line (a .args .held) (now (a .args .bytes)) (a .args .at) (a .args .ended) room (l .least .result)
+    (e .line-end .result) (l .least .ensures) (e .line-end .ensures)
     (t .before .if2 .taken) (t .if3 .left) (h .hold .last .0) (c .tell-name3 .result) (h .hold .ensures .1)
     (c .tell-name3 .ensures ∙ ap (λ (m : Named). toldName m next) (n .name-line2 .ensures)
     ∙ ap (λ (cs : List ℕ). toldName (lineNamed record { chars = cs; fed = true }) next) front)
@@ -127,7 +134,8 @@ part-hold-end-2 c =
     let e = c .before .before in
     let l = e .before in
     let a = l .before .before .before .before in
-    ends-within (now (a .args .line)) (a .args .held) (now (a .args .bytes)) (a .args .at) (a .args .ended) (l .before .if1 .left) (l .least .result) (e .line-end .result) (l .least .ensures) (e .line-end .ensures)
+    ends-within (now (a .args .line)) (a .args .held) (now (a .args .bytes)) (a .args .at) (a .args .ended)
+    (l .before .if1 .left) (l .least .result) (e .line-end .result) (l .least .ensures) (e .line-end .ensures)
 
 hold-requires-2 : tie.Need-hold-requires-2
 hold-requires-2 c κs = search needs
@@ -143,14 +151,16 @@ part-tell-open-end c =
     let h = c .before .before .before in
     let l = h .before .before .before .before .before in
     let a = l .before .before .before .before in
-    held-fits (now (a .args .line)) (take (a .args .held) (now (a .args .line))) _ (l .before .if1 .left) (h .hold2 .result) (h .hold2 .last .0) (h .hold2 .ensures .0) (h .hold2 .ensures .1)
+    held-fits (now (a .args .line)) (take (a .args .held) (now (a .args .line))) _ (l .before .if1 .left)
+    (h .hold2 .result) (h .hold2 .last .0) (h .hold2 .ensures .0) (h .hold2 .ensures .1)
 
 tell-open-requires : tie.Need-tell-open-requires
 tell-open-requires c κs =
     let h = c .before .before .before .before in
     let l = h .before .before .before .before .before in
     let a = l .before .before .before .before in
-    held-few (now (a .args .line)) (take (a .args .held) (now (a .args .line))) _ (l .before .if1 .left) (h .hold2 .result) (h .hold2 .last .0) (h .hold2 .ensures .0) (h .hold2 .ensures .1)
+    held-few (now (a .args .line)) (take (a .args .held) (now (a .args .line))) _ (l .before .if1 .left)
+    (h .hold2 .result) (h .hold2 .last .0) (h .hold2 .ensures .0) (h .hold2 .ensures .1)
 
 same-length-2 : tie.Need-same-length-2
 same-length-2 c = search needs
@@ -165,8 +175,10 @@ returns-4 c =
     let line = now (a .args .line) in
     let u = take (a .args .held) line in
     let room = l .before .if1 .left in
-    let front = held-front line u _ room (h .hold2 .result) (h .hold2 .last .0) (h .hold2 .ensures .0) (h .hold2 .ensures .1) in
-    lent-open line (a .args .held) (now (a .args .bytes)) (a .args .at) (a .args .ended) room (l .least .result) (e .line-end .result) (l .least .ensures) (e .line-end .ensures)
+    let front = held-front line u _ room (h .hold2 .result) (h .hold2 .last .0) (h .hold2 .ensures .0)
+    (h .hold2 .ensures .1) in
+    lent-open line (a .args .held) (now (a .args .bytes)) (a .args .at) (a .args .ended) room (l .least .result)
+    (e .line-end .result) (l .least .ensures) (e .line-end .ensures)
     (t .if2 .left) (h .hold2 .last .0) (c .tell-open .result) (h .hold2 .ensures .1)
     (c .tell-open .ensures ∙ ap (λ (cs : List ℕ). openTold cs (a .args .ended) (e .line-end .result)) front)
 

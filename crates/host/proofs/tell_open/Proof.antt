@@ -30,7 +30,11 @@ tell-name-requires c κs = search needs
 returns-3 : tie.Need-returns-3
 returns-3 c =
     let n = c .before in
-    rw (n .before .before .if1 .left, ne-eqb _ _ (n .before .if2 .left), ← n .name-line .ensures) (c .tell-name .ensures)
+    rw (
+      n .before .before .if1 .left,
+      ne-eqb _ _ (n .before .if2 .left),
+      ← n .name-line .ensures,
+    ) (c .tell-name .ensures)
 
 pub tell-open-spec : {M : Type 1} → statement M
 tell-open-spec =

@@ -7,7 +7,8 @@ use Rattle.measure_search.proofs.search_often.Statement.{statement}
 use Rattle.measure_search.proofs.search_often.Tie as tie
 
 abbrev Inv-loop : tie.InvT-loop
-Inv-loop list₀ recording₀ b₀ t₀ i₀ t8 t9 t10 t11 t12 t13 list recording b t i = (i ≤ 100) × (length list ≡ length list₀) × (length recording ≡ length recording₀)
+Inv-loop list₀ recording₀ b₀ t₀ i₀ t8 t9 t10 t11 t12 t13 list recording b t i =
+    (i ≤ 100) × (length list ≡ length list₀) × (length recording ≡ length recording₀)
 
 abbrev μ-loop : tie.MeasureT-loop
 μ-loop list₀ recording₀ b₀ t₀ i₀ t8 t9 t10 t11 t12 t13 list recording b t i = 100 - i

@@ -41,7 +41,8 @@ write-left-requires : tie.Need-write-left-requires
 write-left-requires c κs =
     let m = c .before .before .before .before .before .before .before in
     let a = m .before .before .before .before .before .before .args in
-    text-said (now (a .bytes)) (now (a .left)) (now (a .report)) (m .mend .result .written) (m .mend .last .1 .0) (ap (λ (r : TextMended). r .written) (m .mend .ensures .0 .0)) (m .mend .ensures .1 .0)
+    text-said (now (a .bytes)) (now (a .left)) (now (a .report)) (m .mend .result .written) (m .mend .last .1 .0)
+    (ap (λ (r : TextMended). r .written) (m .mend .ensures .0 .0)) (m .mend .ensures .1 .0)
 
 same-length : tie.Need-same-length
 same-length c = search needs

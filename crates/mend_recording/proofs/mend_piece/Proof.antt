@@ -1,4 +1,5 @@
--- What is left stands at the front of its buffer, the report at the front of its own, and what is carried over within the piece.
+-- What is left stands at the front of its buffer, the report at the front of its own, and what is carried over within
+-- the piece.
 use Prim.Native.Nat.{_≤_}
 use denote.Ref.{now}
 use mathlib.Core.Path.{sym, ap}
@@ -41,7 +42,8 @@ write-left-requires : tie.Need-write-left-requires
 write-left-requires c κs =
     let f = c .before .before .before .before .before .before .before .before .before in
     let a = f .before .before .before .before .before .before .before .args in
-    piece-said (now (a .bytes)) (now (a .left)) (now (a .report)) (f .feed .result .written) (f .feed .last .1 .0) (ap (λ (r : PieceMended). r .written) (f .feed .ensures .0 .0)) (f .feed .ensures .1 .1 .0)
+    piece-said (now (a .bytes)) (now (a .left)) (now (a .report)) (f .feed .result .written) (f .feed .last .1 .0)
+    (ap (λ (r : PieceMended). r .written) (f .feed .ensures .0 .0)) (f .feed .ensures .1 .1 .0)
 
 same-length : tie.Need-same-length
 same-length c = search needs
@@ -54,8 +56,10 @@ same-length-3 c = search needs
 
 returns : tie.Need-returns
 returns c =
-    let f = c .before .before .before .before .before .before .before .before .before .before in
-    ((ap (λ (r : PieceMended). r .held) (f .feed .ensures .0 .0), f .feed .ensures .0 .1 .carries), f .feed .ensures .1 .0)
+    let f = c .before .before .before .before .before .before .before .before .before .before in (
+      (ap (λ (r : PieceMended). r .held) (f .feed .ensures .0 .0), f .feed .ensures .0 .1 .carries),
+      f .feed .ensures .1 .0,
+    )
 
 pub mend-piece-spec : {M : Type 1} → statement M
 mend-piece-spec =

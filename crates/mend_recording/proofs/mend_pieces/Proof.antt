@@ -1,5 +1,5 @@
--- The loop's invariant: what is carried over stands at the front of the buffer and is what the reads so far left, and the buffers have their lengths.
--- The measure is the number of turns that are left.
+-- The loop's invariant: what is carried over stands at the front of the buffer and is what the reads so far left, and
+-- the buffers have their lengths. The measure is the number of turns that are left.
 use Prim.Native.Nat.{_≤_}
 use mathlib.Core.Path.{_≡_, refl, _∙_}
 use native.Mathlib.Omega.{arith}
@@ -12,7 +12,8 @@ use Rattle.mend_recording.proofs.mend_pieces.Tie as tie
 
 abbrev Inv-loop : tie.InvT-loop
 Inv-loop buffer₀ left₀ report₀ piece₀ turns₀ buffer left report piece turns =
-    (piece .held ≤ length buffer₀) × (length buffer ≡ length buffer₀) × (length left ≡ length left₀) × (length report ≡ length report₀) × Ran mostHeldOfMending (take (piece .held) buffer)
+    (piece .held ≤ length buffer₀) × (length buffer ≡ length buffer₀) × (length left ≡ length left₀)
+    × (length report ≡ length report₀) × Ran mostHeldOfMending (take (piece .held) buffer)
 
 abbrev μ-loop : tie.MeasureT-loop
 μ-loop buffer₀ left₀ report₀ piece₀ turns₀ buffer left report piece turns = turns
@@ -53,8 +54,13 @@ loop-again c =
     let l = turn .before .before .before .before .before in
     let size = l .loop .inv .1 in
     let within = turn .next-piece .ensures .0 in
-    let ran = more (l .loop .inv .4) (turn .next-piece .ensures .1) in
-    (omega arith, turn .next-piece .kept .0 ∙ size, turn .next-piece .kept .1 .1 .0 ∙ l .loop .inv .2, turn .next-piece .kept .1 .1 .1 .0 ∙ l .loop .inv .3, ran)
+    let ran = more (l .loop .inv .4) (turn .next-piece .ensures .1) in (
+      omega arith,
+      turn .next-piece .kept .0 ∙ size,
+      turn .next-piece .kept .1 .1 .0 ∙ l .loop .inv .2,
+      turn .next-piece .kept .1 .1 .1 .0 ∙ l .loop .inv .3,
+      ran,
+    )
 
 same-length-4 : tie.Need-same-length-4 Inv-loop μ-loop
 same-length-4 c = search needs

@@ -1,4 +1,5 @@
--- What is read stands behind the bytes that are carried, and what is carried over afterwards is what the piece that they make leaves.
+-- What is read stands behind the bytes that are carried, and what is carried over afterwards is what the piece that
+-- they make leaves.
 use Prim.Native.Nat.{_-_, _≤_}
 use denote.Ref.{now}
 use mathlib.Core.Path.{_≡_, ap, _∙_}
@@ -61,8 +62,10 @@ returns-2 c =
     let few = lines-few s in
     let room : length s ≤ length (now (a .args .left)) = omega arith in
     let noted : length (linesOf s) ≤ length (now (a .args .report)) = omega arith in
-    let left = front-held s (now (a .args .left)) (now (a .args .report)) room noted (m .mend-piece .result .held) (m .mend-piece .last .0) (drop filled after) (m .mend-piece .ensures .0 .0) (m .mend-piece .ensures .1) in
-    let piece = read-behind before after held filled (read .read-behind .ensures .0 .0) (read .read-behind .ensures .1) in
+    let left = front-held s (now (a .args .left)) (now (a .args .report)) room noted (m .mend-piece .result .held)
+    (m .mend-piece .last .0) (drop filled after) (m .mend-piece .ensures .0 .0) (m .mend-piece .ensures .1) in
+    let piece = read-behind before after held filled (read .read-behind .ensures .0 .0)
+    (read .read-behind .ensures .1) in
     let less = m .mend-piece .ensures .0 .1 in
     (omega arith, fed (take (filled - held) (drop held after)) (left ∙ ap (carried mostHeldOfMending) piece))
 

@@ -42,7 +42,8 @@ returns c =
     let a = c .before .before .before .before .before .before .before .before in
     let held = a .args .held in
     let size = length-take-le held (now (a .args .buffer)) (a .pre) in
-    let bounds : (held ≤ held + c .count .result) × (held + c .count .result ≤ length (now (a .args .buffer))) = search needs in
+    let bounds : (held ≤ held + c .count .result) × (held + c .count .result ≤ length (now (a .args .buffer))) =
+    search needs in
     (bounds, take-at _ _ held size)
 
 pub read-behind-spec : {M : Type 1} → statement M

@@ -22,7 +22,8 @@ write-told-requires : tie.Need-write-told-requires
 write-told-requires c κs =
     let n = c .before .before .before in
     let a = n .before .before .before .before .args in
-    notices-tellable (a .before) (now (a .report)) (now (a .told)) (n .notices .result .written) (n .notices .last .0) (ap (λ (r : Noticed). r .written) (n .notices .ensures .0 .0)) (n .notices .ensures .1)
+    notices-tellable (a .before) (now (a .report)) (now (a .told)) (n .notices .result .written) (n .notices .last .0)
+    (ap (λ (r : Noticed). r .written) (n .notices .ensures .0 .0)) (n .notices .ensures .1)
 
 same-length : tie.Need-same-length
 same-length c = search needs

@@ -29,7 +29,8 @@ shared-slice-read-if1 c = search needs
 returns : tie.Need-returns Inv-loop μ-loop
 returns c =
     let l = c .before .before .before in
-    spaces-stop (now (l .before .args .s)) (l .loop .end) (l .loop .inv .0) (l .loop .inv .1) (c .before .before .loop-test .taken) (c .if1 .taken)
+    spaces-stop (now (l .before .args .s)) (l .loop .end) (l .loop .inv .0) (l .loop .inv .1)
+    (c .before .before .loop-test .taken) (c .if1 .taken)
 
 sub-end : tie.Need-sub-end Inv-loop μ-loop
 sub-end c = search needs
@@ -39,8 +40,11 @@ loop-less c = search needs
 
 loop-again : tie.Need-loop-again Inv-loop μ-loop
 loop-again c =
-    let l = c .before .before .before in
-    (omega arith, spaces-on (now (l .before .args .s)) (l .loop .end) (l .loop .inv .0) (l .loop .inv .1) (c .before .before .loop-test .taken) (c .if1 .left))
+    let l = c .before .before .before in (
+      omega arith,
+      spaces-on (now (l .before .args .s)) (l .loop .end) (l .loop .inv .0) (l .loop .inv .1)
+          (c .before .before .loop-test .taken) (c .if1 .left),
+    )
 
 returns-2 : tie.Need-returns-2 Inv-loop μ-loop
 returns-2 c =

@@ -16,7 +16,8 @@ use Rattle.mending.proofs.mend_chars.Statement.{statement}
 use Rattle.mending.proofs.mend_chars.Tie as tie
 
 -- the characters, raised, and the array's length
-there : (c : tie.After-put-raised) → let cs = now (c .before .before .before .args .line) in let chars = c .put-raised .last .0 in
+there : (c : tie.After-put-raised) → let cs = now (c .before .before .before .args .line) in let chars =
+    c .put-raised .last .0 in
     (length chars ≡ 257) × (take (length cs) chars ≡ map raised cs)
 there c =
     let a = c .before .before .before in
@@ -29,10 +30,12 @@ there c =
     )
 
 -- where the return stands
-placed : (c : tie.After-before-return) → let k = c .before .before .before .before .before in c .before-return .result ≤ length (now (k .before .before .before .args .line))
+placed : (c : tie.After-before-return) → let k = c .before .before .before .before .before in
+    c .before-return .result ≤ length (now (k .before .before .before .args .line))
 placed c =
     let k = c .before .before .before .before .before in
-    return-place (now (k .before .before .before .args .line)) (k .put-raised .last .0) (there k .1) (c .before-return .result) (c .before-return .ensures) .1
+    return-place (now (k .before .before .before .args .line)) (k .put-raised .last .0) (there k .1)
+    (c .before-return .result) (c .before-return .ensures) .1
 
 slice-aggregate-put-raised : tie.Need-slice-aggregate-put-raised
 slice-aggregate-put-raised c = search needs
@@ -107,9 +110,12 @@ returns c =
     let r = s .before .before in
     let e = r .before .before in
     let k = e .before .before .before in
-    repaired (now (k .before .before .before .args .line)) (k .put-raised .last .0) (there k .1) (r .before-return .result) (r .before-return .ensures) (k .before .before .before .pre) (there k .0)
-    (s .before-spaces .result) (s .before-spaces .ensures) (c .before .before .mark .result) (c .before .mark2 .result) (c .mark3 .result)
-    (c .before .before .mark .ensures .0 ∙ ap (λ (t : Bool). if t then 0 else 1) (e .same .ensures)) (c .before .mark2 .ensures .0) (c .mark3 .ensures .0)
+    repaired (now (k .before .before .before .args .line)) (k .put-raised .last .0) (there k .1)
+    (r .before-return .result) (r .before-return .ensures) (k .before .before .before .pre) (there k .0)
+    (s .before-spaces .result) (s .before-spaces .ensures) (c .before .before .mark .result) (c .before .mark2 .result)
+    (c .mark3 .result)
+    (c .before .before .mark .ensures .0 ∙ ap (λ (t : Bool). if t then 0 else 1) (e .same .ensures))
+    (c .before .mark2 .ensures .0) (c .mark3 .ensures .0)
 
 pub mend-chars-spec : {M : Type 1} → statement M
 mend-chars-spec =

@@ -26,26 +26,32 @@ abbrev given : tie.After-mend-chars → Line
 given c = record { chars = now (c .before .before .before .args .line); fed = true }
 
 -- the reader's refusal is that of the line, mended
-refusal : (c : tie.After-read-line) → c .read-line .result .refusal ≡ lineRefusal (mendedLine (given (c .before .before .before)))
+refusal : (c : tie.After-read-line) → c .read-line .result .refusal
+    ≡ lineRefusal (mendedLine (given (c .before .before .before)))
 refusal c =
     let m = c .before .before .before .mend-chars in
-    ap (λ (r : LineRead). r .refusal) (c .read-line .ensures) ∙ answer-refusal (readLine record { chars = take (m .result .end) (m .result .chars); fed = true }) 0
+    ap (λ (r : LineRead). r .refusal) (c .read-line .ensures)
+    ∙ answer-refusal (readLine record { chars = take (m .result .end) (m .result .chars); fed = true }) 0
     ∙ ap (λ (cs : List ℕ). lineRefusal record { chars = cs; fed = true }) (m .ensures .front)
 
 -- the text that is laid: the characters and the feed
-text : (c : tie.After-mend-chars) → let m = c .mend-chars .result in take (m .end + 1) (set (m .chars) (m .end) lineFeed) ≡ mendedChars (now (c .before .before .before .args .line)) ++ (lineFeed ∷ [])
+text : (c : tie.After-mend-chars) → let m = c .mend-chars .result in
+    take (m .end + 1) (set (m .chars) (m .end) lineFeed)
+    ≡ mendedChars (now (c .before .before .before .args .line)) ++ (lineFeed ∷ [])
 text c =
     let m = c .mend-chars in
     let few = m .ensures .few in
     let room = m .ensures .room in
     let place : m .result .end < length (m .result .chars) = omega arith in
-    rw (add-one (m .result .end)) (take-suc-set (m .result .chars) (m .result .end) lineFeed place) ∙ ap (λ (cs : List ℕ). cs ++ (lineFeed ∷ [])) (m .ensures .front)
+    rw (add-one (m .result .end)) (take-suc-set (m .result .chars) (m .result .end) lineFeed place)
+    ∙ ap (λ (cs : List ℕ). cs ++ (lineFeed ∷ [])) (m .ensures .front)
 
 mend-chars-requires : tie.Need-mend-chars-requires
 mend-chars-requires c κs = search needs
 
 array-share-prefix-chars : tie.Need-array-share-prefix-chars
-array-share-prefix-chars c = let m = c .before .mend-chars .ensures in let few = m .few in let room = m .room in omega arith
+array-share-prefix-chars c = let m = c .before .mend-chars .ensures in let few = m .few in let room = m .room in
+    omega arith
 
 slice-aggregate-read-line : tie.Need-slice-aggregate-read-line
 slice-aggregate-read-line c =
@@ -79,7 +85,8 @@ returns c =
     (d .drop-line .ensures .0 ∙ e .0, d .drop-line .ensures .1 ∙ e .1)
 
 array-write-chars : tie.Need-array-write-chars
-array-write-chars c = let m = c .before .before .before .before .before .mend-chars .ensures in let few = m .few in omega arith
+array-write-chars c = let m = c .before .before .before .before .before .mend-chars .ensures in let few = m .few in
+    omega arith
 
 add-next : tie.Need-add-next
 add-next c = let m = c .before .before .before .before .before .mend-chars .ensures in let few = m .few in omega arith
@@ -119,12 +126,17 @@ returns-2 c =
     let at = a .args .at in
     let chars = mendedChars (now (a .args .line)) ++ (lineFeed ∷ []) in
     let by = m .mend-chars .ensures .by in
-    let report : w .report-written .result ≡ (if eqb (alteredBy (now (a .args .line))) 0 then 0 else 16 + alteredBy (now (a .args .line))) =
+    let report : w .report-written .result ≡ (if eqb (alteredBy (now (a .args .line))) 0 then 0
+    else 16 + alteredBy (now (a .args .line))) =
     w .report-written .ensures ∙ ap (λ (n : ℕ). if eqb n 0 then 0 else 16 + n) by in
     let written : l .lay .result ≡ layAnswer out at chars = l .lay .ensures .0 ∙ ap (layAnswer out at) (text m) in
     let e = line-written (given m) out at (a .pre) refl (sym (refusal r) ∙ w .before .if1 .left) in (
       ap (λ (n : ℕ). record { report = n; written = l .lay .result }) report
-          ∙ ap (λ (v : Written). record { report = if eqb (alteredBy (now (a .args .line))) 0 then 0 else 16 + alteredBy (now (a .args .line)); written = v }) written ∙ e .0,
+          ∙ ap (λ (v : Written). record {
+            report = if eqb (alteredBy (now (a .args .line))) 0 then 0
+                else 16 + alteredBy (now (a .args .line));
+            written = v;
+          }) written ∙ e .0,
       l .lay .ensures .1 ∙ ap (layLeaves out at) (text m) ∙ e .1,
     )
 

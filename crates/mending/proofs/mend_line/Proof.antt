@@ -36,7 +36,8 @@ returns-2 c =
     let k = d .before .before in
     let a = k .before .before .before .before .args in
     let l : Line = record { chars = now (a .line); fed = a .fed } in
-    let e = line-dropped l (now (a .out)) (a .at) notHex (fate-open l (k .before .if1 .left) (not-true (a .fed) (k .if2 .taken))) in
+    let e = line-dropped l (now (a .out)) (a .at) notHex
+    (fate-open l (k .before .if1 .left) (not-true (a .fed) (k .if2 .taken))) in
     (d .drop-line2 .ensures .0 ∙ e .0, d .drop-line2 .ensures .1 ∙ e .1)
 
 mend-fed-requires : tie.Need-mend-fed-requires

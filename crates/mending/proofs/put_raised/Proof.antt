@@ -14,7 +14,8 @@ use Rattle.mending.proofs.put_raised.Statement.{statement}
 use Rattle.mending.proofs.put_raised.Tie as tie
 
 abbrev Inv-loop : tie.InvT-loop
-Inv-loop out₀ line i₀ out i = (i ≤ length line) × (length out ≡ length out₀) × (out ≡ laid out₀ 0 (take i (map raised line)))
+Inv-loop out₀ line i₀ out i = (i ≤ length line) × (length out ≡ length out₀)
+    × (out ≡ laid out₀ 0 (take i (map raised line)))
 
 abbrev μ-loop : tie.MeasureT-loop
 μ-loop out₀ line i₀ out i = length line - i
@@ -50,7 +51,8 @@ loop-again c =
     let front : 0 + i ≡ i = omega arith in (
       omega arith,
       simp length-set (l .loop .inv .1),
-      rw (l .loop .inv .2) (laid-next (now (a .args .out)) 0 (map raised line) i i 0 (c .raise .result) front within place (c .raise .ensures ∙ sym (List·getD-map raised line i 0))),
+      rw (l .loop .inv .2) (laid-next (now (a .args .out)) 0 (map raised line) i i 0 (c .raise .result) front within
+          place (c .raise .ensures ∙ sym (List·getD-map raised line i 0))),
     )
 
 same-length : tie.Need-same-length Inv-loop μ-loop

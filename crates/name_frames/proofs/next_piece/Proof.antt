@@ -1,4 +1,5 @@
--- What is read stands behind the bytes that are carried, and what is carried over afterwards is what the piece that they make leaves.
+-- What is read stands behind the bytes that are carried, and what is carried over afterwards is what the piece that
+-- they make leaves.
 use Prim.Native.Nat.{_-_, _/_, _≤_}
 use mathlib.Core.Path.{_≡_, ap, _∙_}
 use native.Mathlib.Omega.{arith}
@@ -54,9 +55,13 @@ returns-2 c =
     let same = read .read-behind .kept .0 in
     let size : length s ≡ filled = length-take-le filled after (omega arith) in
     let wide = a .pre .1 in
-    let room : length s ≤ length (now (a .args .text)) / mostPrinted = room-part mostPrinted (length s) (length (now (a .args .text))) (lit< tt) (omega arith) in
-    let left = front-carried printedLine mostPrinted mostHeldOfRecording s (now (a .args .text)) room (printed .print-piece .result .held) (printed .print-piece .last .0) (drop filled after) (printed .print-piece .ensures .0 .0) (printed .print-piece .ensures .1 .0) in
-    let piece = read-behind before after held filled (read .read-behind .ensures .0 .0) (read .read-behind .ensures .1) in
+    let room : length s ≤ length (now (a .args .text)) / mostPrinted =
+    room-part mostPrinted (length s) (length (now (a .args .text))) (lit< tt) (omega arith) in
+    let left = front-carried printedLine mostPrinted mostHeldOfRecording s (now (a .args .text)) room
+    (printed .print-piece .result .held) (printed .print-piece .last .0) (drop filled after)
+    (printed .print-piece .ensures .0 .0) (printed .print-piece .ensures .1 .0) in
+    let piece = read-behind before after held filled (read .read-behind .ensures .0 .0)
+    (read .read-behind .ensures .1) in
     let few = printed .print-piece .ensures .0 .1 in
     (omega arith, fed (take (filled - held) (drop held after)) (left ∙ ap (carried mostHeldOfRecording) piece))
 

@@ -24,7 +24,9 @@ write-said-requires : tie.Need-write-said-requires
 write-said-requires c κs =
     let last = c .before .before .before in
     let a = last .before .before .before .before in
-    finish-said printedLine mostPrinted (now (a .args .bytes)) (now (a .args .text)) (last .finish .result .next) (last .finish .last .1 .0) (ap (λ (w : Written). w .next) (last .finish .ensures .0 .0)) (last .finish .ensures .1)
+    finish-said printedLine mostPrinted (now (a .args .bytes)) (now (a .args .text)) (last .finish .result .next)
+    (last .finish .last .1 .0) (ap (λ (w : Written). w .next) (last .finish .ensures .0 .0))
+    (last .finish .ensures .1)
 
 same-length : tie.Need-same-length
 same-length c = search needs

@@ -24,7 +24,9 @@ write-said-requires : tie.Need-write-said-requires
 write-said-requires c κs =
     let fed = c .before .before .before .before .before in
     let a = fed .before .before .before .before .before in
-    feed-said printedLine mostPrinted mostHeldOfRecording (now (a .args .bytes)) (now (a .args .text)) (fed .feed .result .written) (fed .feed .last .1 .0) (ap (λ (f : Fed). f .written) (fed .feed .ensures .0 .0)) (fed .feed .ensures .1 .1)
+    feed-said printedLine mostPrinted mostHeldOfRecording (now (a .args .bytes)) (now (a .args .text))
+    (fed .feed .result .written) (fed .feed .last .1 .0) (ap (λ (f : Fed). f .written) (fed .feed .ensures .0 .0))
+    (fed .feed .ensures .1 .1)
 
 same-length : tie.Need-same-length
 same-length c = search needs

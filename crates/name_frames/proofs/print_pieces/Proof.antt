@@ -1,5 +1,5 @@
--- The loop's invariant: what is carried over stands at the front of the buffer and is what the reads so far left, and both buffers have their lengths.
--- The measure is the number of turns that are left.
+-- The loop's invariant: what is carried over stands at the front of the buffer and is what the reads so far left, and
+-- both buffers have their lengths. The measure is the number of turns that are left.
 use Prim.Native.Nat.{_≤_}
 use mathlib.Core.Path.{_≡_, refl, _∙_}
 use native.Mathlib.Omega.{arith}
@@ -11,7 +11,9 @@ use Rattle.name_frames.proofs.print_pieces.Statement.{statement}
 use Rattle.name_frames.proofs.print_pieces.Tie as tie
 
 abbrev Inv-loop : tie.InvT-loop
-Inv-loop buffer₀ text₀ held₀ turns₀ buffer text held turns = (held ≤ length buffer₀) × (length buffer ≡ length buffer₀) × (length text ≡ length text₀) × Ran mostHeldOfRecording (take held buffer)
+Inv-loop buffer₀ text₀ held₀ turns₀ buffer text held turns =
+    (held ≤ length buffer₀) × (length buffer ≡ length buffer₀) × (length text ≡ length text₀)
+    × Ran mostHeldOfRecording (take held buffer)
 
 abbrev μ-loop : tie.MeasureT-loop
 μ-loop buffer₀ text₀ held₀ turns₀ buffer text held turns = turns

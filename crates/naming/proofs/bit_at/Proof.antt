@@ -25,7 +25,8 @@ returns c =
     let a = c .before in
     let e : 8 * (a .args .slot / 8) + a .args .slot % 8 ≡ a .args .slot = omega arith in
     let h : a .args .slot / 8 < length (now (a .args .bits)) = omega arith in
-    sym (ap (λ (n : ℕ). getD (bytesBits (now (a .args .bits))) n false) (sym e) ∙ byte-bit (now (a .args .bits)) (a .args .slot / 8) (a .args .slot % 8) (omega arith) h)
+    sym (ap (λ (n : ℕ). getD (bytesBits (now (a .args .bits))) n false) (sym e)
+    ∙ byte-bit (now (a .args .bits)) (a .args .slot / 8) (a .args .slot % 8) (omega arith) h)
 
 pub bit-at-spec : {M : Type 1} → statement M
 bit-at-spec = tie.close (tie.spec shared-slice-read-byte cast-result shr-result returns)

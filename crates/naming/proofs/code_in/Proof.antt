@@ -12,7 +12,8 @@ use Rattle.naming.proofs.code_in.Statement.{statement}
 use Rattle.naming.proofs.code_in.Tie as tie
 
 abbrev Inv-loop : tie.InvT-loop
-Inv-loop bits code₀ left₀ code left = (left ≤ 8) × (code ≡ lowFirst (drop left (take 8 (drop 1 bits)))) × (code < 2 ^ (64 - 8 * left))
+Inv-loop bits code₀ left₀ code left = (left ≤ 8) × (code ≡ lowFirst (drop left (take 8 (drop 1 bits))))
+    × (code < 2 ^ (64 - 8 * left))
 
 abbrev μ-loop : tie.MeasureT-loop
 μ-loop bits code₀ left₀ code left = left
@@ -49,7 +50,8 @@ loop-again c =
     let e : 64 - 8 * (n - 1) ≡ 64 - 8 * n + 8 = omega arith in
     let p : 2 ^ (64 - 8 * (n - 1)) ≡ 2 ^ (64 - 8 * n) * 256 = ap (λ (k : ℕ). 2 ^ k) e ∙ pow-add 2 (64 - 8 * n) 8 in (
       omega arith,
-      rw (l .loop .inv .1) (code-before (now (l .before .args .bits)) (l .before .pre) n (c .before .loop-test .taken) (l .loop .inv .0)),
+      rw (l .loop .inv .1) (code-before (now (l .before .args .bits)) (l .before .pre) n (c .before .loop-test .taken)
+          (l .loop .inv .0)),
       omega (arith, c .shared-slice-known .given n),
     )
 

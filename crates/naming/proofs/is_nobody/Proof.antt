@@ -20,10 +20,23 @@ slot-bit-requires-2 : tie.Need-slot-bit-requires-2
 slot-bit-requires-2 c κs = search needs
 
 returns-2 : tie.Need-returns-2
-returns-2 c = simp (eq-eqb _ _ (c .before .before .before .before .before .before .if1 .left), ← c .before .before .before .before .is-search .ensures, c .before .before .before .if2 .taken, ← c .before .before .slot-bit .ensures, c .before .if3 .taken, c .slot-bit2 .ensures)
+returns-2 c = simp (
+  eq-eqb _ _ (c .before .before .before .before .before .before .if1 .left),
+  ← c .before .before .before .before .is-search .ensures,
+  c .before .before .before .if2 .taken,
+  ← c .before .before .slot-bit .ensures,
+  c .before .if3 .taken,
+  c .slot-bit2 .ensures,
+)
 
 returns-3 : tie.Need-returns-3
-returns-3 c = simp (eq-eqb _ _ (c .before .before .before .before .before .if1 .left), ← c .before .before .before .is-search .ensures, c .before .before .if2 .taken, ← c .before .slot-bit .ensures, c .if3 .left)
+returns-3 c = simp (
+  eq-eqb _ _ (c .before .before .before .before .before .if1 .left),
+  ← c .before .before .before .is-search .ensures,
+  c .before .before .if2 .taken,
+  ← c .before .slot-bit .ensures,
+  c .if3 .left,
+)
 
 returns-4 : tie.Need-returns-4
 returns-4 c = simp (eq-eqb _ _ (c .before .before .before .if1 .left), ← c .before .is-search .ensures, c .if2 .left)

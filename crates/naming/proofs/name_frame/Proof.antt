@@ -1,5 +1,6 @@
--- Each return is one line of the definition: the tests before it came out the other way, its own came out its way. `present`, `no-search`, `no-alarm`,
--- `somebody` and `no-pad` say what a test that came out the other way tells of the frame.
+-- Each return is one line of the definition: the tests before it came out the other way, its own came out its way.
+-- `present`, `no-search`, `no-alarm`, `somebody` and `no-pad` say what a test that came out the other way tells of the
+-- frame.
 use mathlib.Core.Path.{_≡_, sym, ap, _∙_}
 use mathlib.Core.Bool.{true, false}
 use borrow.Author.Tests.{not-false}
@@ -15,16 +16,20 @@ use Rattle.naming.proofs.name_frame.Tie as tie
 present : (c : tie.Else1) → c .before .before .args .f .presence ≡ true
 present c = not-false (c .before .before .args .f .presence) (c .if1 .left)
 
-no-search : (c : tie.Else2) → let head = c .before .before .before .before in sends (head .before .before .args .f) 200 searchRom ≡ false
+no-search : (c : tie.Else2) → let head = c .before .before .before .before in
+    sends (head .before .before .args .f) 200 searchRom ≡ false
 no-search c = sym (c .before .is-pass .ensures) ∙ c .if2 .left
 
-no-alarm : (c : tie.Else3) → let head = c .before .before .before .before .before .before in sends (head .before .before .args .f) 200 alarmSearch ≡ false
+no-alarm : (c : tie.Else3) → let head = c .before .before .before .before .before .before in
+    sends (head .before .before .args .f) 200 alarmSearch ≡ false
 no-alarm c = sym (c .before .is-pass2 .ensures) ∙ c .if3 .left
 
-somebody : (c : tie.Else4) → let head = c .before .before .before .before .before .before .before .before in isNobody (head .before .before .args .f) ≡ false
+somebody : (c : tie.Else4) → let head = c .before .before .before .before .before .before .before .before in
+    isNobody (head .before .before .args .f) ≡ false
 somebody c = sym (c .before .is-nobody .ensures) ∙ c .if4 .left
 
-no-pad : (c : tie.Else5) → let head = c .before .before .before .before .before .before .before .before .before .before in isPad (head .before .before .args .f) ≡ false
+no-pad : (c : tie.Else5) → let head = c .before .before .before .before .before .before .before .before .before .before
+    in isPad (head .before .before .args .f) ≡ false
 no-pad c = sym (c .before .is-pad .ensures) ∙ c .if5 .left
 
 -- a name that is the frame's has its number
@@ -60,7 +65,13 @@ returns-2 c =
     let test = pass .before .before in
     let head = test .before .before .before in
     let f = head .before .before .args .f in
-    let e : c .name-pass .result ≡ named f = simp (present head, ← test .is-pass .ensures, pass .before .if2 .taken, ← pass .read-pass .ensures, c .name-pass .ensures) in
+    let e : c .name-pass .result ≡ named f = simp (
+      present head,
+      ← test .is-pass .ensures,
+      pass .before .if2 .taken,
+      ← pass .read-pass .ensures,
+      c .name-pass .ensures,
+    ) in
     numbered f (c .name-pass .result) e
 
 is-pass-requires-2 : tie.Need-is-pass-requires-2
@@ -80,7 +91,15 @@ returns-3 c =
     let searched = test .before in
     let head = searched .before .before .before .before in
     let f = head .before .before .args .f in
-    let e : c .name-pass2 .result ≡ named f = simp (present head, no-search searched, ← test .is-pass2 .ensures, pass .before .if3 .taken, ← pass .read-pass2 .ensures, c .name-pass2 .ensures) in
+    let e : c .name-pass2 .result ≡ named f =
+    simp (
+      present head,
+      no-search searched,
+      ← test .is-pass2 .ensures,
+      pass .before .if3 .taken,
+      ← pass .read-pass2 .ensures,
+      c .name-pass2 .ensures,
+    ) in
     numbered f (c .name-pass2 .result) e
 
 is-nobody-requires : tie.Need-is-nobody-requires
@@ -97,7 +116,15 @@ returns-4 c =
     let searched = alarmed .before .before in
     let head = searched .before .before .before .before in
     let f = head .before .before .args .f in
-    let e : c .plain-name2 .result ≡ named f = simp (present head, no-search searched, no-alarm alarmed, ← test .is-nobody .ensures, c .before .if4 .taken, c .plain-name2 .ensures) in
+    let e : c .plain-name2 .result ≡ named f =
+    simp (
+      present head,
+      no-search searched,
+      no-alarm alarmed,
+      ← test .is-nobody .ensures,
+      c .before .if4 .taken,
+      c .plain-name2 .ensures,
+    ) in
     numbered f (c .plain-name2 .result) e
 
 is-pad-requires : tie.Need-is-pad-requires
@@ -123,7 +150,17 @@ returns-5 c =
     let searched = alarmed .before .before in
     let head = searched .before .before .before .before in
     let f = head .before .before .args .f in
-    let e : c .name-pad .result ≡ named f = simp (present head, no-search searched, no-alarm alarmed, somebody answered, ← test .is-pad .ensures, code .before .if5 .taken, ← code .code-in .ensures, ← pad .pad-in .ensures, c .name-pad .ensures) in
+    let e : c .name-pad .result ≡ named f = simp (
+      present head,
+      no-search searched,
+      no-alarm alarmed,
+      somebody answered,
+      ← test .is-pad .ensures,
+      code .before .if5 .taken,
+      ← code .code-in .ensures,
+      ← pad .pad-in .ensures,
+      c .name-pad .ensures,
+    ) in
     numbered f (c .name-pad .result) e
 
 plain-name-requires-3 : tie.Need-plain-name-requires-3
@@ -138,7 +175,15 @@ returns-6 c =
     let searched = alarmed .before .before in
     let head = searched .before .before .before .before in
     let f = head .before .before .args .f in
-    let e : c .plain-name3 .result ≡ named f = simp (present head, no-search searched, no-alarm alarmed, somebody answered, no-pad other, c .plain-name3 .ensures) in
+    let e : c .plain-name3 .result ≡ named f =
+    simp (
+      present head,
+      no-search searched,
+      no-alarm alarmed,
+      somebody answered,
+      no-pad other,
+      c .plain-name3 .ensures,
+    ) in
     numbered f (c .plain-name3 .result) e
 
 pub name-frame-spec : {M : Type 1} → statement M

@@ -23,7 +23,13 @@ name-judged-requires : tie.Need-name-judged-requires
 name-judged-requires c κs = search needs
 
 returns-2 : tie.Need-returns-2
-returns-2 c = simp (← c .before .before .before .before .refusal-of .ensures, ne-eqb _ _ (c .before .before .before .if1 .left), ← c .before .before .family-of .ensures, ← c .before .judge .ensures, c .name-judged .ensures)
+returns-2 c = simp (
+  ← c .before .before .before .before .refusal-of .ensures,
+  ne-eqb _ _ (c .before .before .before .if1 .left),
+  ← c .before .before .family-of .ensures,
+  ← c .before .judge .ensures,
+  c .name-judged .ensures,
+)
 
 pub name-pad-spec : {M : Type 1} → statement M
 name-pad-spec =

@@ -1,4 +1,5 @@
--- The loop's invariant: the triples from `left` on are allowed, and `code` is the number of their third bits. The measure is `left`.
+-- The loop's invariant: the triples from `left` on are allowed, and `code` is the number of their third bits. The
+-- measure is `left`.
 use Prim.Native.Nat.{_+_, _-_, _*_, _≤_}
 use mathlib.Core.Bool.{true, false}
 use mathlib.Core.Path.{_≡_, sym}
@@ -8,13 +9,15 @@ use denote.Ref.{now}
 use lib.ListN.{drop, getD}
 use Rattle.basic_laws.specs.Bits.{numberOf, bytesBits}
 use Rattle.naming.specs.Naming.{tripleAllowed, triplesAllowed, thirds, passSlots}
-use Rattle.naming.specs.Laws.{one-at-most, pass-end, pass-before, pass-lt, triples-drop, triples-more, triples-none, thirds-more, thirds-none}
+use Rattle.naming.specs.Laws.{one-at-most, pass-end, pass-before, pass-lt, triples-drop, triples-more}
+use Rattle.naming.specs.Laws.{triples-none, thirds-more, thirds-none}
 use borrow.Author.Needs.{needs}
 use Rattle.naming.proofs.read_pass.Statement.{statement}
 use Rattle.naming.proofs.read_pass.Tie as tie
 
 abbrev Inv-loop : tie.InvT-loop
-Inv-loop bits code₀ left₀ code left = (left ≤ 64) × (triplesAllowed (drop (3 * left) (passSlots bits)) ≡ true) × (code ≡ numberOf (thirds (drop (3 * left) (passSlots bits))))
+Inv-loop bits code₀ left₀ code left = (left ≤ 64) × (triplesAllowed (drop (3 * left) (passSlots bits)) ≡ true)
+    × (code ≡ numberOf (thirds (drop (3 * left) (passSlots bits))))
 
 abbrev μ-loop : tie.MeasureT-loop
 μ-loop bits code₀ left₀ code left = left
@@ -23,11 +26,16 @@ abbrev μ-loop : tie.MeasureT-loop
 verdict : (c : tie.After-triple-allowed Inv-loop μ-loop) →
     let n = c .before .before .before .before .before .loop .left in
     let bits = now (c .before .before .before .before .before .before .before .args .bits) in
-    tripleAllowed (getD (bytesBits bits) (8 + 3 * (n - 1)) false) (getD (bytesBits bits) (8 + 3 * (n - 1) + 1) false) (getD (bytesBits bits) (8 + 3 * (n - 1) + 2) false)
+    tripleAllowed (getD (bytesBits bits) (8 + 3 * (n - 1)) false) (getD (bytesBits bits) (8 + 3 * (n - 1) + 1) false)
+    (getD (bytesBits bits) (8 + 3 * (n - 1) + 2) false)
     ≡ c .triple-allowed .result
 verdict c =
     let taken = c .before in let complement = taken .before in let bit = complement .before in
-    rw (bit .bit-at .ensures, complement .bit-at2 .ensures, taken .bit-at3 .ensures) at (sym (c .triple-allowed .ensures))
+    rw (
+      bit .bit-at .ensures,
+      complement .bit-at2 .ensures,
+      taken .bit-at3 .ensures,
+    ) at (sym (c .triple-allowed .ensures))
 
 loop-holds : tie.Need-loop-holds Inv-loop μ-loop
 loop-holds c =
@@ -66,14 +74,17 @@ returns c =
     let l = c .before .before .before .before .before .before in
     let bits = now (l .before .before .args .bits) in
     let n = l .loop .left in
-    let b = pass-before bits (l .before .before .pre) n (c .before .before .before .before .before .loop-test .taken) (l .loop .inv .0) in
-    let v : triplesAllowed (drop (3 * (n - 1)) (passSlots bits)) ≡ false = rw (b, triples-more, verdict (c .before), not-true (c .before .triple-allowed .result) (c .if1 .taken)) in
+    let b = pass-before bits (l .before .before .pre) n (c .before .before .before .before .before .loop-test .taken)
+    (l .loop .inv .0) in
+    let v : triplesAllowed (drop (3 * (n - 1)) (passSlots bits)) ≡ false =
+    rw (b, triples-more, verdict (c .before), not-true (c .before .triple-allowed .result) (c .if1 .taken)) in
     rw (triples-drop (n - 1) (passSlots bits) v)
 
 mul-code : tie.Need-mul-code Inv-loop μ-loop
 mul-code c =
     let l = c .before .before .before .before .before .before in
-    let p = pass-lt (now (l .before .before .args .bits)) (l .before .before .pre) (l .loop .left) (c .before .before .before .before .before .loop-test .taken) (l .loop .inv .0) in
+    let p = pass-lt (now (l .before .before .args .bits)) (l .before .before .pre) (l .loop .left)
+    (c .before .before .before .before .before .loop-test .taken) (l .loop .inv .0) in
     let e = l .loop .inv .2 in
     omega arith
 
@@ -83,7 +94,8 @@ one-or-zero-requires c κs = search needs
 add-code : tie.Need-add-code Inv-loop μ-loop
 add-code c =
     let l = c .before .before .before .before .before .before .before in
-    let p = pass-lt (now (l .before .before .args .bits)) (l .before .before .pre) (l .loop .left) (c .before .before .before .before .before .before .loop-test .taken) (l .loop .inv .0) in
+    let p = pass-lt (now (l .before .before .args .bits)) (l .before .before .pre) (l .loop .left)
+    (c .before .before .before .before .before .before .loop-test .taken) (l .loop .inv .0) in
     let e = l .loop .inv .2 in
     let o = one-at-most (c .before .before .before .bit-at3 .result) in
     let f = c .one-or-zero .ensures in
@@ -98,9 +110,15 @@ loop-again c =
     let bits = now (l .before .before .args .bits) in
     let n = l .loop .left in
     let taken = c .before .before .before in
-    let b = pass-before bits (l .before .before .pre) n (c .before .before .before .before .before .before .loop-test .taken) (l .loop .inv .0) in (
+    let b = pass-before bits (l .before .before .pre) n
+    (c .before .before .before .before .before .before .loop-test .taken) (l .loop .inv .0) in (
       omega arith,
-      rw (b, triples-more, verdict (c .before .before), not-false (c .before .before .triple-allowed .result) (c .before .if1 .left)) (l .loop .inv .1),
+      rw (
+        b,
+        triples-more,
+        verdict (c .before .before),
+        not-false (c .before .before .triple-allowed .result) (c .before .if1 .left),
+      ) (l .loop .inv .1),
       rw (b, thirds-more, c .one-or-zero .ensures, taken .bit-at3 .ensures, l .loop .inv .2),
     )
 

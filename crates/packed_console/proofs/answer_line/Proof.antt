@@ -16,7 +16,9 @@ slice-reshare-prefix-write-answer c =
     let told = c .before .before .before .before .before in
     let a = told .before .before .before .before .before .before in
     let l : Line = record { chars = now (a .args .line); fed = a .args .fed } in
-    table-front (now (a .args .t)) (a .args .store) l (now (a .args .out)) (a .pre .0) (told .answer .result) (told .answer .ensures .0) (told .answer .last .1 .1 .1 .1 .0) (told .answer .ensures .1 .0) (told .answer .kept .1 .1 .1 .1 .0) (told .answer .last .0) (told .answer .ensures .1 .1) .0
+    table-front (now (a .args .t)) (a .args .store) l (now (a .args .out)) (a .pre .0) (told .answer .result)
+    (told .answer .ensures .0) (told .answer .last .1 .1 .1 .1 .0) (told .answer .ensures .1 .0)
+    (told .answer .kept .1 .1 .1 .1 .0) (told .answer .last .0) (told .answer .ensures .1 .1) .0
 
 slice-aggregate-write-answer : tie.Need-slice-aggregate-write-answer
 slice-aggregate-write-answer c = simp length-take (omega (arith, slice-reshare-prefix-write-answer (c .before)))
@@ -26,7 +28,10 @@ write-answer-requires c κs =
     let told = c .before .before .before .before .before .before in
     let a = told .before .before .before .before .before .before in
     let l : Line = record { chars = now (a .args .line); fed = a .args .fed } in
-    let front = table-front (now (a .args .t)) (a .args .store) l (now (a .args .out)) (a .pre .0) (told .answer .result) (told .answer .ensures .0) (told .answer .last .1 .1 .1 .1 .0) (told .answer .ensures .1 .0) (told .answer .kept .1 .1 .1 .1 .0) (told .answer .last .0) (told .answer .ensures .1 .1) in
+    let front = table-front (now (a .args .t)) (a .args .store) l (now (a .args .out)) (a .pre .0)
+    (told .answer .result) (told .answer .ensures .0) (told .answer .last .1 .1 .1 .1 .0)
+    (told .answer .ensures .1 .0) (told .answer .kept .1 .1 .1 .1 .0) (told .answer .last .0)
+    (told .answer .ensures .1 .1) in
     rw (front .1) (a .pre .1)
 
 same-length : tie.Need-same-length
@@ -40,7 +45,9 @@ returns c =
     let told = c .before .before .before .before .before .before .before .before in
     let a = told .before .before .before .before .before .before in
     let l : Line = record { chars = now (a .args .line); fed = a .args .fed } in
-    table-front (now (a .args .t)) (a .args .store) l (now (a .args .out)) (a .pre .0) (told .answer .result) (told .answer .ensures .0) (told .answer .last .1 .1 .1 .1 .0) (told .answer .ensures .1 .0) (told .answer .kept .1 .1 .1 .1 .0) (told .answer .last .0) (told .answer .ensures .1 .1) .2
+    table-front (now (a .args .t)) (a .args .store) l (now (a .args .out)) (a .pre .0) (told .answer .result)
+    (told .answer .ensures .0) (told .answer .last .1 .1 .1 .1 .0) (told .answer .ensures .1 .0)
+    (told .answer .kept .1 .1 .1 .1 .0) (told .answer .last .0) (told .answer .ensures .1 .1) .2
 
 pub answer-line-spec : {M : Type 1} → statement M
 answer-line-spec =

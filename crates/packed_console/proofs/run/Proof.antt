@@ -1,4 +1,5 @@
--- The run is one that reads have led to, and the table and the buffers keep their lengths. The measure is how many reads are left.
+-- The run is one that reads have led to, and the table and the buffers keep their lengths. The measure is how many
+-- reads are left.
 use mathlib.Core.Path.{_≡_, refl, _∙_}
 use native.Mathlib.Omega.{arith}
 use denote.Ref.{now}
@@ -12,7 +13,8 @@ use Rattle.packed_console.proofs.run.Tie as tie
 
 abbrev Inv-loop : tie.InvT-loop
 Inv-loop t₀ line₀ out₀ s₀ reads₀ t line out s reads =
-    (length t ≡ length t₀) × (length line ≡ length line₀) × (length out ≡ length out₀) × Standing tableConsole firstState (tableState t (s .store)) line (s .held)
+    (length t ≡ length t₀) × (length line ≡ length line₀) × (length out ≡ length out₀)
+    × Standing tableConsole firstState (tableState t (s .store)) line (s .held)
 
 abbrev μ-loop : tie.MeasureT-loop
 μ-loop t₀ line₀ out₀ s₀ reads₀ t line out s reads = reads
@@ -54,8 +56,12 @@ loop-less c = search needs
 loop-again : tie.Need-loop-again Inv-loop μ-loop
 loop-again c =
     let turn = c .before .before .before .before .before .before .before .before in
-    let l = turn .before .before .before .before .before in
-    (turn .read-some .kept .0 ∙ l .loop .inv .0, turn .read-some .kept .1 .1 .0 ∙ l .loop .inv .1, turn .read-some .kept .1 .1 .1 .0 ∙ l .loop .inv .2, turn .read-some .ensures)
+    let l = turn .before .before .before .before .before in (
+      turn .read-some .kept .0 ∙ l .loop .inv .0,
+      turn .read-some .kept .1 .1 .0 ∙ l .loop .inv .1,
+      turn .read-some .kept .1 .1 .1 .0 ∙ l .loop .inv .2,
+      turn .read-some .ensures,
+    )
 
 same-length-4 : tie.Need-same-length-4 Inv-loop μ-loop
 same-length-4 c = search needs

@@ -1,5 +1,5 @@
--- The loop's invariant: the run stands on what was taken so far, what is still to run of the piece leads where the whole piece leads, and the table and the buffers
--- have their lengths. The measure is what is left of the piece.
+-- The loop's invariant: the run stands on what was taken so far, what is still to run of the piece leads where the
+-- whole piece leads, and the table and the buffers have their lengths. The measure is what is left of the piece.
 use Prim.Native.Nat.{_≤_, _<_, _-_}
 use mathlib.Core.Path.{_≡_, refl, sym, _∙_}
 use native.Mathlib.Omega.{arith}
@@ -16,7 +16,8 @@ abbrev Inv-loop : tie.InvT-loop
 Inv-loop t₀ line₀ chunk out₀ s₀ at₀ t line out s at =
     (at ≤ length chunk) × (length line ≡ length line₀) × (length out ≡ length out₀) × (length t ≡ length t₀)
     × Standing tableConsole firstState (tableState t (s .store)) line (s .held)
-    × (runAfter tableConsole (runAt (tableState t₀ (s₀ .store)) line₀ (s₀ .held)) chunk ≡ runAfter tableConsole (runAt (tableState t (s .store)) line (s .held)) (drop at chunk))
+    × (runAfter tableConsole (runAt (tableState t₀ (s₀ .store)) line₀ (s₀ .held)) chunk
+    ≡ runAfter tableConsole (runAt (tableState t (s .store)) line (s .held)) (drop at chunk))
 
 abbrev μ-loop : tie.MeasureT-loop
 μ-loop t₀ line₀ chunk out₀ s₀ at₀ t line out s at = length chunk - at
@@ -33,7 +34,8 @@ end-line-requires c κs =
     let l = t .before .before .before .before in
     let a = l .before .before .before .before .before in
     let before : l .loop .at < length (now (a .args .chunk)) = omega arith in
-    let taken = line-taken (l .loop .inv .4) (now (a .args .chunk)) (l .loop .at) (t .take-line .result) (t .take-line .ensures .0) (t .take-line .last .0) (t .take-line .ensures .1) before in
+    let taken = line-taken (l .loop .inv .4) (now (a .args .chunk)) (l .loop .at) (t .take-line .result)
+    (t .take-line .ensures .0) (t .take-line .last .0) (t .take-line .ensures .1) before in
     let few = taken .few in
     let size = l .loop .inv .4 .size in
     let same = t .take-line .kept .0 in
@@ -47,7 +49,8 @@ loop-less c =
     let l = t .before .before .before .before in
     let a = l .before .before .before .before .before in
     let before : l .loop .at < length (now (a .args .chunk)) = omega arith in
-    let taken = line-taken (l .loop .inv .4) (now (a .args .chunk)) (l .loop .at) (t .take-line .result) (t .take-line .ensures .0) (t .take-line .last .0) (t .take-line .ensures .1) before in
+    let taken = line-taken (l .loop .inv .4) (now (a .args .chunk)) (l .loop .at) (t .take-line .result)
+    (t .take-line .ensures .0) (t .take-line .last .0) (t .take-line .ensures .1) before in
     let on = taken .on in
     let within = taken .within in
     omega arith
@@ -59,14 +62,17 @@ loop-again c =
     let l = t .before .before .before .before in
     let a = l .before .before .before .before .before in
     let before : l .loop .at < length (now (a .args .chunk)) = omega arith in
-    let taken = line-taken (l .loop .inv .4) (now (a .args .chunk)) (l .loop .at) (t .take-line .result) (t .take-line .ensures .0) (t .take-line .last .0) (t .take-line .ensures .1) before in
+    let taken = line-taken (l .loop .inv .4) (now (a .args .chunk)) (l .loop .at) (t .take-line .result)
+    (t .take-line .ensures .0) (t .take-line .last .0) (t .take-line .ensures .1) before in
     let is = e .end-line .ensures .0 in (
       taken .within,
       t .take-line .kept .0 ∙ l .loop .inv .1,
       e .end-line .kept .1 .1 .1 .1 .1 .0 ∙ l .loop .inv .2,
       e .end-line .kept .0 ∙ l .loop .inv .3,
-      taken .stands (tableState (e .end-line .last .0) (e .end-line .result .store)) (e .end-line .result .held) (t .take-line .kept .0) is (e .end-line .ensures .1),
-      l .loop .inv .5 ∙ taken .rest (tableState (e .end-line .last .0) (e .end-line .result .store)) (e .end-line .result .held) is,
+      taken .stands (tableState (e .end-line .last .0) (e .end-line .result .store)) (e .end-line .result .held)
+          (t .take-line .kept .0) is (e .end-line .ensures .1),
+      l .loop .inv .5 ∙ taken .rest (tableState (e .end-line .last .0) (e .end-line .result .store))
+          (e .end-line .result .held) is,
     )
 
 same-length : tie.Need-same-length Inv-loop μ-loop
@@ -83,7 +89,8 @@ returns c =
     let l = c .before in
     let a = l .before .before .before .before .before in
     let past : length (now (a .args .chunk)) ≤ l .loop .at = omega arith in
-    let done = piece-done tableConsole (runAt (tableState (l .loop .t) (l .loop .s .store)) (l .loop .line) (l .loop .s .held)) (now (a .args .chunk)) (l .loop .at) past in
+    let done = piece-done tableConsole (runAt (tableState (l .loop .t) (l .loop .s .store)) (l .loop .line)
+    (l .loop .s .held)) (now (a .args .chunk)) (l .loop .at) past in
     (sym (l .loop .inv .5 ∙ done), l .loop .inv .4)
 
 pub take-spec : {M : Type 1} → statement M

@@ -1,5 +1,5 @@
--- The loop's invariant: the first `i` bytes that are kept stand at the front, and those from `from` on are as they were. The measure is what is
--- left.
+-- The loop's invariant: the first `i` bytes that are kept stand at the front, and those from `from` on are as they
+-- were. The measure is what is left.
 use Prim.Native.Nat.{_+_, _-_, _<_, _≤_}
 use mathlib.Core.Path.{_≡_, refl, _∙_}
 use mathlib.Core.List.{[]}
@@ -16,7 +16,8 @@ use Rattle.pieces.proofs.keep_front.Statement.{statement}
 use Rattle.pieces.proofs.keep_front.Tie as tie
 
 abbrev Inv-loop : tie.InvT-loop
-Inv-loop s₀ from most count i₀ s i = (i ≤ count) × (length s ≡ length s₀) × (s ≡ laid s₀ 0 (take i (take most (drop from s₀))))
+Inv-loop s₀ from most count i₀ s i = (i ≤ count) × (length s ≡ length s₀)
+    × (s ≡ laid s₀ 0 (take i (take most (drop from s₀))))
 
 abbrev μ-loop : tie.MeasureT-loop
 μ-loop s₀ from most count i₀ s i = count - i
@@ -25,7 +26,8 @@ returns : tie.Need-returns Inv-loop μ-loop
 returns c =
     let a = c .before .before in
     let s = now (a .args .s) in
-    let none : take (a .args .most) (drop (a .args .from) s) ≡ [] = rw (drop-of-length-le s (le-of-lt (c .if1 .taken))) (take-nil (a .args .most)) in
+    let none : take (a .args .most) (drop (a .args .from) s) ≡ [] =
+    rw (drop-of-length-le s (le-of-lt (c .if1 .taken))) (take-nil (a .args .most)) in
     rw none (refl, laid-none s 0)
 
 sub-least : tie.Need-sub-least Inv-loop μ-loop

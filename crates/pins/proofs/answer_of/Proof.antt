@@ -28,7 +28,14 @@ shared-pin-requires : tie.Need-shared-pin-requires
 shared-pin-requires c κs = search needs
 
 returns : tie.Need-returns
-returns c = ap (λ s. record { refusal = 0; codes = c .before .before .before .before .before .args .read .codes; pins = c .before .before .before .before .before .args .read .pins; shared = s; bench = c .before .before .before .before .before .args .read .bench }) (c .shared-pin .ensures)
+returns c = ap (λ s. record {
+  refusal = 0;
+  codes = c .before .before .before .before .before .args .read .codes;
+  pins = c .before .before .before .before .before .args .read .pins;
+  shared = s;
+  bench =
+      c .before .before .before .before .before .args .read .bench;
+}) (c .shared-pin .ensures)
 
 pub answer-of-spec : {M : Type 1} → statement M
 answer-of-spec =

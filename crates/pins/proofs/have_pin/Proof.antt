@@ -39,7 +39,8 @@ loop-again c =
     let a = loop .before .before .args in
     let inv = loop .loop .inv in
     let more = have-more (a .pins .now) (a .pin) (loop .loop .i) (search needs) in
-    let same = c .count-pin .ensures ∙ ap (λ (n : ℕ). countedPin n (getD (a .pins .now) (loop .loop .i) 0) (a .pin)) (inv .1) ∙ more in
+    let same = c .count-pin .ensures ∙ ap (λ (n : ℕ). countedPin n (getD (a .pins .now) (loop .loop .i) 0) (a .pin))
+    (inv .1) ∙ more in
     let few = have-few (take (loop .loop .i + 1) (a .pins .now)) (a .pin) in
     let long = length-take (loop .loop .i + 1) (a .pins .now) in
     (search needs, same, omega (arith, few, long, same))
@@ -48,7 +49,8 @@ returns : tie.Need-returns Inv-loop μ-loop
 returns c =
     let loop = c .before in
     let a = loop .before .before .args in
-    loop .loop .inv .1 ∙ ap (λ (l : List ℕ). havePin l (a .pin)) (take-all (loop .loop .i) (a .pins .now) (search needs))
+    loop .loop .inv .1 ∙ ap (λ (l : List ℕ). havePin l (a .pin))
+    (take-all (loop .loop .i) (a .pins .now) (search needs))
 
 pub have-pin-spec : {M : Type 1} → statement M
 have-pin-spec =

@@ -1,4 +1,5 @@
--- The loop's invariant: the reading and the list hold what the codes so far have given, and no more codes than were passed. The measure is how many are left.
+-- The loop's invariant: the reading and the list hold what the codes so far have given, and no more codes than were
+-- passed. The measure is how many are left.
 use Prim.Native.Nat.{_-_, _≤_}
 use mathlib.Core.Path.{_≡_, refl}
 use native.Mathlib.Omega.{arith}
@@ -50,8 +51,14 @@ loop-again c =
     let a = loop .before .before .before .args in
     let inv = loop .loop .inv in
     let ended = one .read-one .ensures in
-    let next = fold-step pinsStep (nobodyRead (a .bench)) (loop .loop .i) (a .codes .now) 0 (search needs) in
-    (search needs, inv .1, omega (arith, ended .0, inv .2), search needs, inv .4, rw (← next) (ended .1 (a .list .now) _ (inv .5)))
+    let next = fold-step pinsStep (nobodyRead (a .bench)) (loop .loop .i) (a .codes .now) 0 (search needs) in (
+      search needs,
+      inv .1,
+      omega (arith, ended .0, inv .2),
+      search needs,
+      inv .4,
+      rw (← next) (ended .1 (a .list .now) _ (inv .5)),
+    )
 
 same-length : tie.Need-same-length Inv-loop μ-loop
 same-length c = search needs

@@ -1,4 +1,5 @@
--- Without pins nothing, after a refused reply the bench alone, else one code more (`holds-skip`, `holds-refused`, `holds-read`).
+-- Without pins nothing, after a refused reply the bench alone, else one code more (`holds-skip`, `holds-refused`,
+-- `holds-read`).
 use denote.Ref.{now}
 use mathlib.Core.Path.{sym, _∙_}
 use native.Mathlib.Omega.{arith}
@@ -26,8 +27,11 @@ returns-2 c =
     let test = read .before .before in
     let some = sym (test .before .is-pinned .ensures) ∙ not-false _ (test .if1 .left) in
     let refused = rw (read .read-at .ensures) at (c .if2 .taken) in
-    let a = test .before .before .before .args in
-    (omega arith, λ list0 f h. rw (read .read-at .ensures) (holds-refused list0 (now (a .list)) (a .r) f (a .code) h some refused))
+    let a = test .before .before .before .args in (
+      omega arith,
+      λ list0 f h. rw (read .read-at .ensures)
+          (holds-refused list0 (now (a .list)) (a .r) f (a .code) h some refused),
+    )
 
 cast-list : tie.Need-cast-list
 cast-list c = search needs
@@ -61,8 +65,11 @@ returns-3 c =
     let some = sym (test .before .is-pinned .ensures) ∙ not-false _ (test .if1 .left) in
     let done = rw (read .read-at .ensures) at (else .if2 .left) in
     let start = test .before .before .before in
-    let a = start .args in
-    (omega arith, λ list0 f h. rw (read .read-at .ensures) (holds-read list0 (now (a .list)) (a .r) f (a .code) h some done (start .pre .0)))
+    let a = start .args in (
+      omega arith,
+      λ list0 f h. rw (read .read-at .ensures)
+          (holds-read list0 (now (a .list)) (a .r) f (a .code) h some done (start .pre .0)),
+    )
 
 pub read-one-spec : {M : Type 1} → statement M
 read-one-spec =

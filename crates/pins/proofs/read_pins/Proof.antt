@@ -13,7 +13,10 @@ refuse-requires c κs = search needs
 returns : tie.Need-returns
 returns c =
     let a = c .before .before .before .args in
-    rw (few-places (a .bench) (length (now (a .list))) (c .before .if1 .taken)) (c .refuse .ensures, laid-none (now (a .list)) 0)
+    rw (few-places (a .bench) (length (now (a .list))) (c .before .if1 .taken)) (
+      c .refuse .ensures,
+      laid-none (now (a .list)) 0,
+    )
 
 slice-aggregate-search-and-read : tie.Need-slice-aggregate-search-and-read
 slice-aggregate-search-and-read c = search needs

@@ -29,7 +29,8 @@ returns c =
     let start = found .before .before .before .before .before .before in
     let a = start .args in
     let done = found .search .ensures in
-    let is = refused-is (a .bench) (now (a .found)) (now (a .recording)) (found .search .last .1 .0) (found .search .result) (start .pre .0) (start .pre .1) (done .0) (done .1 .0) (c .before .if1 .taken) in
+    let is = refused-is (a .bench) (now (a .found)) (now (a .recording)) (found .search .last .1 .0)
+    (found .search .result) (start .pre .0) (start .pre .1) (done .0) (done .1 .0) (c .before .if1 .taken) in
     rw is (c .refuse .ensures, laid-none (now (a .list)) 0)
 
 cast-read-all : tie.Need-cast-read-all
@@ -41,7 +42,8 @@ slice-reshare-prefix-read-all c =
     let start = found .before .before .before .before .before .before in
     let a = start .args in
     let done = found .search .ensures in
-    listed-within (a .bench) (now (a .found)) (now (a .recording)) (found .search .last .1 .0) (found .search .result) (start .pre .0) (start .pre .1) (done .0) (done .1 .0)
+    listed-within (a .bench) (now (a .found)) (now (a .recording)) (found .search .last .1 .0) (found .search .result)
+    (start .pre .0) (start .pre .1) (done .0) (done .1 .0)
 
 slice-aggregate-read-all : tie.Need-slice-aggregate-read-all
 slice-aggregate-read-all c =
@@ -49,7 +51,8 @@ slice-aggregate-read-all c =
     let start = found .before .before .before .before .before .before in
     let a = start .args in
     let done = found .search .ensures in
-    let within = listed-within (a .bench) (now (a .found)) (now (a .recording)) (found .search .last .1 .0) (found .search .result) (start .pre .0) (start .pre .1) (done .0) (done .1 .0) in
+    let within = listed-within (a .bench) (now (a .found)) (now (a .recording)) (found .search .last .1 .0)
+    (found .search .result) (start .pre .0) (start .pre .1) (done .0) (done .1 .0) in
     sym (length-take-le (found .search .result .codes) (found .search .last .1 .0) within)
 
 read-all-requires : tie.Need-read-all-requires
@@ -57,8 +60,11 @@ read-all-requires c κs =
     let found = c .before .before .before .before .before .before .before .before .before .before in
     let start = found .before .before .before .before .before .before in
     let a = start .args in
-    let done = found .search .ensures in
-    (listed-most (a .bench) (now (a .found)) (now (a .recording)) (found .search .last .1 .0) (found .search .result) (start .pre .0) (start .pre .1) (done .0) (done .1 .0), start .pre .2)
+    let done = found .search .ensures in (
+      listed-most (a .bench) (now (a .found)) (now (a .recording)) (found .search .last .1 .0) (found .search .result)
+          (start .pre .0) (start .pre .1) (done .0) (done .1 .0),
+      start .pre .2,
+    )
 
 answer-of-requires : tie.Need-answer-of-requires
 answer-of-requires c κs =
@@ -67,8 +73,10 @@ answer-of-requires c κs =
     let start = found .before .before .before .before .before .before in
     let a = start .args in
     let done = found .search .ensures in
-    let most = listed-most (a .bench) (now (a .found)) (now (a .recording)) (found .search .last .1 .0) (found .search .result) (start .pre .0) (start .pre .1) (done .0) (done .1 .0) in
-    let few = read-few (nobodyRead (found .search .result .bench)) (take (found .search .result .codes) (found .search .last .1 .0)) in
+    let most = listed-most (a .bench) (now (a .found)) (now (a .recording)) (found .search .last .1 .0)
+    (found .search .result) (start .pre .0) (start .pre .1) (done .0) (done .1 .0) in
+    let few = read-few (nobodyRead (found .search .result .bench))
+    (take (found .search .result .codes) (found .search .last .1 .0)) in
     let count = read .ensures .codes-are in
     omega (arith, most, few, count)
 
@@ -88,8 +96,12 @@ returns-2 c =
     let start = found .before .before .before .before .before .before in
     let a = start .args in
     let done = found .search .ensures in
-    let is = done-is (a .bench) (now (a .found)) (now (a .recording)) (found .search .last .1 .0) (found .search .result) (start .pre .0) (start .pre .1) (done .0) (done .1 .0) (c .before .before .before .before .before .before .before .if1 .left) in
-    (c .answer-of .ensures ∙ holds-answer _ _ _ _ (read .ensures) ∙ ap pinnedOf (sym is), read .ensures .list-is ∙ ap (pinsListAfter (now (a .list))) (sym is))
+    let is = done-is (a .bench) (now (a .found)) (now (a .recording)) (found .search .last .1 .0)
+    (found .search .result) (start .pre .0) (start .pre .1) (done .0) (done .1 .0)
+    (c .before .before .before .before .before .before .before .if1 .left) in (
+      c .answer-of .ensures ∙ holds-answer _ _ _ _ (read .ensures) ∙ ap pinnedOf (sym is),
+      read .ensures .list-is ∙ ap (pinsListAfter (now (a .list))) (sym is),
+    )
 
 pub search-and-read-spec : {M : Type 1} → statement M
 search-and-read-spec =

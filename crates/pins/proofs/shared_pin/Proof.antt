@@ -1,4 +1,5 @@
--- The loop's invariant: from the number that is looked at on, the answer is still to come. The measure is how many numbers are left.
+-- The loop's invariant: from the number that is looked at on, the answer is still to come. The measure is how many
+-- numbers are left.
 use Prim.Native.Nat.{_-_, _≤_}
 use mathlib.Core.Path.{_≡_, refl, sym, _∙_}
 use native.Mathlib.Omega.{arith}

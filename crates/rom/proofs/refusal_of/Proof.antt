@@ -13,7 +13,11 @@ crc-of-code-requires c κs = search needs
 
 returns : tie.Need-returns
 unfolding codeRefusal
-returns c = simp (← c .before .before .crc-byte-of .ensures, ← c .before .crc-of-code .ensures, ne-eqb _ _ (c .if1 .taken))
+returns c = simp (
+  ← c .before .before .crc-byte-of .ensures,
+  ← c .before .crc-of-code .ensures,
+  ne-eqb _ _ (c .if1 .taken),
+)
 
 family-of-requires : tie.Need-family-of-requires
 family-of-requires c κs = search needs
@@ -25,13 +29,27 @@ returns-2 : tie.Need-returns-2
 unfolding codeRefusal
 returns-2 c =
     let p = c .before .before .before .before in
-    simp (← p .before .crc-byte-of .ensures, ← p .crc-of-code .ensures, eq-eqb _ _ (c .before .before .before .if1 .left), ← c .before .before .family-of .ensures, ← c .before .properties-of .ensures, c .if2 .taken)
+    simp (
+      ← p .before .crc-byte-of .ensures,
+      ← p .crc-of-code .ensures,
+      eq-eqb _ _ (c .before .before .before .if1 .left),
+      ← c .before .before .family-of .ensures,
+      ← c .before .properties-of .ensures,
+      c .if2 .taken,
+    )
 
 returns-3 : tie.Need-returns-3
 unfolding codeRefusal
 returns-3 c =
     let p = c .before .before .before .before in
-    simp (← p .before .crc-byte-of .ensures, ← p .crc-of-code .ensures, eq-eqb _ _ (c .before .before .before .if1 .left), ← c .before .before .family-of .ensures, ← c .before .properties-of .ensures, c .if2 .left)
+    simp (
+      ← p .before .crc-byte-of .ensures,
+      ← p .crc-of-code .ensures,
+      eq-eqb _ _ (c .before .before .before .if1 .left),
+      ← c .before .before .family-of .ensures,
+      ← c .before .properties-of .ensures,
+      c .if2 .left,
+    )
 
 pub refusal-of-spec : {M : Type 1} → statement M
 refusal-of-spec =

@@ -15,7 +15,11 @@ with-counts-requires c κs = search needs
 
 returns : tie.Need-returns
 unfolding scratchpadAfter
-returns c = simp (c .with-counts .ensures, c .before .with-register .ensures, c .before .before .stored-reading .ensures)
+returns c = simp (
+  c .with-counts .ensures,
+  c .before .with-register .ensures,
+  c .before .before .stored-reading .ensures,
+)
 
 pub after-conversion-spec : {M : Type 1} → statement M
 after-conversion-spec = tie.close (tie.spec stored-reading-requires with-register-requires with-counts-requires returns)

@@ -1,5 +1,6 @@
--- Each return is one line of the definition: the tests before it came out the other way, its own came out its way. `simp` rewrites the
--- definition's tests by what the calls promise and by the branches taken. A place is named for the call or the branch that it follows.
+-- Each return is one line of the definition: the tests before it came out the other way, its own came out its way.
+-- `simp` rewrites the definition's tests by what the calls promise and by the branches taken. A place is named for the
+-- call or the branch that it follows.
 use borrow.Author.Needs.{needs}
 use Rattle.scratchpad.specs.Judgement.{judged}
 use Rattle.scratchpad.proofs.judge.Statement.{statement}
@@ -45,8 +46,16 @@ returns-3 c =
     let if3 = c .before in let kind = if3 .before in let row = kind .before in
     let if2 = row .before in let zeros = if2 .before in
     let if1 = zeros .before in let crc = if1 .before in
-    simp
-    (c .refuse3 .ensures, ← crc .crc-right .ensures, if1 .if1 .left, ← zeros .all-zeros .ensures, if2 .if2 .left, ← row .properties-of .ensures, ← kind .kind-right .ensures, if3 .if3 .taken)
+    simp (
+      c .refuse3 .ensures,
+      ← crc .crc-right .ensures,
+      if1 .if1 .left,
+      ← zeros .all-zeros .ensures,
+      if2 .if2 .left,
+      ← row .properties-of .ensures,
+      ← kind .kind-right .ensures,
+      if3 .if3 .taken,
+    )
 
 reading-in-requires : tie.Need-reading-in-requires
 reading-in-requires c κs = search needs
@@ -64,8 +73,19 @@ returns-4 c =
     let if3 = reading .before in let kind = if3 .before in let row = kind .before in
     let if2 = row .before in let zeros = if2 .before in
     let if1 = zeros .before in let crc = if1 .before in
-    simp
-    (c .refuse4 .ensures, ← crc .crc-right .ensures, if1 .if1 .left, ← zeros .all-zeros .ensures, if2 .if2 .left, ← row .properties-of .ensures, ← kind .kind-right .ensures, if3 .if3 .left, ← reading .reading-in .ensures, ← range .in-range .ensures, if4 .if4 .taken)
+    simp (
+      c .refuse4 .ensures,
+      ← crc .crc-right .ensures,
+      if1 .if1 .left,
+      ← zeros .all-zeros .ensures,
+      if2 .if2 .left,
+      ← row .properties-of .ensures,
+      ← kind .kind-right .ensures,
+      if3 .if3 .left,
+      ← reading .reading-in .ensures,
+      ← range .in-range .ensures,
+      if4 .if4 .taken,
+    )
 
 counts-believed-requires : tie.Need-counts-believed-requires
 counts-believed-requires c κs = search needs
@@ -81,8 +101,21 @@ returns-5 c =
     let if3 = reading .before in let kind = if3 .before in let row = kind .before in
     let if2 = row .before in let zeros = if2 .before in
     let if1 = zeros .before in let crc = if1 .before in
-    simp
-    (c .refuse5 .ensures, ← crc .crc-right .ensures, if1 .if1 .left, ← zeros .all-zeros .ensures, if2 .if2 .left, ← row .properties-of .ensures, ← kind .kind-right .ensures, if3 .if3 .left, ← reading .reading-in .ensures, ← range .in-range .ensures, if4 .if4 .left, ← counts .counts-believed .ensures, if5 .if5 .taken)
+    simp (
+      c .refuse5 .ensures,
+      ← crc .crc-right .ensures,
+      if1 .if1 .left,
+      ← zeros .all-zeros .ensures,
+      if2 .if2 .left,
+      ← row .properties-of .ensures,
+      ← kind .kind-right .ensures,
+      if3 .if3 .left,
+      ← reading .reading-in .ensures,
+      ← range .in-range .ensures,
+      if4 .if4 .left,
+      ← counts .counts-believed .ensures,
+      if5 .if5 .taken,
+    )
 
 fine-in-requires : tie.Need-fine-in-requires
 fine-in-requires c κs = search needs
@@ -95,8 +128,21 @@ returns-6 c =
     let if3 = reading .before in let kind = if3 .before in let row = kind .before in
     let if2 = row .before in let zeros = if2 .before in
     let if1 = zeros .before in let crc = if1 .before in
-    simp
-    (c .fine-in .ensures, ← crc .crc-right .ensures, if1 .if1 .left, ← zeros .all-zeros .ensures, if2 .if2 .left, ← row .properties-of .ensures, ← kind .kind-right .ensures, if3 .if3 .left, ← reading .reading-in .ensures, ← range .in-range .ensures, if4 .if4 .left, ← counts .counts-believed .ensures, if5 .if5 .left)
+    simp (
+      c .fine-in .ensures,
+      ← crc .crc-right .ensures,
+      if1 .if1 .left,
+      ← zeros .all-zeros .ensures,
+      if2 .if2 .left,
+      ← row .properties-of .ensures,
+      ← kind .kind-right .ensures,
+      if3 .if3 .left,
+      ← reading .reading-in .ensures,
+      ← range .in-range .ensures,
+      if4 .if4 .left,
+      ← counts .counts-believed .ensures,
+      if5 .if5 .left,
+    )
 
 pub judge-spec : {M : Type 1} → statement M
 judge-spec =

@@ -18,7 +18,8 @@ returns : tie.Need-returns
 returns c = search needs
 
 returns-2 : tie.Need-returns-2
-returns-2 c = rw (c .before .before .before .reading2 .given .1) (ap (λ (r : Converted). r .count) (c .before .to-sixteenths .ensures))
+returns-2 c = rw (c .before .before .before .reading2 .given .1)
+    (ap (λ (r : Converted). r .count) (c .before .to-sixteenths .ensures))
 
 pub sixteenths-of-spec : {M : Type 1} → statement M
 sixteenths-of-spec =

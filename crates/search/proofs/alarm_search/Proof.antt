@@ -1,4 +1,5 @@
--- The answer, the list and the recording are those of the run; that it misses nobody, after every history, is the theorem of demand 3.
+-- The answer, the list and the recording are those of the run; that it misses nobody, after every history, is the
+-- theorem of demand 3.
 use Rattle.history_laws.specs.Theorem.{alarm-promised}
 use borrow.Author.Needs.{needs}
 use Rattle.search.proofs.alarm_search.Statement.{statement}

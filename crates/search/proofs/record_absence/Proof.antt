@@ -16,11 +16,13 @@ use Rattle.search.proofs.record_absence.Tie as tie
 
 wrote : (c : tie.After-write-line-at)
     → (c .write-line-at .result .next ≡ 7)
-    × (c .write-line-at .last .0 ≡ laid (now (c .before .before .before .before .args .recording)) 0 (fedLine (blankFrame false)))
+    × (c .write-line-at .last .0 ≡ laid (now (c .before .before .before .before .args .recording)) 0
+    (fedLine (blankFrame false)))
 wrote c =
     let a = c .before .before .before .before in
     let n = blank-line in
-    let w = frame-written (now (a .args .recording)) 0 (blankFrame false) (blank-lineable false) (omega arith) (omega arith) in
+    let w = frame-written (now (a .args .recording)) 0 (blankFrame false) (blank-lineable false) (omega arith)
+    (omega arith) in
     let f = c .before .blank .ensures in
     let seven : 0 + length (fedLine (blankFrame false)) ≡ 7 = omega arith in
     (ap (λ r. r .next) (c .write-line-at .ensures .0) ∙ rw f (w .0 ∙ seven), c .write-line-at .ensures .1 ∙ rw f (w .1))

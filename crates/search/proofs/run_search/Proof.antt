@@ -41,7 +41,8 @@ returns-3 c =
     let t = c .before .before in
     let e = t .before in
     let a = e .before .before .before .before in
-    rw (wire-held (a .args .command) (a .args .bench) _ _ (e .before .if1 .left) (e .if2 .left) (sym (t .is-free .ensures) ∙ not-true (t .is-free .result) (c .before .if3 .taken)))
+    rw (wire-held (a .args .command) (a .args .bench) _ _ (e .before .if1 .left) (e .if2 .left)
+    (sym (t .is-free .ensures) ∙ not-true (t .is-free .result) (c .before .if3 .taken)))
     (c .refuse-search3 .ensures, (laid-none _ _, unrecorded _))
 
 reset-requires : tie.Need-reset-requires
@@ -61,9 +62,13 @@ returns-4 c =
     let t = r .before .before in
     let e = t .before in
     let a = e .before .before .before .before in
-    let gone : resetDone (a .args .bench) .presence ≡ false = rw (← r .reset .ensures) (not-true (r .reset .result .presence) (m .if4 .taken)) in
-    rw (nobody-there (a .args .command) (a .args .bench) _ _ (e .before .if1 .left) (e .if2 .left) (sym (t .is-free .ensures) ∙ not-false (t .is-free .result) (r .before .if3 .left)) gone)
-    (k .record-absence .ensures .0 ∙ ap (λ b. answerOf (lonelyOutcome (b .bench))) (r .reset .ensures), (laid-none _ _, k .record-absence .ensures .1))
+    let gone : resetDone (a .args .bench) .presence ≡ false =
+    rw (← r .reset .ensures) (not-true (r .reset .result .presence) (m .if4 .taken)) in
+    rw (nobody-there (a .args .command) (a .args .bench) _ _ (e .before .if1 .left) (e .if2 .left)
+    (sym (t .is-free .ensures) ∙ not-false (t .is-free .result) (r .before .if3 .left)) gone) (
+      k .record-absence .ensures .0 ∙ ap (λ b. answerOf (lonelyOutcome (b .bench))) (r .reset .ensures),
+      (laid-none _ _, k .record-absence .ensures .1),
+    )
 
 sweep-wire-requires : tie.Need-sweep-wire-requires
 sweep-wire-requires c κs =
@@ -84,10 +89,14 @@ returns-5 c =
     let t = r .before .before in
     let e = t .before in
     let a = e .before .before .before .before in
-    let there : resetDone (a .args .bench) .presence ≡ true = rw (← r .reset .ensures) (not-false (r .reset .result .presence) (m .if4 .left)) in
+    let there : resetDone (a .args .bench) .presence ≡ true =
+    rw (← r .reset .ensures) (not-false (r .reset .result .presence) (m .if4 .left)) in
     let x = k .sweep-wire .ensures in
-    rw (passes-made (a .args .command) (a .args .bench) _ _ (e .before .if1 .left) (e .if2 .left) (sym (t .is-free .ensures) ∙ not-false (t .is-free .result) (r .before .if3 .left)) there)
-    (ap answerBy (x .0) ∙ sym (found-answer _ _), (x .1 .0 ∙ sym (found-list _ _ _), x .1 .1 ∙ sym (found-recording _ _ _)))
+    rw (passes-made (a .args .command) (a .args .bench) _ _ (e .before .if1 .left) (e .if2 .left)
+    (sym (t .is-free .ensures) ∙ not-false (t .is-free .result) (r .before .if3 .left)) there) (
+      ap answerBy (x .0) ∙ sym (found-answer _ _),
+      (x .1 .0 ∙ sym (found-list _ _ _), x .1 .1 ∙ sym (found-recording _ _ _)),
+    )
 
 pub run-search-spec : {M : Type 1} → statement M
 run-search-spec =

@@ -1,5 +1,6 @@
--- The first pass goes on from the reset that showed presence, so that it is the pass after a reset of the bench given. The loop's invariant: whatever the first
--- pass has listed and recorded, after i passes the list and the recording hold what the passes so far have found and shown.
+-- The first pass goes on from the reset that showed presence, so that it is the pass after a reset of the bench given.
+-- The loop's invariant: whatever the first pass has listed and recorded, after i passes the list and the recording hold
+-- what the passes so far have found and shown.
 use Prim.Native.Nat.{_+_, _≤_, _-_}
 use mathlib.Core.List.{List}
 use Prim.Native.Nat.{ℕ}
@@ -11,7 +12,8 @@ use lib.Dec.{lit<}
 use lib.ListN.{length}
 use Rattle.bench.specs.declared.Bench.{Bench}
 use Rattle.master_rules.specs.Search.{fewestPlaces, fewestBytes}
-use Rattle.search.specs.Sweep.{Sweeping, noPass, sweeping-start, sweeping-as, sweeping-pass, sweeping-over, sweeping-lengths, sweeping-end}
+use Rattle.search.specs.Sweep.{Sweeping, noPass, sweeping-start, sweeping-as, sweeping-pass, sweeping-over}
+use Rattle.search.specs.Sweep.{sweeping-lengths, sweeping-end}
 use borrow.Author.Needs.{needs}
 use Rattle.search.proofs.sweep_wire.Statement.{statement}
 use Rattle.search.proofs.sweep_wire.Tie as tie
@@ -19,7 +21,8 @@ use Rattle.search.proofs.sweep_wire.Tie as tie
 abbrev Inv-loop : tie.InvT-loop
 Inv-loop command list₀ recording₀ s₀ i₀ list recording s i =
     (i ≤ 32)
-    × ((b : Bench) (l r : List ℕ) → fewestPlaces ≤ length l → fewestBytes ≤ length r → Sweeping command b l r 1 s₀ list₀ recording₀
+    × ((b : Bench) (l r : List ℕ) → fewestPlaces ≤ length l → fewestBytes ≤ length r
+    → Sweeping command b l r 1 s₀ list₀ recording₀
     → Sweeping command b l r i s list recording)
 
 abbrev μ-loop : tie.MeasureT-loop
@@ -30,20 +33,24 @@ abbrev start : tie.At-loop Inv-loop μ-loop → tie.Start Inv-loop μ-loop
 start c = c .before .before .before .before .before .before .before .before .before .before
 
 sweeping : (c : tie.At-loop Inv-loop μ-loop)
-    → let a = start c .args in Sweeping (a .command) (a .bench) (now (a .list)) (now (a .recording)) (c .loop .i) (c .loop .s) (c .loop .list) (c .loop .recording)
+    → let a = start c .args in Sweeping (a .command) (a .bench) (now (a .list)) (now (a .recording)) (c .loop .i)
+    (c .loop .s) (c .loop .list) (c .loop .recording)
 sweeping c =
     let first = c .before .before .before .before .before in
     let a = start c in
     let e = first .turn .ensures in
     let k = sweeping-start (a .args .command) (a .args .bench) (now (a .args .list)) (now (a .args .recording)) in
-    let t = sweeping-pass _ _ _ _ 0 (noPass (a .args .bench)) _ _ k (a .args .restarted) (a .pre .0) (lit< tt) refl (a .pre .1) (a .pre .2) in
+    let t = sweeping-pass _ _ _ _ 0 (noPass (a .args .bench)) _ _ k (a .args .restarted) (a .pre .0) (lit< tt) refl
+    (a .pre .1) (a .pre .2) in
     c .loop .inv .1 (a .args .bench) (now (a .args .list)) (now (a .args .recording)) (a .pre .1) (a .pre .2)
     (sweeping-as _ _ _ _ 1 (e .0) (e .1 .0) (e .1 .1) t)
 
 -- both slices have their length at every turn
 lengths : (c : tie.At-loop Inv-loop μ-loop)
-    → (length (c .loop .list) ≡ length (now (start c .args .list))) × (length (c .loop .recording) ≡ length (now (start c .args .recording)))
-lengths c = sweeping-lengths _ _ _ _ (c .loop .i) _ _ _ (sweeping c) (c .loop .inv .0) (start c .pre .1) (start c .pre .2)
+    → (length (c .loop .list) ≡ length (now (start c .args .list)))
+    × (length (c .loop .recording) ≡ length (now (start c .args .recording)))
+lengths c = sweeping-lengths _ _ _ _ (c .loop .i) _ _ _ (sweeping c) (c .loop .inv .0) (start c .pre .1)
+    (start c .pre .2)
 
 turn-requires : tie.Need-turn-requires Inv-loop μ-loop
 turn-requires c κs =
@@ -83,9 +90,11 @@ loop-again c =
           (λ t.
           let e = t .5 .ensures in
           sweeping-as _ _ _ _ (p .loop .i + 1) (t .12 ∙ e .0) (t .10 ∙ e .1 .0) (t .11 ∙ e .1 .1)
-          (sweeping-pass _ _ _ _ (p .loop .i) (p .loop .s) (p .loop .list) (p .loop .recording) k (t .2 .result .bench) (ap (λ r. r .bench) (t .2 .ensures))
+          (sweeping-pass _ _ _ _ (p .loop .i) (p .loop .s) (p .loop .list) (p .loop .recording) k (t .2 .result .bench)
+          (ap (λ r. r .bench) (t .2 .ensures))
           (c .before .loop-test .taken) (t .0 .taken) places room))
-          (λ t. rw (t .1, t .2, t .3) (sweeping-over _ _ _ _ (p .loop .i) (p .loop .s) (p .loop .list) (p .loop .recording) k (t .0 .left)))
+          (λ t. rw (t .1, t .2, t .3) (sweeping-over _ _ _ _ (p .loop .i) (p .loop .s) (p .loop .list)
+          (p .loop .recording) k (t .0 .left)))
           (c .if1 .came),
     )
 

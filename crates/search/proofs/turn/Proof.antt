@@ -15,7 +15,8 @@ use Rattle.search.proofs.turn.Tie as tie
 abbrev begun : tie.After-pass → tie.Start
 begun c = c .before .before .before
 
-made : (c : tie.After-pass) → c .pass .result ≡ passFrom (begun c .args .command) (begun c .args .s) (begun c .args .restarted)
+made : (c : tie.After-pass) → c .pass .result
+    ≡ passFrom (begun c .args .command) (begun c .args .s) (begun c .args .restarted)
 unfolding passFrom
 made c = c .pass .ensures
 
@@ -26,13 +27,16 @@ abbrev passed : tie.After-write-line-at → tie.After-pass
 passed c = c .before .before .before .before .before
 
 wrote : (c : tie.After-write-line-at)
-    → (c .write-line-at .result .next ≡ begun (passed c) .args .s .bytes + length (fedLine (passed c .pass .result .shown)))
-    × (c .write-line-at .last .0 ≡ laid (now (begun (passed c) .args .recording)) (begun (passed c) .args .s .bytes) (fedLine (passed c .pass .result .shown)))
+    → (c .write-line-at .result .next ≡ begun (passed c) .args .s .bytes
+    + length (fedLine (passed c .pass .result .shown)))
+    × (c .write-line-at .last .0 ≡ laid (now (begun (passed c) .args .recording)) (begun (passed c) .args .s .bytes)
+    (fedLine (passed c .pass .result .shown)))
 wrote c =
     let a = begun (passed c) in
     let f = framed (passed c) in
     let few = a .pre .0 .bytes-few in
-    let w = frame-written (now (a .args .recording)) (a .args .s .bytes) (passed c .pass .result .shown) (f .carried) (f .bytes-few) (omega arith) in
+    let w = frame-written (now (a .args .recording)) (a .args .s .bytes) (passed c .pass .result .shown) (f .carried)
+    (f .bytes-few) (omega arith) in
     (ap (λ r. r .next) (c .write-line-at .ensures .0) ∙ w .0, c .write-line-at .ensures .1 ∙ w .1)
 
 abbrev written : tie.After-struct-known4 → tie.After-write-line-at
@@ -83,7 +87,8 @@ returns c =
     let p = passed k in
     let listing = c .before .before .before .before .before .before in
     rw (← made p) (
-      swept-is (begun p .args .s) (p .pass .result) _ _ _ (c .before .before .before .goes-on .ensures) (listing .enter .ensures .0) (wrote k .0),
+      swept-is (begun p .args .s) (p .pass .result) _ _ _ (c .before .before .before .goes-on .ensures)
+          (listing .enter .ensures .0) (wrote k .0),
       (listing .enter .ensures .1, wrote k .1),
     )
 

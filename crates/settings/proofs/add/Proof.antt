@@ -1,4 +1,5 @@
--- The tests come in the order of the refusals: the code itself, then whether it is there, and for one that was never added the room. A place that was found lies within the table.
+-- The tests come in the order of the refusals: the code itself, then whether it is there, and for one that was never
+-- added the room. A place that was found lies within the table.
 use mathlib.Core.Path.{_≡_, sym, _∙_}
 use lib.ListN.{length, length-map}
 use Rattle.settings.specs.Calls.{settingsAdded}
@@ -41,7 +42,13 @@ returns-2 c =
     let known = c .before .before in
     let found = known .before .before in
     let test = found .before in
-    simp (← test .before .refusal-of .ensures, eq-eqb _ _ (test .if1 .left), ← found .find .ensures, known .kept .given .1, c .add-again .ensures)
+    simp (
+      ← test .before .refusal-of .ensures,
+      eq-eqb _ _ (test .if1 .left),
+      ← found .find .ensures,
+      known .kept .given .1,
+      c .add-again .ensures,
+    )
 
 returns-3 : tie.Need-returns-3
 unfolding settingsAdded
@@ -49,7 +56,13 @@ returns-3 c =
     let none = c .before in
     let found = none .before .before in
     let test = found .before in
-    simp (← test .before .refusal-of .ensures, eq-eqb _ _ (test .if1 .left), ← found .find .ensures, none .enum-told .given .1, c .add-first .ensures)
+    simp (
+      ← test .before .refusal-of .ensures,
+      eq-eqb _ _ (test .if1 .left),
+      ← found .find .ensures,
+      none .enum-told .given .1,
+      c .add-first .ensures,
+    )
 
 pub add-spec : {M : Type 1} → statement M
 add-spec =

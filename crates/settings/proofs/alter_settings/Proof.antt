@@ -16,7 +16,12 @@ keep-requires : tie.Need-keep-requires
 keep-requires c κs = search needs
 
 returns : tie.Need-returns
-returns c = simp (c .keep .ensures, c .before .alter-byte3 .ensures, c .before .before .alter-byte2 .ensures, c .before .before .before .alter-byte .ensures)
+returns c = simp (
+  c .keep .ensures,
+  c .before .alter-byte3 .ensures,
+  c .before .before .alter-byte2 .ensures,
+  c .before .before .before .alter-byte .ensures,
+)
 
 pub alter-settings-spec : {M : Type 1} → statement M
 alter-settings-spec =

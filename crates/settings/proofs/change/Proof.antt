@@ -1,4 +1,5 @@
--- The tests come in the order of the refusals: whether the code is there, then whether the version is the current one; the last version is the entry's own test.
+-- The tests come in the order of the refusals: whether the code is there, then whether the version is the current one;
+-- the last version is the entry's own test.
 use Rattle.settings.specs.Calls.{settingsChanged}
 use borrow.Author.Tests.{eq-eqb, ne-eqb}
 use borrow.Author.Needs.{needs}
@@ -25,7 +26,12 @@ unfolding settingsChanged
 returns-2 c =
     let other = c .before in
     let test = other .before .before .before in
-    simp (← test .before .before .locate .ensures .0, eq-eqb _ _ (test .if1 .left), ne-eqb _ _ (other .if2 .taken), c .refuse-change2 .ensures)
+    simp (
+      ← test .before .before .locate .ensures .0,
+      eq-eqb _ _ (test .if1 .left),
+      ne-eqb _ _ (other .if2 .taken),
+      c .refuse-change2 .ensures,
+    )
 
 change-entry-requires : tie.Need-change-entry-requires
 change-entry-requires c κs = c .before .before .before .before .before .locate .ensures .1
@@ -35,7 +41,12 @@ unfolding settingsChanged
 returns-3 c =
     let current = c .before in
     let test = current .before .before .before in
-    simp (← test .before .before .locate .ensures .0, eq-eqb _ _ (test .if1 .left), eq-eqb _ _ (current .if2 .left), c .change-entry .ensures)
+    simp (
+      ← test .before .before .locate .ensures .0,
+      eq-eqb _ _ (test .if1 .left),
+      eq-eqb _ _ (current .if2 .left),
+      c .change-entry .ensures,
+    )
 
 pub change-spec : {M : Type 1} → statement M
 change-spec =

@@ -17,7 +17,8 @@ use Rattle.settings.proofs.find.Tie as tie
 abbrev Inv-loop : tie.InvT-loop
 Inv-loop code entries count i₀ i =
     (i ≤ 32)
-    × (firstWith (λ e. eqb (e .code) code) At Nowhere i (onward i count entries) ≡ firstWith (λ e. eqb (e .code) code) At Nowhere 0 (take count entries))
+    × (firstWith (λ e. eqb (e .code) code) At Nowhere i (onward i count entries)
+    ≡ firstWith (λ e. eqb (e .code) code) At Nowhere 0 (take count entries))
 
 abbrev μ-loop : tie.MeasureT-loop
 μ-loop code entries count i₀ i = 32 - i
@@ -44,7 +45,8 @@ returns c =
     let a = p .before .before .before in
     let l = long a in
     let h : p .loop .i < length (a .args .store .entries) = omega arith in
-    sym (first-hit _ At Nowhere _ _ _ _ (c .before .before .if1 .taken) h (eq-eqb _ _ (c .if2 .taken))) ∙ p .loop .inv .1
+    sym (first-hit _ At Nowhere _ _ _ _ (c .before .before .if1 .taken) h (eq-eqb _ _ (c .if2 .taken)))
+    ∙ p .loop .inv .1
 
 add-i : tie.Need-add-i Inv-loop μ-loop
 add-i c = search needs
@@ -71,7 +73,8 @@ returns-2 c =
     let p = c .before in
     let a = p .before .before .before in
     let l = long a in
-    let h : length (take (a .args .store .count) (a .args .store .entries)) ≤ p .loop .i = simp length-take (omega arith) in
+    let h : length (take (a .args .store .count) (a .args .store .entries)) ≤ p .loop .i =
+    simp length-take (omega arith) in
     sym (first-end _ At Nowhere _ (a .args .store .count) (a .args .store .entries) h) ∙ p .loop .inv .1
 
 pub find-spec : {M : Type 1} → statement M

@@ -1,4 +1,5 @@
--- The tests come in the order of the refusals: the code itself, then whether it is there. A place that was found lies within the table, and so does 0.
+-- The tests come in the order of the refusals: the code itself, then whether it is there. A place that was found lies
+-- within the table, and so does 0.
 use mathlib.Core.Path.{_≡_, sym, _∙_}
 use lib.ListN.{length, length-map}
 use Rattle.settings.specs.Calls.{located}
@@ -53,7 +54,13 @@ returns-2 c =
     let entry = test .before .before in
     let long : length (entry .args .store .entries) ≡ 32 = simp length-map at (entry .good .0 .1 .1 .0 .1 .0 .1) in
     let is : c .locate-at .result ≡ located (entry .args .store) (entry .args .code) =
-    simp (← test .before .refusal-of .ensures, eq-eqb _ _ (test .if1 .left), ← found .find .ensures, known .kept .given .1, c .locate-at .ensures) in
+    simp (
+      ← test .before .refusal-of .ensures,
+      eq-eqb _ _ (test .if1 .left),
+      ← found .find .ensures,
+      known .kept .given .1,
+      c .locate-at .ensures,
+    ) in
     (is, rw is (located-within (entry .args .store) (entry .args .code) long))
 
 returns-3 : tie.Need-returns-3
@@ -65,7 +72,13 @@ returns-3 c =
     let entry = test .before .before in
     let long : length (entry .args .store .entries) ≡ 32 = simp length-map at (entry .good .0 .1 .1 .0 .1 .0 .1) in
     let is : c .miss2 .result ≡ located (entry .args .store) (entry .args .code) =
-    simp (← test .before .refusal-of .ensures, eq-eqb _ _ (test .if1 .left), ← found .find .ensures, none .enum-told .given .1, c .miss2 .ensures) in
+    simp (
+      ← test .before .refusal-of .ensures,
+      eq-eqb _ _ (test .if1 .left),
+      ← found .find .ensures,
+      none .enum-told .given .1,
+      c .miss2 .ensures,
+    ) in
     (is, rw is (located-within (entry .args .store) (entry .args .code) long))
 
 pub locate-spec : {M : Type 1} → statement M

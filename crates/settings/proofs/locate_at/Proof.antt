@@ -13,7 +13,8 @@ miss-requires : tie.Need-miss-requires
 miss-requires c κs = search needs
 
 returns-2 : tie.Need-returns-2
-returns-2 c = let removed = c .before .if1 .left in simp (← c .before .before .entry-at .ensures, removed, c .miss .ensures)
+returns-2 c = let removed = c .before .if1 .left in
+    simp (← c .before .before .entry-at .ensures, removed, c .miss .ensures)
 
 pub locate-at-spec : {M : Type 1} → statement M
 locate-at-spec = tie.close (tie.spec entry-at-requires returns miss-requires returns-2)

@@ -9,7 +9,8 @@ use Rattle.temperature.proofs.between.Tie as tie
 returns : tie.Need-returns
 returns c =
     let a = c .before .args in let f = c .before .fits in
-    let low = held-back (a .low) (f .low) in let high = held-back (a .high) (f .high) in let z = held-back (a .z) (f .z) in
+    let low = held-back (a .low) (f .low) in let high = held-back (a .high) (f .high) in let z =
+    held-back (a .z) (f .z) in
     let taken : leZ (a .low) (a .z) ≡ true = simp (low, z) at (c .if1 .taken) in
     simp (high, z, taken)
 

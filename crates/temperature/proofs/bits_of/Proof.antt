@@ -8,7 +8,8 @@ use mir.Syntax.{w16, w32}
 use mir.Val.{SFits, toZ, ofZ}
 use mir.ValLaws.{toZ-ofZ, ofZ-fits}
 use native.Mathlib.Omega.{arith}
-use Rattle.basic_laws.specs.ComplementLaws.{read16, held16, held-back, held-below, bits-held, bits-positive, bits-negative, wider}
+use Rattle.basic_laws.specs.ComplementLaws.{read16, held16, held-back, held-below, bits-held, bits-positive}
+use Rattle.basic_laws.specs.ComplementLaws.{bits-negative, wider}
 use Rattle.temperature.proofs.bits_of.Statement.{statement}
 use Rattle.temperature.proofs.bits_of.Tie as tie
 
@@ -21,7 +22,8 @@ same c =
 fits-wide : (c : tie.Else1) → SFits w32 (c .before .args .z)
 fits-wide c = wider w16 w32 _ (lit≤ tt) (c .before .fits .z)
 
-more : (c : tie.Else1) → toZ w32 (ofZ w32 (read16 (held16 (c .before .args .z)))) +ℤ pos 65536 ≡ pos (held16 (c .before .args .z))
+more : (c : tie.Else1) → toZ w32 (ofZ w32 (read16 (held16 (c .before .args .z)))) +ℤ pos 65536
+    ≡ pos (held16 (c .before .args .z))
 more c =
     let e = held-back (c .before .args .z) (c .before .fits .z) in
     let t : leZ (pos 0) (c .before .args .z) ≡ false = rw e at (c .if1 .left) in

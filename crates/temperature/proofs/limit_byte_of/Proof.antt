@@ -1,5 +1,5 @@
--- A limit from 0 on is its own byte, one below has 256 added to it; the number of sixteen bits holds the sum. `limited` is the test's answer, `fits8` that a limit
--- fits a byte, `held` that the code reads its number back.
+-- A limit from 0 on is its own byte, one below has 256 added to it; the number of sixteen bits holds the sum. `limited`
+-- is the test's answer, `fits8` that a limit fits a byte, `held` that the code reads its number back.
 use Prim.Native.Nat.{_<_}
 use mathlib.Core.Bool.{true, false}
 use mathlib.Core.Path.{_≡_, sym, _∙_}
@@ -62,13 +62,21 @@ cast-t7 : tie.Need-cast-t7
 cast-t7 c =
     let told = c .before in let if1 = told .before in let w = if1 .before .before .args .w in
     let held = held-back (w .0) (record { sfits = told .struct-told .given .0 .1 }) in
-    rw (more w (limited if1) held (c .if2 .left), held-back _ (byte-fits w (limited if1) held)) (tt, ofZ-fits w8 (w .0) (fits8 w (limited if1) held))
+    rw (more w (limited if1) held (c .if2 .left), held-back _ (byte-fits w (limited if1) held)) (
+      tt,
+      ofZ-fits w8 (w .0) (fits8 w (limited if1) held),
+    )
 
 returns-2 : tie.Need-returns-2
 returns-2 c =
     let told = c .before in let if1 = told .before in let w = if1 .before .before .args .w in
     let held = held-back (w .0) (record { sfits = told .struct-told .given .0 .1 }) in
-    rw (more w (limited if1) held (c .if2 .left), held-back _ (byte-fits w (limited if1) held), limited if1, bits-held8 (w .0))
+    rw (
+      more w (limited if1) held (c .if2 .left),
+      held-back _ (byte-fits w (limited if1) held),
+      limited if1,
+      bits-held8 (w .0),
+    )
 
 returns-3 : tie.Need-returns-3
 returns-3 c =

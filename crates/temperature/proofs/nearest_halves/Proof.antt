@@ -1,4 +1,5 @@
--- A shift by two, one more, and a shift by one are the floor of an eighth of four more (`nearest-halved`), and neither leaves sixteen bits.
+-- A shift by two, one more, and a shift by one are the floor of an eighth of four more (`nearest-halved`), and neither
+-- leaves sixteen bits.
 use mathlib.Core.Path.{ap, _∙_}
 use native.Mathlib.Omega.{arith}
 use lib.Dec.{lit<}
@@ -30,7 +31,8 @@ returns : tie.Need-returns
 returns c =
     let z = c .before .args .count .0 in
     ap (λ h. record { 0 = h })
-    (rw (shift-code z 4 (fits (c .before))) (shift-code (floorDiv z 4 +ℤ pos 1) 2 (quarter-fits (c .before)) ∙ nearest-halved z))
+    (rw (shift-code z 4 (fits (c .before))) (shift-code (floorDiv z 4 +ℤ pos 1) 2 (quarter-fits (c .before))
+    ∙ nearest-halved z))
 
 pub nearest-halves-spec : {M : Type 1} → statement M
 nearest-halves-spec = tie.close (tie.spec add-t4 returns)

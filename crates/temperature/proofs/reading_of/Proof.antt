@@ -38,8 +38,14 @@ enum-told-2 c = search needs
 returns : tie.Need-returns
 returns c =
     let number = held (c .before .before .before) in
-    let count : c .rounded .result ≡ roundedOf (record { 0 = signed16 (c .before .before .before .before .args .low + 256 * c .before .before .before .before .args .high) }) (c .before .before .before .before .args .configuration) =
-    c .rounded .ensures ∙ ap (λ (z : ℤ). roundedOf (record { 0 = z }) (c .before .before .before .before .args .configuration)) number in
+    let count : c .rounded .result ≡ roundedOf
+    (record {
+      0 = signed16 (c .before .before .before .before .args .low + 256
+          * c .before .before .before .before .args .high);
+    })
+    (c .before .before .before .before .args .configuration) =
+    c .rounded .ensures ∙ ap (λ (z : ℤ). roundedOf (record { 0 = z })
+    (c .before .before .before .before .args .configuration)) number in
     simp (c .before .enum-told .given .1, count)
 
 returns-2 : tie.Need-returns-2

@@ -19,12 +19,22 @@ bytes-of-requires-2 c κs = search needs
 returns : tie.Need-returns
 returns c =
     let known = c .before .before .before .r .given in
-    simp (known .1, c .bytes-of .ensures, held-back (known .0 .0 .0) (record { sfits = c .before .struct-told .given .0 .1 }))
+    simp (
+      known .1,
+      c .bytes-of .ensures,
+      held-back (known .0 .0 .0)
+          (record { sfits = c .before .struct-told .given .0 .1 }),
+    )
 
 returns-2 : tie.Need-returns-2
 returns-2 c =
     let known = c .before .before .before .r2 .given in
-    simp (known .1, c .bytes-of2 .ensures, held-back (known .0 .0 .0) (record { sfits = c .before .struct-told2 .given .0 .1 }))
+    simp (
+      known .1,
+      c .bytes-of2 .ensures,
+      held-back (known .0 .0 .0)
+          (record { sfits = c .before .struct-told2 .given .0 .1 }),
+    )
 
 pub register-of-spec : {M : Type 1} → statement M
 register-of-spec =

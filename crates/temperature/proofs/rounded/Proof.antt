@@ -1,5 +1,5 @@
--- Each arm shifts the count right and multiplies back by the same power of two, which is the one law of rounding down, at 8, 4
--- and 2; at 1 the count is its own floor. Each step divides 2 ^ 15, so every product fits.
+-- Each arm shifts the count right and multiplies back by the same power of two, which is the one law of rounding down,
+-- at 8, 4 and 2; at 1 the count is its own floor. Each step divides 2 ^ 15, so every product fits.
 use mathlib.Core.Path.{refl}
 use borrow.Author.Tests.{ne-eqb}
 use lib.Dec.{lit<}
@@ -32,7 +32,12 @@ returns-3 c = rw (c .match .keys3, floor-code _ 2 16384 (lit< tt) refl (fits (c 
 
 returns-4 : tie.Need-returns-4
 returns-4 c =
-    simp (ne-eqb _ 0 (c .match .rest .0 .0 .1), ne-eqb _ 1 (c .match .rest .0 .1), ne-eqb _ 2 (c .match .rest .1), floor-one)
+    simp (
+      ne-eqb _ 0 (c .match .rest .0 .0 .1),
+      ne-eqb _ 1 (c .match .rest .0 .1),
+      ne-eqb _ 2 (c .match .rest .1),
+      floor-one,
+    )
 
 pub rounded-spec : {M : Type 1} → statement M
 rounded-spec = tie.close (tie.spec mul-t8 mul-t10 mul-t12 returns returns-2 returns-3 returns-4)

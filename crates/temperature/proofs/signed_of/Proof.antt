@@ -42,7 +42,8 @@ cast-result-3 c = rw (less c, toZ-ofZ w32 _ (fits-wide c)) (fits c)
 
 returns-2 : tie.Need-returns-2
 returns-2 c =
-    rw (less c, toZ-ofZ w32 _ (fits-wide c), signed-read (c .before .args .bits) (c .before .fits .bits .fits)) (held-back _ (fits c))
+    rw (less c, toZ-ofZ w32 _ (fits-wide c), signed-read (c .before .args .bits) (c .before .fits .bits .fits))
+    (held-back _ (fits c))
 
 pub signed-of-spec : {M : Type 1} → statement M
 signed-of-spec =

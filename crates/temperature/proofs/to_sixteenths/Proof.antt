@@ -28,8 +28,12 @@ returns : tie.Need-returns
 returns c =
     let told = c .before in let if1 = told .before in let h = if1 .before .before .args .h in
     let w = within if1 in
-    simp
-    (c .in-sixteenths .ensures, held-back (h .0) (record { sfits = told .struct-told .given .0 .1 }), held-back (eightfold h .0) (eightfold-fits h w), w)
+    simp (
+      c .in-sixteenths .ensures,
+      held-back (h .0) (record { sfits = told .struct-told .given .0 .1 }),
+      held-back (eightfold h .0) (eightfold-fits h w),
+      w,
+    )
 
 refuse-requires : tie.Need-refuse-requires
 refuse-requires c κs = search needs
@@ -37,8 +41,10 @@ refuse-requires c κs = search needs
 returns-2 : tie.Need-returns-2
 returns-2 c =
     let if1 = c .before in
-    let left : inRange (InHalves (if1 .before .before .args .h)) ≡ false = sym (if1 .before .in-range .ensures) ∙ if1 .if1 .left in
+    let left : inRange (InHalves (if1 .before .before .args .h)) ≡ false =
+    sym (if1 .before .in-range .ensures) ∙ if1 .if1 .left in
     simp (c .refuse .ensures, left)
 
 pub to-sixteenths-spec : {M : Type 1} → statement M
-to-sixteenths-spec = tie.close (tie.spec in-range-requires mul-t5 in-sixteenths-requires returns refuse-requires returns-2)
+to-sixteenths-spec = tie.close (tie.spec in-range-requires mul-t5 in-sixteenths-requires returns refuse-requires
+    returns-2)

@@ -27,8 +27,12 @@ returns : tie.Need-returns
 returns c =
     let told = c .before in let if1 = told .before in let w = if1 .before .before .args .w in
     let e = within if1 in
-    simp
-    (c .in-sixteenths .ensures, held-back (w .0) (record { sfits = told .struct-told .given .0 .1 }), held-back (sixteenfold w .0) (sixteenfold-fits w e), e)
+    simp (
+      c .in-sixteenths .ensures,
+      held-back (w .0) (record { sfits = told .struct-told .given .0 .1 }),
+      held-back (sixteenfold w .0) (sixteenfold-fits w e),
+      e,
+    )
 
 refuse-requires : tie.Need-refuse-requires
 refuse-requires c κs = search needs
@@ -36,8 +40,10 @@ refuse-requires c κs = search needs
 returns-2 : tie.Need-returns-2
 returns-2 c =
     let if1 = c .before in
-    let left : wholeInRange (if1 .before .before .args .w) ≡ false = sym (if1 .before .whole-in-range .ensures) ∙ if1 .if1 .left in
+    let left : wholeInRange (if1 .before .before .args .w) ≡ false =
+    sym (if1 .before .whole-in-range .ensures) ∙ if1 .if1 .left in
     simp (c .refuse .ensures, left)
 
 pub whole-to-sixteenths-spec : {M : Type 1} → statement M
-whole-to-sixteenths-spec = tie.close (tie.spec whole-in-range-requires mul-t4 in-sixteenths-requires returns refuse-requires returns-2)
+whole-to-sixteenths-spec = tie.close (tie.spec whole-in-range-requires mul-t4 in-sixteenths-requires returns
+    refuse-requires returns-2)

@@ -20,7 +20,8 @@ measure-requires c κs = search needs
 
 returns-3 : tie.Need-returns-3
 unfolding finished
-returns-3 c = let range = c .before .before in simp (range .before .if1 .left, ← range .whole-in-range .ensures, c .before .if2 .left, c .measure .ensures)
+returns-3 c = let range = c .before .before in
+    simp (range .before .if1 .left, ← range .whole-in-range .ensures, c .before .if2 .left, c .measure .ensures)
 
 pub finish-spec : {M : Type 1} → statement M
 finish-spec =

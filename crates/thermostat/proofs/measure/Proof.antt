@@ -28,8 +28,17 @@ goes-on-requires c κs = search needs
 returns : tie.Need-returns
 unfolding measured
 returns c =
-    let on = c .before in let output = on .before in let low = output .before in let below = low .before in let high = below .before in let above = high .before in
-    simp (on .goes-on .ensures, output .output-after .ensures, low .raised2 .ensures, below .is-below .ensures, high .raised .ensures, above .is-above .ensures, above .before .limit-byte-of .ensures)
+    let on = c .before in let output = on .before in let low = output .before in let below = low .before in
+    let high = below .before in let above = high .before in
+    simp (
+      on .goes-on .ensures,
+      output .output-after .ensures,
+      low .raised2 .ensures,
+      below .is-below .ensures,
+      high .raised .ensures,
+      above .is-above .ensures,
+      above .before .limit-byte-of .ensures,
+    )
 
 pub measure-spec : {M : Type 1} → statement M
 measure-spec =

@@ -13,10 +13,12 @@ is-below-requires : tie.Need-is-below-requires
 is-below-requires c κs = search needs
 
 returns-2 : tie.Need-returns-2
-returns-2 c = let low = c .before in let if1 = low .before in simp (← if1 .before .reaches .ensures, if1 .if1 .left, ← low .is-below .ensures, c .if2 .taken)
+returns-2 c = let low = c .before in let if1 = low .before in
+    simp (← if1 .before .reaches .ensures, if1 .if1 .left, ← low .is-below .ensures, c .if2 .taken)
 
 returns-3 : tie.Need-returns-3
-returns-3 c = let low = c .before in let if1 = low .before in simp (← if1 .before .reaches .ensures, if1 .if1 .left, ← low .is-below .ensures, c .if2 .left)
+returns-3 c = let low = c .before in let if1 = low .before in
+    simp (← if1 .before .reaches .ensures, if1 .if1 .left, ← low .is-below .ensures, c .if2 .left)
 
 pub output-after-spec : {M : Type 1} → statement M
 output-after-spec =

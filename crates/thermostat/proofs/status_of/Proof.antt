@@ -32,8 +32,19 @@ push-requires-8 c κs = search needs
 returns : tie.Need-returns
 unfolding statusOf
 returns c =
-    let p7 = c .before .before in let p6 = p7 .before in let p5 = p6 .before in let p4 = p5 .before in let p3 = p4 .before in let p2 = p3 .before in let p1 = p2 .before in
-    simp (c .push8 .ensures, p7 .push7 .ensures, p6 .push6 .ensures, p5 .push5 .ensures, p4 .push4 .ensures, p3 .push3 .ensures, p2 .push2 .ensures, p1 .push .ensures, eight-in)
+    let p7 = c .before .before in let p6 = p7 .before in let p5 = p6 .before in let p4 = p5 .before in let p3 =
+    p4 .before in let p2 = p3 .before in let p1 = p2 .before in
+    simp (
+      c .push8 .ensures,
+      p7 .push7 .ensures,
+      p6 .push6 .ensures,
+      p5 .push5 .ensures,
+      p4 .push4 .ensures,
+      p3 .push3 .ensures,
+      p2 .push2 .ensures,
+      p1 .push .ensures,
+      eight-in,
+    )
 
 pub status-of-spec : {M : Type 1} → statement M
 status-of-spec =

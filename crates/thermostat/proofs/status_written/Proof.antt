@@ -28,8 +28,17 @@ left-by-requires-2 c κs = search needs
 returns : tie.Need-returns
 unfolding statusWritten
 returns c =
-    let b5 = c .before in let high = b5 .before in let b4 = high .before in let b3 = b4 .before in let b2 = b3 .before in
-    simp (c .left-by2 .ensures, b5 .byte-slot5 .ensures, high .left-by .ensures, b4 .byte-slot4 .ensures, b3 .byte-slot3 .ensures, b2 .byte-slot2 .ensures, b2 .before .byte-slot .ensures)
+    let b5 = c .before in let high = b5 .before in let b4 = high .before in let b3 = b4 .before in let b2 =
+    b3 .before in
+    simp (
+      c .left-by2 .ensures,
+      b5 .byte-slot5 .ensures,
+      high .left-by .ensures,
+      b4 .byte-slot4 .ensures,
+      b3 .byte-slot3 .ensures,
+      b2 .byte-slot2 .ensures,
+      b2 .before .byte-slot .ensures,
+    )
 
 pub status-written-spec : {M : Type 1} → statement M
 status-written-spec =

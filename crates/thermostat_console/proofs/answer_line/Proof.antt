@@ -22,7 +22,9 @@ write-answer-requires c κs =
     let said = c .before .before .before in
     let a = said .before .before .before .before in
     let l : Line = record { chars = now (a .args .line); fed = a .args .fed } in
-    let front = said-front (a .args .probe) l (now (a .args .out)) (a .pre .0) (said .answer .result) (said .answer .ensures .0) (said .answer .last .1 .1 .1 .0) (said .answer .ensures .1 .0) (said .answer .ensures .1 .1) in
+    let front = said-front (a .args .probe) l (now (a .args .out)) (a .pre .0) (said .answer .result)
+    (said .answer .ensures .0) (said .answer .last .1 .1 .1 .0) (said .answer .ensures .1 .0)
+    (said .answer .ensures .1 .1) in
     rw (front .0) (a .pre .1)
 
 same-length : tie.Need-same-length
@@ -33,7 +35,8 @@ returns c =
     let said = c .before .before .before .before .before in
     let a = said .before .before .before .before in
     let l : Line = record { chars = now (a .args .line); fed = a .args .fed } in
-    said-front (a .args .probe) l (now (a .args .out)) (a .pre .0) (said .answer .result) (said .answer .ensures .0) (said .answer .last .1 .1 .1 .0) (said .answer .ensures .1 .0) (said .answer .ensures .1 .1) .1
+    said-front (a .args .probe) l (now (a .args .out)) (a .pre .0) (said .answer .result) (said .answer .ensures .0)
+    (said .answer .last .1 .1 .1 .0) (said .answer .ensures .1 .0) (said .answer .ensures .1 .1) .1
 
 pub answer-line-spec : {M : Type 1} → statement M
 answer-line-spec =

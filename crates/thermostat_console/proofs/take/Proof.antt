@@ -1,5 +1,5 @@
--- The loop's invariant: the run stands on what was taken so far, what is still to run of the piece leads where the whole piece leads, and the buffers have their
--- lengths. The measure is what is left of the piece.
+-- The loop's invariant: the run stands on what was taken so far, what is still to run of the piece leads where the
+-- whole piece leads, and the buffers have their lengths. The measure is what is left of the piece.
 use Prim.Native.Nat.{_≤_, _<_, _-_}
 use mathlib.Core.Path.{_≡_, refl, sym, _∙_}
 use native.Mathlib.Omega.{arith}
@@ -14,8 +14,10 @@ use Rattle.thermostat_console.proofs.take.Tie as tie
 
 abbrev Inv-loop : tie.InvT-loop
 Inv-loop line₀ chunk out₀ s₀ at₀ line out s at =
-    (at ≤ length chunk) × (length line ≡ length line₀) × (length out ≡ length out₀) × Standing probeConsole firstProbe (s .probe) line (s .held)
-    × (runAfter probeConsole (runAt (s₀ .probe) line₀ (s₀ .held)) chunk ≡ runAfter probeConsole (runAt (s .probe) line (s .held)) (drop at chunk))
+    (at ≤ length chunk) × (length line ≡ length line₀) × (length out ≡ length out₀)
+    × Standing probeConsole firstProbe (s .probe) line (s .held)
+    × (runAfter probeConsole (runAt (s₀ .probe) line₀ (s₀ .held)) chunk
+    ≡ runAfter probeConsole (runAt (s .probe) line (s .held)) (drop at chunk))
 
 abbrev μ-loop : tie.MeasureT-loop
 μ-loop line₀ chunk out₀ s₀ at₀ line out s at = length chunk - at
@@ -32,7 +34,8 @@ end-line-requires c κs =
     let l = t .before .before .before .before in
     let a = l .before .before .before .before in
     let before : l .loop .at < length (now (a .args .chunk)) = omega arith in
-    let taken = line-taken (l .loop .inv .3) (now (a .args .chunk)) (l .loop .at) (t .take-line .result) (t .take-line .ensures .0) (t .take-line .last .0) (t .take-line .ensures .1) before in
+    let taken = line-taken (l .loop .inv .3) (now (a .args .chunk)) (l .loop .at) (t .take-line .result)
+    (t .take-line .ensures .0) (t .take-line .last .0) (t .take-line .ensures .1) before in
     let few = taken .few in
     let size = l .loop .inv .3 .size in
     let same = t .take-line .kept .0 in
@@ -46,7 +49,8 @@ loop-less c =
     let l = t .before .before .before .before in
     let a = l .before .before .before .before in
     let before : l .loop .at < length (now (a .args .chunk)) = omega arith in
-    let taken = line-taken (l .loop .inv .3) (now (a .args .chunk)) (l .loop .at) (t .take-line .result) (t .take-line .ensures .0) (t .take-line .last .0) (t .take-line .ensures .1) before in
+    let taken = line-taken (l .loop .inv .3) (now (a .args .chunk)) (l .loop .at) (t .take-line .result)
+    (t .take-line .ensures .0) (t .take-line .last .0) (t .take-line .ensures .1) before in
     let on = taken .on in
     let within = taken .within in
     omega arith
@@ -58,12 +62,14 @@ loop-again c =
     let l = t .before .before .before .before in
     let a = l .before .before .before .before in
     let before : l .loop .at < length (now (a .args .chunk)) = omega arith in
-    let taken = line-taken (l .loop .inv .3) (now (a .args .chunk)) (l .loop .at) (t .take-line .result) (t .take-line .ensures .0) (t .take-line .last .0) (t .take-line .ensures .1) before in
+    let taken = line-taken (l .loop .inv .3) (now (a .args .chunk)) (l .loop .at) (t .take-line .result)
+    (t .take-line .ensures .0) (t .take-line .last .0) (t .take-line .ensures .1) before in
     let is = e .end-line .ensures .0 in (
       taken .within,
       t .take-line .kept .0 ∙ l .loop .inv .1,
       e .end-line .kept .1 .1 .1 .1 .0 ∙ l .loop .inv .2,
-      taken .stands (e .end-line .result .probe) (e .end-line .result .held) (t .take-line .kept .0) is (e .end-line .ensures .1),
+      taken .stands (e .end-line .result .probe) (e .end-line .result .held) (t .take-line .kept .0) is
+          (e .end-line .ensures .1),
       l .loop .inv .4 ∙ taken .rest (e .end-line .result .probe) (e .end-line .result .held) is,
     )
 
@@ -78,7 +84,8 @@ returns c =
     let l = c .before in
     let a = l .before .before .before .before in
     let past : length (now (a .args .chunk)) ≤ l .loop .at = omega arith in
-    let done = piece-done probeConsole (runAt (l .loop .s .probe) (l .loop .line) (l .loop .s .held)) (now (a .args .chunk)) (l .loop .at) past in
+    let done = piece-done probeConsole (runAt (l .loop .s .probe) (l .loop .line) (l .loop .s .held))
+    (now (a .args .chunk)) (l .loop .at) past in
     (sym (l .loop .inv .4 ∙ done), l .loop .inv .3)
 
 pub take-spec : {M : Type 1} → statement M

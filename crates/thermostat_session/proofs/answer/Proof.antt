@@ -11,7 +11,8 @@ use Rattle.thermostat_session.proofs.answer.Tie as tie
 returns : tie.Need-returns
 returns c =
     let a = c .before .before .before .args in
-    let none = said-without (a .probe) (record { chars = now (a .line); fed = a .fed }) (now (a .out)) (c .if1 .taken) in
+    let none = said-without (a .probe) (record { chars = now (a .line); fed = a .fed }) (now (a .out))
+    (c .if1 .taken) in
     (none .0, (none .1, none .2))
 
 asked-requires : tie.Need-asked-requires
@@ -35,7 +36,8 @@ returns-2 c =
     let a = room .before .before .before .args in
     let line : Line = record { chars = now (a .line); fed = a .fed } in
     let answers = done .respond .ensures ∙ ap (probeResponded (a .probe)) (asked .asked .ensures) in
-    let said = said-with (a .probe) line (now (a .out)) (room .if1 .left) (done .respond .result) answers (w .write .result) (w .write .ensures .0) _ (w .write .ensures .1 .0) (w .write .ensures .1 .1) in
+    let said = said-with (a .probe) line (now (a .out)) (room .if1 .left) (done .respond .result) answers
+    (w .write .result) (w .write .ensures .0) _ (w .write .ensures .1 .0) (w .write .ensures .1 .1) in
     (said .0, (said .1, said .2))
 
 pub answer-spec : {M : Type 1} → statement M

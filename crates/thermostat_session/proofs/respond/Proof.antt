@@ -90,11 +90,19 @@ returns-3 c = rw (c .before .before .before .enum-told2 .given .1, c .say3 .ensu
 
 returns-4 : tie.Need-returns-4
 unfolding probeResponded
-returns-4 c = rw (c .before .before .before .before .request2 .given .1, c .say4 .ensures, c .before .before .slot .ensures)
+returns-4 c = rw (
+  c .before .before .before .before .request2 .given .1,
+  c .say4 .ensures,
+  c .before .before .slot .ensures,
+)
 
 returns-5 : tie.Need-returns-5
 unfolding probeResponded
-returns-5 c = rw (c .before .before .before .before .request3 .given .1, c .say5 .ensures, c .before .before .finish .ensures)
+returns-5 c = rw (
+  c .before .before .before .before .request3 .given .1,
+  c .say5 .ensures,
+  c .before .before .finish .ensures,
+)
 
 returns-6 : tie.Need-returns-6
 unfolding probeResponded
@@ -106,7 +114,11 @@ returns-7 c = rw (c .before .enum-told4 .given .1, c .read .ensures)
 
 returns-8 : tie.Need-returns-8
 unfolding probeResponded
-returns-8 c = rw (c .before .before .before .before .request4 .given .1, c .say7 .ensures, c .before .before .change .ensures .0)
+returns-8 c = rw (
+  c .before .before .before .before .request4 .given .1,
+  c .say7 .ensures,
+  c .before .before .change .ensures .0,
+)
 
 returns-9 : tie.Need-returns-9
 unfolding probeResponded

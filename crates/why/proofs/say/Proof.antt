@@ -34,7 +34,14 @@ returns-2 c =
     let a = high .before .before .before .args in
     let taken = not-false (a .page .taken) (high .before .if1 .left) in
     let band = c .before .band .ensures in
-    simp (taken, high .limit-of .ensures, c .before .before .before .limit-of2 .ensures, c .before .before .whole-of .ensures, band, c .limits-differ .ensures)
+    simp (
+      taken,
+      high .limit-of .ensures,
+      c .before .before .before .limit-of2 .ensures,
+      c .before .before .whole-of .ensures,
+      band,
+      c .limits-differ .ensures,
+    )
 
 pub say-spec : {M : Type 1} → statement M
 say-spec =

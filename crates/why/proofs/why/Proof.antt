@@ -25,7 +25,9 @@ returns c =
     let code = c .before .before in
     let a = code .before .args in
     let unsound : codeRefusal (a .code) ≢ accepted = λ e. c .before .if1 .taken (code .refusal-of .ensures ∙ e) in
-    let is : c .silent .result ≡ whyOf (a .bench) (a .code) = c .silent .ensures ∙ ap (λ (n : ℕ). silent n NotOnBench) (code .refusal-of .ensures) ∙ why-refused (a .bench) (a .code) unsound in
+    let is : c .silent .result ≡ whyOf (a .bench) (a .code) =
+    c .silent .ensures ∙ ap (λ (n : ℕ). silent n NotOnBench) (code .refusal-of .ensures)
+    ∙ why-refused (a .bench) (a .code) unsound in
     (is, why-promised (a .bench) (a .code) (c .silent .result) is)
 
 look-requires : tie.Need-look-requires
@@ -40,8 +42,10 @@ returns-2 c =
     let code = look .before .before in
     let a = code .before .args in
     let is-sound : codeRefusal (a .code) ≡ accepted = sym (code .refusal-of .ensures) ∙ look .before .if1 .left in
-    let absent : looked (a .bench) (a .code) .refusal ≢ accepted = λ e. c .before .if2 .taken (ap (λ (l : Looked). l .refusal) (look .look .ensures) ∙ e) in
-    let is : c .silent2 .result ≡ whyOf (a .bench) (a .code) = c .silent2 .ensures ∙ why-absent (a .bench) (a .code) is-sound absent in
+    let absent : looked (a .bench) (a .code) .refusal ≢ accepted =
+    λ e. c .before .if2 .taken (ap (λ (l : Looked). l .refusal) (look .look .ensures) ∙ e) in
+    let is : c .silent2 .result ≡ whyOf (a .bench) (a .code) =
+    c .silent2 .ensures ∙ why-absent (a .bench) (a .code) is-sound absent in
     (is, why-promised (a .bench) (a .code) (c .silent2 .result) is)
 
 say-requires : tie.Need-say-requires
@@ -54,9 +58,11 @@ returns-3 c =
     let code = look .before .before in
     let a = code .before .args in
     let is-sound : codeRefusal (a .code) ≡ accepted = sym (code .refusal-of .ensures) ∙ look .before .if1 .left in
-    let there : looked (a .bench) (a .code) .refusal ≡ accepted = ap (λ (l : Looked). l .refusal) (sym (look .look .ensures)) ∙ found .before .if2 .left in
+    let there : looked (a .bench) (a .code) .refusal ≡ accepted =
+    ap (λ (l : Looked). l .refusal) (sym (look .look .ensures)) ∙ found .before .if2 .left in
     let is : c .say .result ≡ whyOf (a .bench) (a .code) =
-    c .say .ensures ∙ ap (λ (l : Looked). toldBy (l .device .page) (l .device .scratchpad)) (look .look .ensures) ∙ why-there (a .bench) (a .code) is-sound there in
+    c .say .ensures ∙ ap (λ (l : Looked). toldBy (l .device .page) (l .device .scratchpad)) (look .look .ensures)
+    ∙ why-there (a .bench) (a .code) is-sound there in
     (is, why-promised (a .bench) (a .code) (c .say .result) is)
 
 pub why-spec : {M : Type 1} → statement M

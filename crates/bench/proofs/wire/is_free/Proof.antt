@@ -13,7 +13,8 @@ use Rattle.bench.proofs.wire.is_free.Statement.{statement}
 use Rattle.bench.proofs.wire.is_free.Tie as tie
 
 abbrev Inv-loop : tie.InvT-loop
-Inv-loop count devices taken i₀ i = (i ≤ 32) × (all (λ d. not (holdsWire d)) (onward i count devices) ≡ all (λ d. not (holdsWire d)) (take count devices))
+Inv-loop count devices taken i₀ i = (i ≤ 32)
+    × (all (λ d. not (holdsWire d)) (onward i count devices) ≡ all (λ d. not (holdsWire d)) (take count devices))
 
 abbrev μ-loop : tie.MeasureT-loop
 μ-loop count devices taken i₀ i = 32 - i
@@ -39,7 +40,8 @@ returns c =
     let a = p .before in
     let l = long a in
     let h : p .loop .i < length (a .args .t1) = omega arith in
-    sym (all-stopped (λ d. not (holdsWire d)) _ _ _ _ (c .before .before .before .if1 .taken) h (ap not (sym (c .before .holds-wire .ensures) ∙ c .if2 .taken)))
+    sym (all-stopped (λ d. not (holdsWire d)) _ _ _ _ (c .before .before .before .if1 .taken) h
+    (ap not (sym (c .before .holds-wire .ensures) ∙ c .if2 .taken)))
     ∙ p .loop .inv .1
 
 add-i : tie.Need-add-i Inv-loop μ-loop
@@ -56,7 +58,8 @@ loop-again c =
     let h : p .loop .i < length (a .args .t1) = omega arith in (
       omega arith,
       ⊎-elim
-          (λ w. sym (all-onward (λ d. not (holdsWire d)) _ _ _ _ (w .0 .taken) h (ap not (sym (w .2 .ensures) ∙ w .3 .left))) ∙ p .loop .inv .1)
+          (λ w. sym (all-onward (λ d. not (holdsWire d)) _ _ _ _ (w .0 .taken) h
+          (ap not (sym (w .2 .ensures) ∙ w .3 .left))) ∙ p .loop .inv .1)
           (λ w. sym (all-skip _ _ _ _ (w .left)) ∙ p .loop .inv .1)
           (c .if1 .came),
     )

@@ -33,7 +33,8 @@ returns : tie.Need-returns
 returns c =
     let room = c .before .before in
     let a = room .before .before .before .args in
-    let none = line-refused (now (a .out)) (a .at) (accessLine (a .refusal) (a .pad) (a .reading) (a .fine)) (sym (room .has-room .ensures) ∙ not-true (room .has-room .result) (c .before .if1 .taken)) in
+    let none = line-refused (now (a .out)) (a .at) (accessLine (a .refusal) (a .pad) (a .reading) (a .fine))
+    (sym (room .has-room .ensures) ∙ not-true (room .has-room .result) (c .before .if1 .taken)) in
     let answer = c .no-room .ensures in
     let next : c .no-room .result .next ≡ 0 = ap (λ (v : Written). v .next) answer in
     (answer ∙ none .0, (none .1, omega arith))
@@ -57,8 +58,10 @@ returns-2 c =
     let a = start .args in
     let text = accessLine (a .refusal) (a .pad) (a .reading) (a .fine) in
     let held : SFits w32 (a .fine .numerator) = record { sfits = told .struct-told .given .0 .1 } in
-    let laid : Puts (now (a .out)) (a .at) text (put .put-access .last .0) (put .put-access .result) = rw (toZ-ofZ w32 (a .fine .numerator) held) at (put .put-access .ensures) in
-    let short : length text ≤ lineRoom = access-short (a .refusal) (a .pad) (a .reading) (a .fine .numerator) (a .fine .denominator) (search needs) (nine start) held (search needs) in
+    let laid : Puts (now (a .out)) (a .at) text (put .put-access .last .0) (put .put-access .result) =
+    rw (toZ-ofZ w32 (a .fine .numerator) held) at (put .put-access .ensures) in
+    let short : length text ≤ lineRoom = access-short (a .refusal) (a .pad) (a .reading) (a .fine .numerator)
+    (a .fine .denominator) (search needs) (nine start) held (search needs) in
     let there = sym (room .has-room .ensures) ∙ not-false (room .has-room .result) (test .if1 .left) in
     let done = line-done (now (a .out)) (a .at) text there short _ _ laid in
     let room-there = leb-true (a .at + lineRoom) (length (now (a .out))) there in

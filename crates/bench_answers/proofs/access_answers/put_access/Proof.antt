@@ -19,7 +19,8 @@ use Rattle.bench_answers.proofs.access_answers.put_access.Statement.{st
 use Rattle.bench_answers.proofs.access_answers.put_access.Tie as tie
 
 -- what is put is the number given
-given : (z : ℤ) → SFits w32 z → (d : List ℕ) (at : ℕ) (d' : List ℕ) (r : ℕ) → Puts d at (signedDecimal (toZ w32 (ofZ w32 z)) ++ 0x2F ∷ []) d' r → Puts d at (signedDecimal z ++ 0x2F ∷ []) d' r
+given : (z : ℤ) → SFits w32 z → (d : List ℕ) (at : ℕ) (d' : List ℕ) (r : ℕ)
+    → Puts d at (signedDecimal (toZ w32 (ofZ w32 z)) ++ 0x2F ∷ []) d' r → Puts d at (signedDecimal z ++ 0x2F ∷ []) d' r
 given z f d at d' r p = subst (λ (y : ℤ). Puts d at (signedDecimal y ++ 0x2F ∷ []) d' r) (toZ-ofZ w32 z f) p
 
 register-of-requires : tie.Need-register-of-requires
@@ -60,12 +61,38 @@ returns c =
     let told = refusal .before .before in
     let start = told .before .before in
     let a = start .args in
-    let last = field-puts (numerator .put-signed .last .0) (numerator .put-signed .result) (decimal (a .denominator)) 0x0A (denominator .put-number2 .last .0) (denominator .put-number2 .result) (denominator .put-number2 .ensures .0, denominator .put-number2 .ensures .1) in
-    let over = puts-field (signedDecimal (a .numerator)) 0x2F (given (a .numerator) (start .fits .numerator) _ _ _ _ (field-puts (reading .put-bytes2 .last .0) (reading .put-bytes2 .result) (signedDecimal (toZ w32 (ofZ w32 (a .numerator)))) 0x2F (numerator .put-signed .last .0) (numerator .put-signed .result) (numerator .put-signed .ensures .0, numerator .put-signed .ensures .1))) last in
-    let fraction = subst (λ (x : List ℕ). Puts (reading .put-bytes2 .last .0) (reading .put-bytes2 .result) x (denominator .put-number2 .last .0) (denominator .put-number2 .result)) (mark-behind (signedDecimal (a .numerator)) (decimal (a .denominator)) 0x0A) over in
-    let digits = subst (λ (g : Register). Puts (pad .put-bytes .last .0) (pad .put-bytes .result) (hexOf (g .high ∷ g .low ∷ []) ++ 0x20 ∷ []) (reading .put-bytes2 .last .0) (reading .put-bytes2 .result)) (told .register-of .ensures) (field-puts (pad .put-bytes .last .0) (pad .put-bytes .result) (hexOf (told .register-of .result .high ∷ told .register-of .result .low ∷ [])) 0x20 (reading .put-bytes2 .last .0) (reading .put-bytes2 .result) (reading .put-bytes2 .ensures .0, reading .put-bytes2 .ensures .1)) in
-    puts-field (decimal (a .refusal)) 0x20 (field-puts (now (a .out)) (a .at) (decimal (a .refusal)) 0x20 (refusal .put-number .last .0) (refusal .put-number .result) (refusal .put-number .ensures .0, refusal .put-number .ensures .1))
-    (puts-field (hexOf (a .pad)) 0x20 (field-puts (refusal .put-number .last .0) (refusal .put-number .result) (hexOf (a .pad)) 0x20 (pad .put-bytes .last .0) (pad .put-bytes .result) (pad .put-bytes .ensures .0, pad .put-bytes .ensures .1))
+    let last = field-puts (numerator .put-signed .last .0) (numerator .put-signed .result) (decimal (a .denominator))
+    0x0A (denominator .put-number2 .last .0) (denominator .put-number2 .result)
+    (denominator .put-number2 .ensures .0, denominator .put-number2 .ensures .1) in
+    let over = puts-field (signedDecimal (a .numerator)) 0x2F
+    (given (a .numerator) (start .fits .numerator)
+    _ _ _ _ (field-puts (reading .put-bytes2 .last .0) (reading .put-bytes2 .result)
+    (signedDecimal (toZ w32 (ofZ w32 (a .numerator)))) 0x2F (numerator .put-signed .last .0)
+    (numerator .put-signed .result) (
+      numerator .put-signed .ensures .0,
+      numerator .put-signed .ensures .1,
+    ))) last in
+    let fraction = subst (λ (x : List ℕ). Puts (reading .put-bytes2 .last .0) (reading .put-bytes2 .result) x
+    (denominator .put-number2 .last .0) (denominator .put-number2 .result))
+    (mark-behind (signedDecimal (a .numerator)) (decimal (a .denominator)) 0x0A) over in
+    let digits = subst (λ (g : Register). Puts (pad .put-bytes .last .0) (pad .put-bytes .result)
+    (hexOf (g .high ∷ g .low ∷ []) ++ 0x20 ∷ []) (reading .put-bytes2 .last .0) (reading .put-bytes2 .result))
+    (told .register-of .ensures) (field-puts (pad .put-bytes .last .0) (pad .put-bytes .result)
+    (hexOf (told .register-of .result .high ∷ told .register-of .result .low ∷ [])) 0x20
+    (reading .put-bytes2 .last .0) (reading .put-bytes2 .result) (
+      reading .put-bytes2 .ensures .0,
+      reading .put-bytes2 .ensures .1,
+    )) in
+    puts-field (decimal (a .refusal)) 0x20 (field-puts (now (a .out)) (a .at) (decimal (a .refusal)) 0x20
+    (refusal .put-number .last .0) (refusal .put-number .result) (
+      refusal .put-number .ensures .0,
+      refusal .put-number .ensures .1,
+    ))
+    (puts-field (hexOf (a .pad)) 0x20 (field-puts (refusal .put-number .last .0) (refusal .put-number .result)
+    (hexOf (a .pad)) 0x20 (pad .put-bytes .last .0) (pad .put-bytes .result) (
+      pad .put-bytes .ensures .0,
+      pad .put-bytes .ensures .1,
+    ))
     (puts-field (readingDigits (a .reading)) 0x20 digits fraction))
 
 pub put-access-spec : {M : Type 1} → statement M

@@ -25,8 +25,11 @@ returns c =
     let a = line .before .before .before .before .before .before in
     let d = a .args .done in
     let laid = line .access-line .ensures in
-    let short = laid .1 .1 in
-    (c .say .ensures ∙ said-so (now (a .args .out)) (accessLine (d .refusal) (d .pad) (d .reading) (d .fine)) (line .access-line .result) (d .bench) (laid .0), (laid .1 .0, omega arith))
+    let short = laid .1 .1 in (
+      c .say .ensures ∙ said-so (now (a .args .out)) (accessLine (d .refusal) (d .pad) (d .reading) (d .fine))
+          (line .access-line .result) (d .bench) (laid .0),
+      (laid .1 .0, omega arith),
+    )
 
 pub access-spec : {M : Type 1} → statement M
 access-spec = tie.close (tie.spec access-line-requires say-requires same-length returns)

@@ -25,8 +25,13 @@ returns c =
     let a = line .before .before .before in
     let short = bad-short in
     let answer = line .bad-line .ensures .0 in
-    let said = said-so (now (a .args .out)) (badLine) (line .bad-line .result) (a .args .bench) answer in
-    (c .say .ensures ∙ said, (line .bad-line .ensures .1, rw count (said-short (now (a .args .out)) (badLine) (line .bad-line .result) (a .args .bench) answer short)))
+    let said = said-so (now (a .args .out)) (badLine) (line .bad-line .result) (a .args .bench) answer in (
+      c .say .ensures ∙ said,
+      (
+        line .bad-line .ensures .1,
+        rw count (said-short (now (a .args .out)) (badLine) (line .bad-line .result) (a .args .bench) answer short),
+      ),
+    )
 
 pub bad-spec : {M : Type 1} → statement M
 bad-spec = tie.close (tie.spec bad-line-requires say-requires same-length returns)

@@ -25,8 +25,15 @@ returns c =
     let a = line .before .before .before .before in
     let short = refusal-short (a .args .done .refusal) (search needs) in
     let answer = line .refusal-line .ensures .0 in
-    let said = said-so (now (a .args .out)) (refusalLine (a .args .done .refusal)) (line .refusal-line .result) (a .args .done .bench) answer in
-    (c .say .ensures ∙ said, (line .refusal-line .ensures .1, rw count (said-short (now (a .args .out)) (refusalLine (a .args .done .refusal)) (line .refusal-line .result) (a .args .done .bench) answer short)))
+    let said = said-so (now (a .args .out)) (refusalLine (a .args .done .refusal)) (line .refusal-line .result)
+    (a .args .done .bench) answer in (
+      c .say .ensures ∙ said,
+      (
+        line .refusal-line .ensures .1,
+        rw count (said-short (now (a .args .out)) (refusalLine (a .args .done .refusal)) (line .refusal-line .result)
+            (a .args .done .bench) answer short),
+      ),
+    )
 
 pub change-spec : {M : Type 1} → statement M
 change-spec = tie.close (tie.spec refusal-line-requires say-requires same-length returns)

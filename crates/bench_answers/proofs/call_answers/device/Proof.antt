@@ -24,11 +24,19 @@ returns c =
     let line = c .before .before .before in
     let count = ap (λ (s : Said). s .count) (c .say .ensures) in
     let a = line .before .before .before in
-    let long : length (a .args .looked .device .scratchpad) ≡ 8 = simp length-map at (a .good .1 .0 .1 .1 .1 .0 .1 .1 .1 .1 .1 .1 .0 .1 .0 .1) in
+    let long : length (a .args .looked .device .scratchpad) ≡ 8 =
+    simp length-map at (a .good .1 .0 .1 .1 .1 .0 .1 .1 .1 .1 .1 .1 .0 .1 .0 .1) in
     let short = show-short (a .args .looked) (search needs) long in
     let answer = line .show-line .ensures .0 in
-    let said = said-so (now (a .args .out)) (showLine (a .args .looked)) (line .show-line .result) (a .args .bench) answer in
-    (c .say .ensures ∙ said, (line .show-line .ensures .1, rw count (said-short (now (a .args .out)) (showLine (a .args .looked)) (line .show-line .result) (a .args .bench) answer short)))
+    let said = said-so (now (a .args .out)) (showLine (a .args .looked)) (line .show-line .result) (a .args .bench)
+    answer in (
+      c .say .ensures ∙ said,
+      (
+        line .show-line .ensures .1,
+        rw count (said-short (now (a .args .out)) (showLine (a .args .looked)) (line .show-line .result)
+            (a .args .bench) answer short),
+      ),
+    )
 
 pub device-spec : {M : Type 1} → statement M
 device-spec = tie.close (tie.spec show-line-requires say-requires same-length returns)

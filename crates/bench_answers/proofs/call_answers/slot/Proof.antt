@@ -25,8 +25,15 @@ returns c =
     let a = line .before .before .before .before in
     let short = bit-short (a .args .done .refusal) (a .args .done .line) (search needs) in
     let answer = line .bit-line .ensures .0 in
-    let said = said-so (now (a .args .out)) (bitLine (a .args .done .refusal) (a .args .done .line)) (line .bit-line .result) (a .args .done .bench) answer in
-    (c .say .ensures ∙ said, (line .bit-line .ensures .1, rw count (said-short (now (a .args .out)) (bitLine (a .args .done .refusal) (a .args .done .line)) (line .bit-line .result) (a .args .done .bench) answer short)))
+    let said = said-so (now (a .args .out)) (bitLine (a .args .done .refusal) (a .args .done .line))
+    (line .bit-line .result) (a .args .done .bench) answer in (
+      c .say .ensures ∙ said,
+      (
+        line .bit-line .ensures .1,
+        rw count (said-short (now (a .args .out)) (bitLine (a .args .done .refusal) (a .args .done .line))
+            (line .bit-line .result) (a .args .done .bench) answer short),
+      ),
+    )
 
 pub slot-spec : {M : Type 1} → statement M
 slot-spec = tie.close (tie.spec bit-line-requires say-requires same-length returns)

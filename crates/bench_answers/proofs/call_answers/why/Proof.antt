@@ -24,8 +24,11 @@ returns c =
     let count = ap (λ (s : Said). s .count) (c .say .ensures) in
     let a = line .before .before .before in
     let laid = line .why-line .ensures in
-    let short = laid .1 .1 in
-    (c .say .ensures ∙ said-so (now (a .args .out)) (whyLine (a .args .why)) (line .why-line .result) (a .args .bench) (laid .0), (laid .1 .0, omega arith))
+    let short = laid .1 .1 in (
+      c .say .ensures ∙ said-so (now (a .args .out)) (whyLine (a .args .why)) (line .why-line .result) (a .args .bench)
+          (laid .0),
+      (laid .1 .0, omega arith),
+    )
 
 pub why-spec : {M : Type 1} → statement M
 why-spec = tie.close (tie.spec why-line-requires say-requires same-length returns)

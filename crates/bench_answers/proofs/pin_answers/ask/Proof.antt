@@ -20,26 +20,37 @@ slice-reshare-prefix-say : tie.Need-slice-reshare-prefix-say
 slice-reshare-prefix-say c =
     let read = c .before .before .before .before .before .before in
     let a = read .before .before .before .before .args in
-    codes-within (a .bench) (now (a .list)) (read .read-pins .last .1 .0) (read .read-pins .result) (read .read-pins .ensures .0) (read .read-pins .ensures .1)
+    codes-within (a .bench) (now (a .list)) (read .read-pins .last .1 .0) (read .read-pins .result)
+    (read .read-pins .ensures .0) (read .read-pins .ensures .1)
 
 slice-aggregate-say : tie.Need-slice-aggregate-say
 slice-aggregate-say c =
     let read = c .before .before .before .before .before .before .before in
     let a = read .before .before .before .before .args in
-    sym (length-take-le (read .read-pins .result .codes) (read .read-pins .last .1 .0) (codes-within (a .bench) (now (a .list)) (read .read-pins .last .1 .0) (read .read-pins .result) (read .read-pins .ensures .0) (read .read-pins .ensures .1)))
+    sym (length-take-le (read .read-pins .result .codes) (read .read-pins .last .1 .0)
+    (codes-within (a .bench) (now (a .list)) (read .read-pins .last .1 .0) (read .read-pins .result)
+    (read .read-pins .ensures .0) (read .read-pins .ensures .1)))
 
 slice-aggregate-say-2 : tie.Need-slice-aggregate-say-2
 slice-aggregate-say-2 c =
     let read = c .before .before .before .before .before .before .before .before in
     let a = read .before .before .before .before .args in
-    sym (length-take-le (read .read-pins .result .codes) (read .read-pins .result .pins) (pins-within (a .bench) (now (a .list)) (read .read-pins .last .1 .0) (read .read-pins .result) (read .read-pins .ensures .0) (read .read-pins .ensures .1)))
+    sym (length-take-le (read .read-pins .result .codes) (read .read-pins .result .pins)
+    (pins-within (a .bench) (now (a .list)) (read .read-pins .last .1 .0) (read .read-pins .result)
+    (read .read-pins .ensures .0) (read .read-pins .ensures .1)))
 
 say-requires : tie.Need-say-requires
 say-requires c κs =
     let read = c .before .before .before .before .before .before .before .before .before in
     let a = read .before .before .before .before .args in
-    let few = asked-few (a .bench) (now (a .list)) (read .read-pins .last .1 .0) (read .read-pins .result) (read .read-pins .ensures .0) (read .read-pins .ensures .1) in
-    (few .0, few .1, asked-short (a .bench) (now (a .list)) (read .read-pins .last .1 .0) (read .read-pins .result) (read .read-pins .ensures .0) (read .read-pins .ensures .1) (search needs), read .before .before .before .before .pre)
+    let few = asked-few (a .bench) (now (a .list)) (read .read-pins .last .1 .0) (read .read-pins .result)
+    (read .read-pins .ensures .0) (read .read-pins .ensures .1) in (
+      few .0,
+      few .1,
+      asked-short (a .bench) (now (a .list)) (read .read-pins .last .1 .0) (read .read-pins .result)
+          (read .read-pins .ensures .0) (read .read-pins .ensures .1) (search needs),
+      read .before .before .before .before .pre,
+    )
 
 same-length : tie.Need-same-length
 same-length c = search needs
@@ -52,7 +63,9 @@ returns c =
     let read = c .before .before .before .before .before .before .before .before .before .before .before .before in
     let a = read .before .before .before .before .args in
     let say = c .before .before .say in
-    says-asked (a .bench) (now (a .list)) (read .read-pins .last .1 .0) (read .read-pins .result) (read .read-pins .ensures .0) (read .read-pins .ensures .1) (now (a .out)) (say .last .1 .1 .1 .1 .1 .0) (say .result) (say .ensures)
+    says-asked (a .bench) (now (a .list)) (read .read-pins .last .1 .0) (read .read-pins .result)
+    (read .read-pins .ensures .0) (read .read-pins .ensures .1) (now (a .out)) (say .last .1 .1 .1 .1 .1 .0)
+    (say .result) (say .ensures)
 
 pub ask-spec : {M : Type 1} → statement M
 ask-spec =

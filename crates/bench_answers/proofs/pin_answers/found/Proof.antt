@@ -24,7 +24,8 @@ returns-2 c =
     let call = c .before .before in
     let room = call .before .before in
     let a = room .before .before .args in
-    let done = whole-said (a .bench) (ofPins (pinsOutcome (a .bench) (a .places))) (now (a .out)) (room .if1 .left) (call .answer .last .1 .1 .0) (call .answer .result) (call .answer .ensures) in
+    let done = whole-said (a .bench) (ofPins (pinsOutcome (a .bench) (a .places))) (now (a .out)) (room .if1 .left)
+    (call .answer .last .1 .1 .0) (call .answer .result) (call .answer .ensures) in
     (done .0, (done .1, done .2))
 
 pub found-spec : {M : Type 1} → statement M

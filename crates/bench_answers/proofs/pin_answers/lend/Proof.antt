@@ -40,8 +40,10 @@ returns c =
     let a = start .args in
     let long = start .pre .0 in
     let few = then .if1 .taken in
-    let same : pinsOutcome (a .bench) (length (take (a .places) (now (a .list)))) ≡ pinsOutcome (a .bench) (a .places) = ap (pinsOutcome (a .bench)) (length-take-le (a .places) (now (a .list)) (omega (arith, long, few))) in
-    subst (λ (o : PinsOutcome). Says (now (a .out)) (ofPins o) (ask .ask .last .1 .1 .0) (ask .ask .result)) same (ask .ask .ensures)
+    let same : pinsOutcome (a .bench) (length (take (a .places) (now (a .list)))) ≡ pinsOutcome (a .bench) (a .places) =
+    ap (pinsOutcome (a .bench)) (length-take-le (a .places) (now (a .list)) (omega (arith, long, few))) in
+    subst (λ (o : PinsOutcome). Says (now (a .out)) (ofPins o) (ask .ask .last .1 .1 .0) (ask .ask .result)) same
+    (ask .ask .ensures)
 
 ask-requires-2 : tie.Need-ask-requires-2
 ask-requires-2 c κs = search needs
@@ -58,8 +60,10 @@ returns-2 c =
     let else = ask .before .before .before in
     let start = else .before .before .before in
     let a = start .args in
-    let same : pinsOutcome (a .bench) (length (now (a .list))) ≡ pinsOutcome (a .bench) (a .places) = ap (pinsOutcome (a .bench)) (start .pre .0) ∙ pins-just-enough (a .bench) (a .places) (else .if1 .left) in
-    subst (λ (o : PinsOutcome). Says (now (a .out)) (ofPins o) (ask .ask2 .last .1 .1 .0) (ask .ask2 .result)) same (ask .ask2 .ensures)
+    let same : pinsOutcome (a .bench) (length (now (a .list))) ≡ pinsOutcome (a .bench) (a .places) =
+    ap (pinsOutcome (a .bench)) (start .pre .0) ∙ pins-just-enough (a .bench) (a .places) (else .if1 .left) in
+    subst (λ (o : PinsOutcome). Says (now (a .out)) (ofPins o) (ask .ask2 .last .1 .1 .0) (ask .ask2 .result)) same
+    (ask .ask2 .ensures)
 
 pub lend-spec : {M : Type 1} → statement M
 lend-spec =

@@ -26,9 +26,19 @@ returns c =
     let codes = shared .before .before .before .before in
     let refusal = codes .before .before .before .before in
     let a = refusal .before .before .before .args in
-    puts-field (decimal (a .refusal)) 0x20 (field-puts (now (a .out)) (a .at) (decimal (a .refusal)) 0x20 (refusal .put-number .last .0) (refusal .put-number .result) (refusal .put-number .ensures .0, refusal .put-number .ensures .1))
-    (puts-field (decimal (a .codes)) 0x20 (field-puts (refusal .put-number .last .0) (refusal .put-number .result) (decimal (a .codes)) 0x20 (codes .put-number2 .last .0) (codes .put-number2 .result) (codes .put-number2 .ensures .0, codes .put-number2 .ensures .1))
-    (field-puts (codes .put-number2 .last .0) (codes .put-number2 .result) (sharedText (a .shared)) 0x0A (shared .put-shared .last .0) (shared .put-shared .result) (shared .put-shared .ensures .0, shared .put-shared .ensures .1)))
+    puts-field (decimal (a .refusal)) 0x20 (field-puts (now (a .out)) (a .at) (decimal (a .refusal)) 0x20
+    (refusal .put-number .last .0) (refusal .put-number .result) (
+      refusal .put-number .ensures .0,
+      refusal .put-number .ensures .1,
+    ))
+    (puts-field (decimal (a .codes)) 0x20 (field-puts (refusal .put-number .last .0) (refusal .put-number .result)
+    (decimal (a .codes)) 0x20 (codes .put-number2 .last .0) (codes .put-number2 .result)
+    (codes .put-number2 .ensures .0, codes .put-number2 .ensures .1))
+    (field-puts (codes .put-number2 .last .0) (codes .put-number2 .result) (sharedText (a .shared)) 0x0A
+    (shared .put-shared .last .0) (shared .put-shared .result) (
+      shared .put-shared .ensures .0,
+      shared .put-shared .ensures .1,
+    )))
 
 pub put-counts-spec : {M : Type 1} → statement M
 put-counts-spec =

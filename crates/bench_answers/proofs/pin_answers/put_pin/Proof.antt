@@ -25,8 +25,14 @@ returns c =
     let code = pin .before .before .before .before in
     let start = code .before .before .before in
     let a = start .args in (
-      puts-field (hexDigits 16 (a .code)) 0x20 (field-puts (now (a .out)) (a .at) (hexDigits 16 (a .code)) 0x20 (code .put-digits .last .0) (code .put-digits .result) (code .put-digits .ensures .0, code .put-digits .ensures .1))
-          (field-puts (code .put-digits .last .0) (code .put-digits .result) (decimal (a .pin)) 0x0A (pin .put-number .last .0) (pin .put-number .result) (pin .put-number .ensures .0, pin .put-number .ensures .1)),
+      puts-field (hexDigits 16 (a .code)) 0x20
+          (field-puts (now (a .out)) (a .at) (hexDigits 16 (a .code)) 0x20 (code .put-digits .last .0)
+          (code .put-digits .result) (code .put-digits .ensures .0, code .put-digits .ensures .1))
+          (field-puts (code .put-digits .last .0) (code .put-digits .result) (decimal (a .pin)) 0x0A
+          (pin .put-number .last .0) (pin .put-number .result) (
+            pin .put-number .ensures .0,
+            pin .put-number .ensures .1,
+          )),
       pin-short (a .code) (a .pin) (start .fits .pin .fits),
     )
 

@@ -1,4 +1,5 @@
--- The loop's invariant: the lines of the first `i` probes are laid, and `to` is the place behind them (`Put`). The measure is how many are left.
+-- The loop's invariant: the lines of the first `i` probes are laid, and `to` is the place behind them (`Put`). The
+-- measure is how many are left.
 use Prim.Native.Nat.{_-_, _≤_}
 use denote.Ref.{now}
 use native.Mathlib.Omega.{arith}
@@ -45,7 +46,9 @@ loop-again c =
     let start = turn .before .before .before .before in
     let a = start .args in
     let within = line .before .before .before .before .loop-test .taken in
-    let next = put-more (now (a .out)) (a .at) (now (a .codes)) (now (a .pins)) (start .pre .0) (start .pre .1) (turn .loop .i) (turn .loop .to) (turn .loop .out) (line .put-pin .last .0) (line .put-pin .result) within (turn .loop .inv .1) (line .put-pin .ensures .0) (line .put-pin .ensures .1) in
+    let next = put-more (now (a .out)) (a .at) (now (a .codes)) (now (a .pins)) (start .pre .0) (start .pre .1)
+    (turn .loop .i) (turn .loop .to) (turn .loop .out) (line .put-pin .last .0) (line .put-pin .result) within
+    (turn .loop .inv .1) (line .put-pin .ensures .0) (line .put-pin .ensures .1) in
     (omega (arith, within), next)
 
 same-length : tie.Need-same-length Inv-loop μ-loop
@@ -53,14 +56,16 @@ same-length c =
     let turn = c .before in
     let start = turn .before .before .before .before in
     let a = start .args in
-    put-size (now (a .out)) (a .at) (now (a .codes)) (now (a .pins)) (start .pre .0) (start .pre .1) (turn .loop .i) (turn .loop .to) (turn .loop .out) (turn .loop .inv .0) (turn .loop .inv .1)
+    put-size (now (a .out)) (a .at) (now (a .codes)) (now (a .pins)) (start .pre .0) (start .pre .1) (turn .loop .i)
+    (turn .loop .to) (turn .loop .out) (turn .loop .inv .0) (turn .loop .inv .1)
 
 returns : tie.Need-returns Inv-loop μ-loop
 returns c =
     let turn = c .before in
     let start = turn .before .before .before .before in
     let a = start .args in
-    put-all (now (a .out)) (a .at) (now (a .codes)) (now (a .pins)) (start .pre .0) (start .pre .1) (turn .loop .i) (turn .loop .to) (turn .loop .out) (c .loop-test .left) (turn .loop .inv .0) (turn .loop .inv .1)
+    put-all (now (a .out)) (a .at) (now (a .codes)) (now (a .pins)) (start .pre .0) (start .pre .1) (turn .loop .i)
+    (turn .loop .to) (turn .loop .out) (c .loop-test .left) (turn .loop .inv .0) (turn .loop .inv .1)
 
 pub put-pins-spec : {M : Type 1} → statement M
 put-pins-spec =

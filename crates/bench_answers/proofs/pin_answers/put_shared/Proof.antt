@@ -32,7 +32,9 @@ returns c =
     let mark = c .before .before in
     let none = c .before .before .before .before .before .before in
     let a = c .before .before .before .before .before .before .before .before .before .before .before .args in
-    let done = field-laid (now (a .out)) (a .at) (0x2D ∷ []) (a .mark) (none .put-char .result) (none .put-char .last .0) (mark .put-char2 .result) (mark .put-char2 .last .0) (none .put-char .ensures .0) (none .put-char .ensures .1) (mark .put-char2 .ensures .0) (mark .put-char2 .ensures .1) in
+    let done = field-laid (now (a .out)) (a .at) (0x2D ∷ []) (a .mark) (none .put-char .result)
+    (none .put-char .last .0) (mark .put-char2 .result) (mark .put-char2 .last .0) (none .put-char .ensures .0)
+    (none .put-char .ensures .1) (mark .put-char2 .ensures .0) (mark .put-char2 .ensures .1) in
     rw (c .before .before .before .before .before .before .before .before .enum-told .given .1) (done .0, done .1)
 
 same-length-2 : tie.Need-same-length-2

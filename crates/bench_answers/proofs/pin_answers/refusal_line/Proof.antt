@@ -23,7 +23,8 @@ returns : tie.Need-returns
 returns c =
     let room = c .before .before in
     let a = room .before .before .before .args in
-    let none = line-refused (now (a .out)) (a .at) (pinsLine (a .refusal) 0 NoPin) (sym (room .has-room .ensures) ∙ not-true (room .has-room .result) (c .before .if1 .taken)) in
+    let none = line-refused (now (a .out)) (a .at) (pinsLine (a .refusal) 0 NoPin) (sym (room .has-room .ensures)
+    ∙ not-true (room .has-room .result) (c .before .if1 .taken)) in
     (c .no-room .ensures ∙ none .0, none .1)
 
 put-counts-requires : tie.Need-put-counts-requires
@@ -41,7 +42,8 @@ returns-2 c =
     let room = put .before .before .before in
     let a = room .before .before .before .args in
     let short = pins-refusal-short (a .refusal) (search needs) in
-    let done = line-done (now (a .out)) (a .at) (pinsLine (a .refusal) 0 NoPin) (sym (room .has-room .ensures) ∙ not-false (room .has-room .result) (put .before .before .if1 .left)) short _ _ (put .put-counts .ensures) in
+    let done = line-done (now (a .out)) (a .at) (pinsLine (a .refusal) 0 NoPin) (sym (room .has-room .ensures)
+    ∙ not-false (room .has-room .result) (put .before .before .if1 .left)) short _ _ (put .put-counts .ensures) in
     (c .behind .ensures ∙ done .0, done .1)
 
 pub refusal-line-spec : {M : Type 1} → statement M

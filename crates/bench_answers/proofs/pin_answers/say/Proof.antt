@@ -22,7 +22,9 @@ put-pins-requires c κs =
     let few = start .pre .0 in
     let wide = start .pre .3 in
     let short = start .pre .2 in
-    let done = counts-put (now (a .out)) (pinsLine (a .refusal) (length (now (a .codes))) (a .shared)) (counts .put-counts .last .0) (counts .put-counts .result) (start .pre .3) (start .pre .2) (counts .put-counts .ensures) in
+    let done = counts-put (now (a .out)) (pinsLine (a .refusal) (length (now (a .codes))) (a .shared))
+    (counts .put-counts .last .0) (counts .put-counts .result) (start .pre .3) (start .pre .2)
+    (counts .put-counts .ensures) in
     (start .pre .1, omega (arith, few, wide, short, done .0, done .2))
 
 same-length : tie.Need-same-length
@@ -37,8 +39,10 @@ returns c =
     let few = start .pre .0 in
     let done = lines .put-pins .ensures in
     let most = done .2 in
-    says-pins (now (a .out)) (pinsLine (a .refusal) (length (now (a .codes))) (a .shared)) (counts .put-counts .last .0) (counts .put-counts .result) (start .pre .3) (start .pre .2) (counts .put-counts .ensures)
-    (pinLines (now (a .codes)) (now (a .pins))) (lines .put-pins .last .0) (lines .put-pins .result) (a .bench) (omega (arith, few, most)) (done .0) (done .1)
+    says-pins (now (a .out)) (pinsLine (a .refusal) (length (now (a .codes))) (a .shared)) (counts .put-counts .last .0)
+    (counts .put-counts .result) (start .pre .3) (start .pre .2) (counts .put-counts .ensures)
+    (pinLines (now (a .codes)) (now (a .pins))) (lines .put-pins .last .0) (lines .put-pins .result) (a .bench)
+    (omega (arith, few, most)) (done .0) (done .1)
 
 pub say-spec : {M : Type 1} → statement M
 say-spec =

@@ -10,7 +10,8 @@ use Rattle.bench_answers.proofs.search_answers.found.Tie as tie
 returns : tie.Need-returns
 returns c =
     let a = c .before .before .args in
-    let none = whole-refused (a .bench) (ofSearch (searchOutcome (commandFor (a .alarms)) (a .bench) (a .places) (a .bytes))) (now (a .out)) (c .if1 .taken) in
+    let none = whole-refused (a .bench) (ofSearch
+    (searchOutcome (commandFor (a .alarms)) (a .bench) (a .places) (a .bytes))) (now (a .out)) (c .if1 .taken) in
     (none .0, (none .1, none .2))
 
 search-requires : tie.Need-search-requires
@@ -24,7 +25,9 @@ returns-2 c =
     let call = c .before .before in
     let room = call .before .before in
     let a = room .before .before .args in
-    let done = whole-said (a .bench) (ofSearch (searchOutcome (commandFor (a .alarms)) (a .bench) (a .places) (a .bytes))) (now (a .out)) (room .if1 .left) (call .search .last .1 .1 .1 .1 .0) (call .search .result) (call .search .ensures) in
+    let done = whole-said (a .bench) (ofSearch
+    (searchOutcome (commandFor (a .alarms)) (a .bench) (a .places) (a .bytes))) (now (a .out)) (room .if1 .left)
+    (call .search .last .1 .1 .1 .1 .0) (call .search .result) (call .search .ensures) in
     (done .0, (done .1, done .2))
 
 pub found-spec : {M : Type 1} → statement M

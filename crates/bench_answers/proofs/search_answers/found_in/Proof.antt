@@ -23,8 +23,10 @@ slice-reshare-prefix-say-found c =
     let run = c .before .before .before .before .before .before .before in
     let a = run .before .before .before .before .before .before .args in
     let done = run .run .ensures in
-    let codes = codes-part (commandFor (a .alarms)) (a .bench) (now (a .list)) (now (a .recording)) (run .run .last .1 .1 .0) (run .run .last .1 .1 .1 .0) (run .run .result) (done .0) (done .1 .0) in
-    let bytes = bytes-part (commandFor (a .alarms)) (a .bench) (now (a .list)) (now (a .recording)) (run .run .last .1 .1 .0) (run .run .last .1 .1 .1 .0) (run .run .result) (done .0) (done .1 .1) in
+    let codes = codes-part (commandFor (a .alarms)) (a .bench) (now (a .list)) (now (a .recording))
+    (run .run .last .1 .1 .0) (run .run .last .1 .1 .1 .0) (run .run .result) (done .0) (done .1 .0) in
+    let bytes = bytes-part (commandFor (a .alarms)) (a .bench) (now (a .list)) (now (a .recording))
+    (run .run .last .1 .1 .0) (run .run .last .1 .1 .1 .0) (run .run .result) (done .0) (done .1 .1) in
     codes .0
 
 slice-aggregate-say-found : tie.Need-slice-aggregate-say-found
@@ -32,8 +34,10 @@ slice-aggregate-say-found c =
     let run = c .before .before .before .before .before .before .before .before in
     let a = run .before .before .before .before .before .before .args in
     let done = run .run .ensures in
-    let codes = codes-part (commandFor (a .alarms)) (a .bench) (now (a .list)) (now (a .recording)) (run .run .last .1 .1 .0) (run .run .last .1 .1 .1 .0) (run .run .result) (done .0) (done .1 .0) in
-    let bytes = bytes-part (commandFor (a .alarms)) (a .bench) (now (a .list)) (now (a .recording)) (run .run .last .1 .1 .0) (run .run .last .1 .1 .1 .0) (run .run .result) (done .0) (done .1 .1) in
+    let codes = codes-part (commandFor (a .alarms)) (a .bench) (now (a .list)) (now (a .recording))
+    (run .run .last .1 .1 .0) (run .run .last .1 .1 .1 .0) (run .run .result) (done .0) (done .1 .0) in
+    let bytes = bytes-part (commandFor (a .alarms)) (a .bench) (now (a .list)) (now (a .recording))
+    (run .run .last .1 .1 .0) (run .run .last .1 .1 .1 .0) (run .run .result) (done .0) (done .1 .1) in
     codes .2
 
 slice-reshare-prefix-say-found-2 : tie.Need-slice-reshare-prefix-say-found-2
@@ -41,8 +45,10 @@ slice-reshare-prefix-say-found-2 c =
     let run = c .before .before .before .before .before .before .before .before in
     let a = run .before .before .before .before .before .before .args in
     let done = run .run .ensures in
-    let codes = codes-part (commandFor (a .alarms)) (a .bench) (now (a .list)) (now (a .recording)) (run .run .last .1 .1 .0) (run .run .last .1 .1 .1 .0) (run .run .result) (done .0) (done .1 .0) in
-    let bytes = bytes-part (commandFor (a .alarms)) (a .bench) (now (a .list)) (now (a .recording)) (run .run .last .1 .1 .0) (run .run .last .1 .1 .1 .0) (run .run .result) (done .0) (done .1 .1) in
+    let codes = codes-part (commandFor (a .alarms)) (a .bench) (now (a .list)) (now (a .recording))
+    (run .run .last .1 .1 .0) (run .run .last .1 .1 .1 .0) (run .run .result) (done .0) (done .1 .0) in
+    let bytes = bytes-part (commandFor (a .alarms)) (a .bench) (now (a .list)) (now (a .recording))
+    (run .run .last .1 .1 .0) (run .run .last .1 .1 .1 .0) (run .run .result) (done .0) (done .1 .1) in
     bytes .0
 
 slice-aggregate-say-found-2 : tie.Need-slice-aggregate-say-found-2
@@ -50,8 +56,10 @@ slice-aggregate-say-found-2 c =
     let run = c .before .before .before .before .before .before .before .before .before in
     let a = run .before .before .before .before .before .before .args in
     let done = run .run .ensures in
-    let codes = codes-part (commandFor (a .alarms)) (a .bench) (now (a .list)) (now (a .recording)) (run .run .last .1 .1 .0) (run .run .last .1 .1 .1 .0) (run .run .result) (done .0) (done .1 .0) in
-    let bytes = bytes-part (commandFor (a .alarms)) (a .bench) (now (a .list)) (now (a .recording)) (run .run .last .1 .1 .0) (run .run .last .1 .1 .1 .0) (run .run .result) (done .0) (done .1 .1) in
+    let codes = codes-part (commandFor (a .alarms)) (a .bench) (now (a .list)) (now (a .recording))
+    (run .run .last .1 .1 .0) (run .run .last .1 .1 .1 .0) (run .run .result) (done .0) (done .1 .0) in
+    let bytes = bytes-part (commandFor (a .alarms)) (a .bench) (now (a .list)) (now (a .recording))
+    (run .run .last .1 .1 .0) (run .run .last .1 .1 .1 .0) (run .run .result) (done .0) (done .1 .1) in
     bytes .2
 
 say-found-requires : tie.Need-say-found-requires
@@ -59,10 +67,16 @@ say-found-requires c κs =
     let run = c .before .before .before .before .before .before .before .before .before .before in
     let a = run .before .before .before .before .before .before .args in
     let done = run .run .ensures in
-    let codes = codes-part (commandFor (a .alarms)) (a .bench) (now (a .list)) (now (a .recording)) (run .run .last .1 .1 .0) (run .run .last .1 .1 .1 .0) (run .run .result) (done .0) (done .1 .0) in
-    let bytes = bytes-part (commandFor (a .alarms)) (a .bench) (now (a .list)) (now (a .recording)) (run .run .last .1 .1 .0) (run .run .last .1 .1 .1 .0) (run .run .result) (done .0) (done .1 .1) in
-    let few = search-bounded (commandFor (a .alarms)) (a .bench) (length (now (a .list))) (length (now (a .recording))) in
-    (rw (codes .1) (few .codes-most), rw (bytes .1) (few .bytes-most), run .before .before .before .before .before .before .pre)
+    let codes = codes-part (commandFor (a .alarms)) (a .bench) (now (a .list)) (now (a .recording))
+    (run .run .last .1 .1 .0) (run .run .last .1 .1 .1 .0) (run .run .result) (done .0) (done .1 .0) in
+    let bytes = bytes-part (commandFor (a .alarms)) (a .bench) (now (a .list)) (now (a .recording))
+    (run .run .last .1 .1 .0) (run .run .last .1 .1 .1 .0) (run .run .result) (done .0) (done .1 .1) in
+    let few = search-bounded (commandFor (a .alarms)) (a .bench) (length (now (a .list)))
+    (length (now (a .recording))) in (
+      rw (codes .1) (few .codes-most),
+      rw (bytes .1) (few .bytes-most),
+      run .before .before .before .before .before .before .pre,
+    )
 
 same-length : tie.Need-same-length
 same-length c = search needs
@@ -78,10 +92,14 @@ returns c =
     let run = c .before .before .before .before .before .before .before .before .before .before .before .before .before in
     let a = run .before .before .before .before .before .before .args in
     let done = run .run .ensures in
-    let codes = codes-part (commandFor (a .alarms)) (a .bench) (now (a .list)) (now (a .recording)) (run .run .last .1 .1 .0) (run .run .last .1 .1 .1 .0) (run .run .result) (done .0) (done .1 .0) in
-    let bytes = bytes-part (commandFor (a .alarms)) (a .bench) (now (a .list)) (now (a .recording)) (run .run .last .1 .1 .0) (run .run .last .1 .1 .1 .0) (run .run .result) (done .0) (done .1 .1) in
+    let codes = codes-part (commandFor (a .alarms)) (a .bench) (now (a .list)) (now (a .recording))
+    (run .run .last .1 .1 .0) (run .run .last .1 .1 .1 .0) (run .run .result) (done .0) (done .1 .0) in
+    let bytes = bytes-part (commandFor (a .alarms)) (a .bench) (now (a .list)) (now (a .recording))
+    (run .run .last .1 .1 .0) (run .run .last .1 .1 .1 .0) (run .run .result) (done .0) (done .1 .1) in
     let say = c .before .before .say-found in
-    says-outcome (now (a .out)) (searchOutcome (commandFor (a .alarms)) (a .bench) (length (now (a .list))) (length (now (a .recording)))) (run .run .result) _ _ (say .last .1 .1 .1 .1 .1 .1 .0) (say .result) (done .0) (codes .1) (bytes .1) (say .ensures)
+    says-outcome (now (a .out)) (searchOutcome (commandFor (a .alarms)) (a .bench) (length (now (a .list)))
+    (length (now (a .recording)))) (run .run .result) _ _ (say .last .1 .1 .1 .1 .1 .1 .0) (say .result) (done .0)
+    (codes .1) (bytes .1) (say .ensures)
 
 pub found-in-spec : {M : Type 1} → statement M
 found-in-spec =

@@ -62,10 +62,18 @@ returns c =
     let bytes = least .least2 .ensures in
     let list-long = a .pre .0 in
     let recording-long = a .pre .1 in
-    let codes : length (take (least .before .least .result) (now (a .args .list))) ≡ min (a .args .places) 32 = length-take-le (least .before .least .result) (now (a .args .list)) (omega arith) ∙ places in
-    let room : length (take (least .least2 .result) (now (a .args .recording))) ≡ min (a .args .bytes) 1824 = length-take-le (least .least2 .result) (now (a .args .recording)) (omega arith) ∙ bytes in
-    let same : searchOutcome (commandFor (a .args .alarms)) (a .args .bench) (length (take (least .before .least .result) (now (a .args .list)))) (length (take (least .least2 .result) (now (a .args .recording)))) ≡ searchOutcome (commandFor (a .args .alarms)) (a .args .bench) (a .args .places) (a .args .bytes) = rw (codes, room) (just-enough (commandFor (a .args .alarms)) (a .args .bench) (a .args .places) (a .args .bytes)) in
-    subst (λ (o : Outcome). Says (now (a .args .out)) (ofSearch o) (found .found-in .last .1 .1 .1 .1 .0) (found .found-in .result)) same (found .found-in .ensures)
+    let codes : length (take (least .before .least .result) (now (a .args .list))) ≡ min (a .args .places) 32 =
+    length-take-le (least .before .least .result) (now (a .args .list)) (omega arith) ∙ places in
+    let room : length (take (least .least2 .result) (now (a .args .recording))) ≡ min (a .args .bytes) 1824 =
+    length-take-le (least .least2 .result) (now (a .args .recording)) (omega arith) ∙ bytes in
+    let same : searchOutcome (commandFor (a .args .alarms)) (a .args .bench)
+    (length (take (least .before .least .result) (now (a .args .list))))
+    (length (take (least .least2 .result) (now (a .args .recording))))
+    ≡ searchOutcome (commandFor (a .args .alarms)) (a .args .bench) (a .args .places) (a .args .bytes) =
+    rw (codes, room) (just-enough (commandFor (a .args .alarms)) (a .args .bench) (a .args .places)
+    (a .args .bytes)) in
+    subst (λ (o : Outcome). Says (now (a .args .out)) (ofSearch o) (found .found-in .last .1 .1 .1 .1 .0)
+    (found .found-in .result)) same (found .found-in .ensures)
 
 pub lend-spec : {M : Type 1} → statement M
 lend-spec =

@@ -1,4 +1,5 @@
--- The loop's invariant: the lines of the first `i` codes are laid, and `to` is the place behind them. The measure is how many are left.
+-- The loop's invariant: the lines of the first `i` codes are laid, and `to` is the place behind them. The measure is
+-- how many are left.
 use Prim.Native.Nat.{_+_, _*_, _-_, _≤_}
 use denote.Ref.{now}
 use mathlib.Core.Path.{_≡_}
@@ -12,13 +13,19 @@ use Rattle.bench_answers.proofs.search_answers.put_codes.Statement.{sta
 use Rattle.bench_answers.proofs.search_answers.put_codes.Tie as tie
 
 abbrev Inv-loop : tie.InvT-loop
-Inv-loop out₀ at codes to₀ i₀ out to i = (i ≤ length codes) × (to ≡ at + 17 * i) × (out ≡ laid out₀ at (codeLines (take i codes)))
+Inv-loop out₀ at codes to₀ i₀ out to i = (i ≤ length codes) × (to ≡ at + 17 * i)
+    × (out ≡ laid out₀ at (codeLines (take i codes)))
 
 abbrev μ-loop : tie.MeasureT-loop
 μ-loop out₀ at codes to₀ i₀ out to i = length codes - i
 
 loop-holds : tie.Need-loop-holds Inv-loop μ-loop
-loop-holds c = (omega arith, omega arith, codes-begun (now (c .before .before .args .out)) (c .before .before .args .at) (now (c .before .before .args .codes)))
+loop-holds c = (
+  omega arith,
+  omega arith,
+  codes-begun (now (c .before .before .args .out)) (c .before .before .args .at)
+      (now (c .before .before .args .codes)),
+)
 
 mul-code-line : tie.Need-mul-code-line Inv-loop μ-loop
 mul-code-line c = search needs
@@ -41,20 +48,25 @@ loop-again c =
     let turn = line .before .before .before .before in
     let a = turn .before .before .before in
     let so = turn .loop .inv in
-    let next = codes-turn (now (a .args .out)) (a .args .at) (now (a .args .codes)) (a .pre) (turn .loop .i) (turn .loop .to) (turn .loop .out) (line .code-line .last .0) (line .code-line .result) (line .before .before .before .loop-test .taken) (so .1) (so .2) (line .code-line .ensures .0) (line .code-line .ensures .1) in
+    let next = codes-turn (now (a .args .out)) (a .args .at) (now (a .args .codes)) (a .pre) (turn .loop .i)
+    (turn .loop .to) (turn .loop .out) (line .code-line .last .0) (line .code-line .result)
+    (line .before .before .before .loop-test .taken) (so .1) (so .2) (line .code-line .ensures .0)
+    (line .code-line .ensures .1) in
     (omega arith, next .0, next .1)
 
 same-length : tie.Need-same-length Inv-loop μ-loop
 same-length c =
     let a = c .before .before .before .before in
     let so = c .before .loop .inv in
-    codes-size (now (a .args .out)) (a .args .at) (now (a .args .codes)) (a .pre) (c .before .loop .i) (c .before .loop .out) (so .0) (so .2)
+    codes-size (now (a .args .out)) (a .args .at) (now (a .args .codes)) (a .pre) (c .before .loop .i)
+    (c .before .loop .out) (so .0) (so .2)
 
 returns : tie.Need-returns Inv-loop μ-loop
 returns c =
     let a = c .before .before .before .before in
     let so = c .before .loop .inv in
-    codes-end (now (a .args .out)) (a .args .at) (now (a .args .codes)) (a .pre) (c .before .loop .i) (c .before .loop .to) (c .before .loop .out) (c .loop-test .left) (so .0) (so .1) (so .2)
+    codes-end (now (a .args .out)) (a .args .at) (now (a .args .codes)) (a .pre) (c .before .loop .i)
+    (c .before .loop .to) (c .before .loop .out) (c .loop-test .left) (so .0) (so .1) (so .2)
 
 pub put-codes-spec : {M : Type 1} → statement M
 put-codes-spec =

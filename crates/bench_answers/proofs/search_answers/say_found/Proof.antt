@@ -28,9 +28,12 @@ put-codes-requires c κs =
     let codes-few = a .pre .0 in
     let bytes-few = a .pre .1 in
     let long = a .pre .2 in
-    let short = search-short (a .args .refusal) (length (now (a .args .codes))) (a .args .passes) (a .args .slots) (length (now (a .args .recording))) (search needs) (omega arith) (search needs) (search needs) (omega arith) in
-    let text = searchLine (a .args .refusal) (length (now (a .args .codes))) (a .args .passes) (a .args .slots) (length (now (a .args .recording))) in
-    let done = line-laid (now (a .args .out)) 0 text (head .search-line .last .0) (head .search-line .result) (head .search-line .ensures .0) (head .search-line .ensures .1) (omega arith) in
+    let short = search-short (a .args .refusal) (length (now (a .args .codes))) (a .args .passes) (a .args .slots)
+    (length (now (a .args .recording))) (search needs) (omega arith) (search needs) (search needs) (omega arith) in
+    let text = searchLine (a .args .refusal) (length (now (a .args .codes))) (a .args .passes) (a .args .slots)
+    (length (now (a .args .recording))) in
+    let done = line-laid (now (a .args .out)) 0 text (head .search-line .last .0) (head .search-line .result)
+    (head .search-line .ensures .0) (head .search-line .ensures .1) (omega arith) in
     let size = ap length (done .1) ∙ laid-length (now (a .args .out)) 0 text (omega arith) in
     let behind = done .0 in
     omega arith
@@ -49,12 +52,19 @@ returns c =
     let a = head .before .before .before .before .before in
     let codes-few = a .pre .0 in
     let bytes-few = a .pre .1 in
-    let short = search-short (a .args .refusal) (length (now (a .args .codes))) (a .args .passes) (a .args .slots) (length (now (a .args .recording))) (search needs) (omega arith) (search needs) (search needs) (omega arith) in
-    let text = searchLine (a .args .refusal) (length (now (a .args .codes))) (a .args .passes) (a .args .slots) (length (now (a .args .recording))) in
+    let short = search-short (a .args .refusal) (length (now (a .args .codes))) (a .args .passes) (a .args .slots)
+    (length (now (a .args .recording))) (search needs) (omega arith) (search needs) (search needs) (omega arith) in
+    let text = searchLine (a .args .refusal) (length (now (a .args .codes))) (a .args .passes) (a .args .slots)
+    (length (now (a .args .recording))) in
     let lines = codeLines (now (a .args .codes)) in
-    let place = codes .put-codes .ensures .0 ∙ ap (λ (n : ℕ). head .search-line .result .next + n) (sym (code-lines-length (now (a .args .codes)))) in
-    says-found (now (a .args .out)) text lines (now (a .args .recording)) (head .search-line .last .0) (codes .put-codes .last .0) (frames .lay .last .0) (head .search-line .result) (frames .lay .result) (codes .put-codes .result) (a .args .bench)
-    (a .pre .2) short (lines-few (now (a .args .codes)) codes-few) bytes-few (head .search-line .ensures .0) (head .search-line .ensures .1) place (codes .put-codes .ensures .1) (frames .lay .ensures .0) (frames .lay .ensures .1)
+    let place = codes .put-codes .ensures .0 ∙ ap (λ (n : ℕ). head .search-line .result .next + n)
+    (sym (code-lines-length (now (a .args .codes)))) in
+    says-found (now (a .args .out)) text lines (now (a .args .recording)) (head .search-line .last .0)
+    (codes .put-codes .last .0) (frames .lay .last .0) (head .search-line .result) (frames .lay .result)
+    (codes .put-codes .result) (a .args .bench)
+    (a .pre .2) short (lines-few (now (a .args .codes)) codes-few) bytes-few (head .search-line .ensures .0)
+    (head .search-line .ensures .1) place (codes .put-codes .ensures .1) (frames .lay .ensures .0)
+    (frames .lay .ensures .1)
 
 pub say-found-spec : {M : Type 1} → statement M
 say-found-spec =

@@ -24,8 +24,16 @@ returns c =
     let refusal = version .before .before .before .before in
     let start = refusal .before .before .before in
     let a = start .args in (
-      puts-field (decimal (a .refusal)) 0x20 (field-puts (now (a .out)) (a .at) (decimal (a .refusal)) 0x20 (refusal .put-number .last .0) (refusal .put-number .result) (refusal .put-number .ensures .0, refusal .put-number .ensures .1))
-          (field-puts (refusal .put-number .last .0) (refusal .put-number .result) (decimal (a .version)) 0x0A (version .put-number2 .last .0) (version .put-number2 .result) (version .put-number2 .ensures .0, version .put-number2 .ensures .1)),
+      puts-field (decimal (a .refusal)) 0x20 (field-puts (now (a .out)) (a .at) (decimal (a .refusal)) 0x20
+          (refusal .put-number .last .0) (refusal .put-number .result) (
+            refusal .put-number .ensures .0,
+            refusal .put-number .ensures .1,
+          ))
+          (field-puts (refusal .put-number .last .0) (refusal .put-number .result) (decimal (a .version)) 0x0A
+          (version .put-number2 .last .0) (version .put-number2 .result) (
+            version .put-number2 .ensures .0,
+            version .put-number2 .ensures .1,
+          )),
       change-short (a .refusal) (a .version) (start .fits .refusal .fits) (start .fits .version .fits),
     )
 

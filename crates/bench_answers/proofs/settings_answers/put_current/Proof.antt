@@ -37,12 +37,34 @@ returns c =
     let refusal = high .before .before .before .before in
     let start = refusal .before .before .before in
     let a = start .args in (
-      puts-field (decimal (a .refusal)) 0x20 (field-puts (now (a .out)) (a .at) (decimal (a .refusal)) 0x20 (refusal .put-number .last .0) (refusal .put-number .result) (refusal .put-number .ensures .0, refusal .put-number .ensures .1))
-          (puts-field (hexDigits 2 (a .high)) 0x20 (field-puts (refusal .put-number .last .0) (refusal .put-number .result) (hexDigits 2 (a .high)) 0x20 (high .put-digits .last .0) (high .put-digits .result) (high .put-digits .ensures .0, high .put-digits .ensures .1))
-          (puts-field (hexDigits 2 (a .low)) 0x20 (field-puts (high .put-digits .last .0) (high .put-digits .result) (hexDigits 2 (a .low)) 0x20 (low .put-digits2 .last .0) (low .put-digits2 .result) (low .put-digits2 .ensures .0, low .put-digits2 .ensures .1))
-          (puts-field (hexDigits 2 (a .configuration)) 0x20 (field-puts (low .put-digits2 .last .0) (low .put-digits2 .result) (hexDigits 2 (a .configuration)) 0x20 (configuration .put-digits3 .last .0) (configuration .put-digits3 .result) (configuration .put-digits3 .ensures .0, configuration .put-digits3 .ensures .1))
-          (field-puts (configuration .put-digits3 .last .0) (configuration .put-digits3 .result) (decimal (a .version)) 0x0A (version .put-number2 .last .0) (version .put-number2 .result) (version .put-number2 .ensures .0, version .put-number2 .ensures .1))))),
-      settings-fields-short (a .refusal) (a .high) (a .low) (a .configuration) (a .version) (start .fits .refusal .fits) (start .fits .version .fits),
+      puts-field (decimal (a .refusal)) 0x20 (field-puts (now (a .out)) (a .at) (decimal (a .refusal)) 0x20
+          (refusal .put-number .last .0) (refusal .put-number .result) (
+            refusal .put-number .ensures .0,
+            refusal .put-number .ensures .1,
+          ))
+          (puts-field (hexDigits 2 (a .high)) 0x20
+          (field-puts (refusal .put-number .last .0) (refusal .put-number .result) (hexDigits 2 (a .high)) 0x20
+          (high .put-digits .last .0) (high .put-digits .result) (
+            high .put-digits .ensures .0,
+            high .put-digits .ensures .1,
+          ))
+          (puts-field (hexDigits 2 (a .low)) 0x20
+          (field-puts (high .put-digits .last .0) (high .put-digits .result) (hexDigits 2 (a .low)) 0x20
+          (low .put-digits2 .last .0) (low .put-digits2 .result) (
+            low .put-digits2 .ensures .0,
+            low .put-digits2 .ensures .1,
+          ))
+          (puts-field (hexDigits 2 (a .configuration)) 0x20
+          (field-puts (low .put-digits2 .last .0) (low .put-digits2 .result) (hexDigits 2 (a .configuration)) 0x20
+          (configuration .put-digits3 .last .0) (configuration .put-digits3 .result)
+          (configuration .put-digits3 .ensures .0, configuration .put-digits3 .ensures .1))
+          (field-puts (configuration .put-digits3 .last .0) (configuration .put-digits3 .result) (decimal (a .version))
+          0x0A (version .put-number2 .last .0) (version .put-number2 .result) (
+            version .put-number2 .ensures .0,
+            version .put-number2 .ensures .1,
+          ))))),
+      settings-fields-short (a .refusal) (a .high) (a .low) (a .configuration) (a .version) (start .fits .refusal .fits)
+          (start .fits .version .fits),
     )
 
 pub put-current-spec : {M : Type 1} → statement M

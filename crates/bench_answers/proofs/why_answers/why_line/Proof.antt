@@ -29,7 +29,8 @@ returns : tie.Need-returns
 returns c =
     let room = c .before .before in
     let a = room .before .before .before .args in
-    let none = line-refused (now (a .out)) (a .at) (whyLine (a .w)) (sym (room .has-room .ensures) ∙ not-true (room .has-room .result) (c .before .if1 .taken)) in
+    let none = line-refused (now (a .out)) (a .at) (whyLine (a .w)) (sym (room .has-room .ensures)
+    ∙ not-true (room .has-room .result) (c .before .if1 .taken)) in
     let answer = c .no-room .ensures in
     let next : c .no-room .result .next ≡ 0 = ap (λ (v : Written). v .next) answer in
     (answer ∙ none .0, (none .1, omega arith))
@@ -60,12 +61,22 @@ returns-2 c =
     let a = start .args in
     let high = held-back (a .w .high .0) (record { sfits = told .struct-told .given .0 .1 }) in
     let low = held-back (a .w .low .0) (record { sfits = put .before .struct-told2 .given .0 .1 }) in
-    let fits : Fits16 (countOf (a .w .reading)) = record { sfits = rw (count .count-of .ensures) at (count .count-of .ok) } in
-    let laid : Puts (now (a .out)) (a .at) (whyLine (a .w)) (put .put-fields .last .0) (put .put-fields .result) × (length (whyLine (a .w)) ≤ lineRoom)
-    = rw (high, low, count .before .number-of .ensures, count .count-of .ensures, held-back (countOf (a .w .reading)) fits) at (put .put-fields .ensures) in
-    let done = line-done (now (a .out)) (a .at) (whyLine (a .w)) (sym (room .has-room .ensures) ∙ not-false (room .has-room .result) (test .if1 .left)) (laid .1) _ _ (laid .0) in
+    let fits : Fits16 (countOf (a .w .reading)) =
+    record { sfits = rw (count .count-of .ensures) at (count .count-of .ok) } in
+    let laid : Puts (now (a .out)) (a .at) (whyLine (a .w)) (put .put-fields .last .0) (put .put-fields .result)
+    × (length (whyLine (a .w)) ≤ lineRoom)
+    = rw (
+      high,
+      low,
+      count .before .number-of .ensures,
+      count .count-of .ensures,
+      held-back (countOf (a .w .reading)) fits,
+    ) at (put .put-fields .ensures) in
+    let done = line-done (now (a .out)) (a .at) (whyLine (a .w)) (sym (room .has-room .ensures)
+    ∙ not-false (room .has-room .result) (test .if1 .left)) (laid .1) _ _ (laid .0) in
     let behind = laid .0 .puts in
-    let room-there = leb-true (a .at + lineRoom) (length (now (a .out))) (sym (room .has-room .ensures) ∙ not-false (room .has-room .result) (test .if1 .left)) in
+    let room-there = leb-true (a .at + lineRoom) (length (now (a .out))) (sym (room .has-room .ensures)
+    ∙ not-false (room .has-room .result) (test .if1 .left)) in
     let short = laid .1 in
     let place = behind (omega arith) .1 in
     let answer = c .behind .ensures in

@@ -19,7 +19,8 @@ cast-add : tie.Need-cast-add
 cast-add c =
     let pins = c .before .before in
     let read = pins .pins-in .ensures ∙ ap pinsIn (pins .before .word .ensures) in
-    let most = rw (← read) at (decimal-at-most 3 255 (wordOf (wordsOf (now (pins .before .before .before .args .line))) 6)) in
+    let most = rw (← read) at (decimal-at-most 3 255
+    (wordOf (wordsOf (now (pins .before .before .before .args .line))) 6)) in
     record { fits = omega (arith, most) }
 
 add-requires : tie.Need-add-requires

@@ -16,7 +16,11 @@ count-requires : tie.Need-count-requires
 count-requires c κs = search needs
 
 sub-result : tie.Need-sub-result
-sub-result c = search (needs, words-some (now (c .before .before .before .before .before .before .args .line)), c .count .ensures)
+sub-result c = search (
+  needs,
+  words-some (now (c .before .before .before .before .before .before .args .line)),
+  c .count .ensures,
+)
 
 returns : tie.Need-returns
 returns c =

@@ -18,13 +18,22 @@ count-in-requires : tie.Need-count-in-requires
 count-in-requires c κs = search needs
 
 returns : tie.Need-returns
-returns c = let first = c .before .before .before .before .before .code-in .ensures ∙ ap codeIn (c .before .before .before .before .before .before .word .ensures) in let second = c .before .before .before .count-in .ensures ∙ ap countIn (c .before .before .before .before .word2 .ensures) in rw (← first, ← second, c .before .if1 .taken, c .if2 .taken)
+returns c = let first = c .before .before .before .before .before .code-in .ensures
+    ∙ ap codeIn (c .before .before .before .before .before .before .word .ensures) in let second =
+    c .before .before .before .count-in .ensures ∙ ap countIn (c .before .before .before .before .word2 .ensures) in
+    rw (← first, ← second, c .before .if1 .taken, c .if2 .taken)
 
 returns-2 : tie.Need-returns-2
-returns-2 c = let first = c .before .before .before .before .before .code-in .ensures ∙ ap codeIn (c .before .before .before .before .before .before .word .ensures) in let second = c .before .before .before .count-in .ensures ∙ ap countIn (c .before .before .before .before .word2 .ensures) in rw (← first, ← second, c .before .if1 .taken, c .if2 .left)
+returns-2 c = let first = c .before .before .before .before .before .code-in .ensures
+    ∙ ap codeIn (c .before .before .before .before .before .before .word .ensures) in let second =
+    c .before .before .before .count-in .ensures ∙ ap countIn (c .before .before .before .before .word2 .ensures) in
+    rw (← first, ← second, c .before .if1 .taken, c .if2 .left)
 
 returns-3 : tie.Need-returns-3
-returns-3 c = let first = c .before .before .before .before .code-in .ensures ∙ ap codeIn (c .before .before .before .before .before .word .ensures) in let second = c .before .before .count-in .ensures ∙ ap countIn (c .before .before .before .word2 .ensures) in rw (← first, c .if1 .left)
+returns-3 c = let first = c .before .before .before .before .code-in .ensures
+    ∙ ap codeIn (c .before .before .before .before .before .word .ensures) in let second =
+    c .before .before .count-in .ensures ∙ ap countIn (c .before .before .before .word2 .ensures) in
+    rw (← first, c .if1 .left)
 
 pub converted-spec : {M : Type 1} → statement M
 converted-spec =

@@ -12,10 +12,12 @@ code-in-requires : tie.Need-code-in-requires
 code-in-requires c κs = search needs
 
 returns : tie.Need-returns
-returns c = let read = c .before .code-in .ensures ∙ ap codeIn (c .before .before .word .ensures) in simp (← read, c .if1 .taken)
+returns c = let read = c .before .code-in .ensures ∙ ap codeIn (c .before .before .word .ensures) in
+    simp (← read, c .if1 .taken)
 
 returns-2 : tie.Need-returns-2
-returns-2 c = let read = c .before .code-in .ensures ∙ ap codeIn (c .before .before .word .ensures) in simp (← read, c .if1 .left)
+returns-2 c = let read = c .before .code-in .ensures ∙ ap codeIn (c .before .before .word .ensures) in
+    simp (← read, c .if1 .left)
 
 pub show-spec : {M : Type 1} → statement M
 show-spec = tie.close (tie.spec word-requires code-in-requires returns returns-2)

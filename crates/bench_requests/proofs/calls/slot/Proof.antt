@@ -12,10 +12,12 @@ bit-in-requires : tie.Need-bit-in-requires
 bit-in-requires c κs = search needs
 
 returns : tie.Need-returns
-returns c = let read = c .before .before .bit-in .ensures ∙ ap bitIn (c .before .before .before .word .ensures) in simp (← read, c .before .if1 .taken)
+returns c = let read = c .before .before .bit-in .ensures ∙ ap bitIn (c .before .before .before .word .ensures) in
+    simp (← read, c .before .if1 .taken)
 
 returns-2 : tie.Need-returns-2
-returns-2 c = let read = c .before .bit-in .ensures ∙ ap bitIn (c .before .before .word .ensures) in simp (← read, c .if1 .left)
+returns-2 c = let read = c .before .bit-in .ensures ∙ ap bitIn (c .before .before .word .ensures) in
+    simp (← read, c .if1 .left)
 
 pub slot-spec : {M : Type 1} → statement M
 slot-spec = tie.close (tie.spec word-requires bit-in-requires returns returns-2)

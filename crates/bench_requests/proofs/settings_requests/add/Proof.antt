@@ -24,13 +24,38 @@ settings-in-requires : tie.Need-settings-in-requires
 settings-in-requires c κs = search needs
 
 returns : tie.Need-returns
-returns c = let s = c .before .before .before in let code = s .before .before .before .before .code-in .ensures ∙ ap codeIn (s .before .before .before .before .before .word .ensures) in let settings = s .settings-in .ensures in rw (← code, ← s .before .word4 .ensures, ← s .before .before .word3 .ensures, ← s .before .before .before .word2 .ensures, ← settings, c .before .if1 .taken, c .if2 .taken)
+returns c = let s = c .before .before .before in let code =
+    s .before .before .before .before .code-in .ensures
+    ∙ ap codeIn (s .before .before .before .before .before .word .ensures) in let settings =
+    s .settings-in .ensures in rw (
+      ← code,
+      ← s .before .word4 .ensures,
+      ← s .before .before .word3 .ensures,
+      ← s .before .before .before .word2 .ensures,
+      ← settings,
+      c .before .if1 .taken,
+      c .if2 .taken,
+    )
 
 returns-2 : tie.Need-returns-2
-returns-2 c = let s = c .before .before .before in let code = s .before .before .before .before .code-in .ensures ∙ ap codeIn (s .before .before .before .before .before .word .ensures) in let settings = s .settings-in .ensures in rw (← code, ← s .before .word4 .ensures, ← s .before .before .word3 .ensures, ← s .before .before .before .word2 .ensures, ← settings, c .before .if1 .taken, c .if2 .left)
+returns-2 c = let s = c .before .before .before in let code =
+    s .before .before .before .before .code-in .ensures
+    ∙ ap codeIn (s .before .before .before .before .before .word .ensures) in let settings =
+    s .settings-in .ensures in rw (
+      ← code,
+      ← s .before .word4 .ensures,
+      ← s .before .before .word3 .ensures,
+      ← s .before .before .before .word2 .ensures,
+      ← settings,
+      c .before .if1 .taken,
+      c .if2 .left,
+    )
 
 returns-3 : tie.Need-returns-3
-returns-3 c = let s = c .before .before in let code = s .before .before .before .before .code-in .ensures ∙ ap codeIn (s .before .before .before .before .before .word .ensures) in let settings = s .settings-in .ensures in rw (← code, c .if1 .left)
+returns-3 c = let s = c .before .before in let code =
+    s .before .before .before .before .code-in .ensures
+    ∙ ap codeIn (s .before .before .before .before .before .word .ensures) in let settings =
+    s .settings-in .ensures in rw (← code, c .if1 .left)
 
 pub add-spec : {M : Type 1} → statement M
 add-spec =

@@ -24,7 +24,13 @@ unfolding alterationsIn
 returns c =
     let tests = c .before in
     let last = tests .before in
-    rw (c .both2 .ensures, tests .both .ensures, last .before .before .alter-in .ensures, last .before .alter-in2 .ensures, last .alter-in3 .ensures)
+    rw (
+      c .both2 .ensures,
+      tests .both .ensures,
+      last .before .before .alter-in .ensures,
+      last .before .alter-in2 .ensures,
+      last .alter-in3 .ensures,
+    )
 
 pub alterations-in-spec : {M : Type 1} → statement M
 alterations-in-spec =

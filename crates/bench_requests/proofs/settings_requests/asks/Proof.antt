@@ -25,12 +25,27 @@ returns : tie.Need-returns
 returns c =
     let named = c .before in
     let first = named .before .before .before in
-    rw (← first .before .before .before .word .ensures, ← first .before .same .ensures, first .if1 .taken, ← named .before .before .word2 .ensures, ← named .before .same2 .ensures, named .if2 .taken, c .count .ensures)
+    rw (
+      ← first .before .before .before .word .ensures,
+      ← first .before .same .ensures,
+      first .if1 .taken,
+      ← named .before .before .word2 .ensures,
+      ← named .before .same2 .ensures,
+      named .if2 .taken,
+      c .count .ensures,
+    )
 
 returns-2 : tie.Need-returns-2
 returns-2 c =
     let first = c .before .before .before in
-    rw (← first .before .before .before .word .ensures, ← first .before .same .ensures, first .if1 .taken, ← c .before .before .word2 .ensures, ← c .before .same2 .ensures, c .if2 .left)
+    rw (
+      ← first .before .before .before .word .ensures,
+      ← first .before .same .ensures,
+      first .if1 .taken,
+      ← c .before .before .word2 .ensures,
+      ← c .before .same2 .ensures,
+      c .if2 .left,
+    )
 
 returns-3 : tie.Need-returns-3
 returns-3 c = rw (← c .before .before .before .word .ensures, ← c .before .same .ensures, c .if1 .left)

@@ -12,9 +12,14 @@ use Rattle.bench_requests.proofs.settings_requests.change.Tie as tie
 
 -- the alterations are those of the last three fields
 alterations-are : (c : tie.After-alterations-in) →
-    let fields = wordsOf (now (c .before .before .before .before .before .before .before .before .before .args .line)) in
+    let fields = wordsOf (now
+    (c .before .before .before .before .before .before .before .before .before .args .line)) in
     c .alterations-in .result ≡ alterationsIn (wordOf fields 4) (wordOf fields 5) (wordOf fields 6)
-alterations-are c = rw (c .before .before .before .word3 .ensures, c .before .before .word4 .ensures, c .before .word5 .ensures) at (c .alterations-in .ensures)
+alterations-are c = rw (
+  c .before .before .before .word3 .ensures,
+  c .before .before .word4 .ensures,
+  c .before .word5 .ensures,
+) at (c .alterations-in .ensures)
 
 word-requires : tie.Need-word-requires
 word-requires c κs = search needs

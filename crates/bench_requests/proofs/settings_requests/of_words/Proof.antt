@@ -34,7 +34,10 @@ unfolding ofStore
 returns-2 c =
     let test2 = c .before in
     let test1 = test2 .before .before .before in
-    rw (sym (test1 .before .asks .ensures) ∙ test1 .if1 .left, sym (test2 .before .asks2 .ensures) ∙ test2 .if2 .taken) (c .remove .ensures)
+    rw (
+      sym (test1 .before .asks .ensures) ∙ test1 .if1 .left,
+      sym (test2 .before .asks2 .ensures) ∙ test2 .if2 .taken,
+    ) (c .remove .ensures)
 
 slice-aggregate-asks-3 : tie.Need-slice-aggregate-asks-3
 slice-aggregate-asks-3 c = search needs
@@ -51,7 +54,11 @@ returns-3 c =
     let test3 = c .before in
     let test2 = test3 .before .before .before in
     let test1 = test2 .before .before .before in
-    rw (sym (test1 .before .asks .ensures) ∙ test1 .if1 .left, sym (test2 .before .asks2 .ensures) ∙ test2 .if2 .left, sym (test3 .before .asks3 .ensures) ∙ test3 .if3 .taken) (c .read .ensures)
+    rw (
+      sym (test1 .before .asks .ensures) ∙ test1 .if1 .left,
+      sym (test2 .before .asks2 .ensures) ∙ test2 .if2 .left,
+      sym (test3 .before .asks3 .ensures) ∙ test3 .if3 .taken,
+    ) (c .read .ensures)
 
 slice-aggregate-asks-4 : tie.Need-slice-aggregate-asks-4
 slice-aggregate-asks-4 c = search needs
@@ -69,7 +76,12 @@ returns-4 c =
     let test3 = test4 .before .before .before in
     let test2 = test3 .before .before .before in
     let test1 = test2 .before .before .before in
-    rw (sym (test1 .before .asks .ensures) ∙ test1 .if1 .left, sym (test2 .before .asks2 .ensures) ∙ test2 .if2 .left, sym (test3 .before .asks3 .ensures) ∙ test3 .if3 .left, sym (test4 .before .asks4 .ensures) ∙ test4 .if4 .taken) (c .change .ensures)
+    rw (
+      sym (test1 .before .asks .ensures) ∙ test1 .if1 .left,
+      sym (test2 .before .asks2 .ensures) ∙ test2 .if2 .left,
+      sym (test3 .before .asks3 .ensures) ∙ test3 .if3 .left,
+      sym (test4 .before .asks4 .ensures) ∙ test4 .if4 .taken,
+    ) (c .change .ensures)
 
 slice-aggregate-asks-5 : tie.Need-slice-aggregate-asks-5
 slice-aggregate-asks-5 c = search needs
@@ -88,7 +100,13 @@ returns-5 c =
     let test3 = test4 .before .before .before in
     let test2 = test3 .before .before .before in
     let test1 = test2 .before .before .before in
-    rw (sym (test1 .before .asks .ensures) ∙ test1 .if1 .left, sym (test2 .before .asks2 .ensures) ∙ test2 .if2 .left, sym (test3 .before .asks3 .ensures) ∙ test3 .if3 .left, sym (test4 .before .asks4 .ensures) ∙ test4 .if4 .left, sym (test5 .before .asks5 .ensures) ∙ test5 .if5 .taken) (c .write .ensures)
+    rw (
+      sym (test1 .before .asks .ensures) ∙ test1 .if1 .left,
+      sym (test2 .before .asks2 .ensures) ∙ test2 .if2 .left,
+      sym (test3 .before .asks3 .ensures) ∙ test3 .if3 .left,
+      sym (test4 .before .asks4 .ensures) ∙ test4 .if4 .left,
+      sym (test5 .before .asks5 .ensures) ∙ test5 .if5 .taken,
+    ) (c .write .ensures)
 
 returns-6 : tie.Need-returns-6
 unfolding ofStore
@@ -98,7 +116,13 @@ returns-6 c =
     let test3 = test4 .before .before .before in
     let test2 = test3 .before .before .before in
     let test1 = test2 .before .before .before in
-    rw (sym (test1 .before .asks .ensures) ∙ test1 .if1 .left, sym (test2 .before .asks2 .ensures) ∙ test2 .if2 .left, sym (test3 .before .asks3 .ensures) ∙ test3 .if3 .left, sym (test4 .before .asks4 .ensures) ∙ test4 .if4 .left, sym (test5 .before .asks5 .ensures) ∙ test5 .if5 .left)
+    rw (
+      sym (test1 .before .asks .ensures) ∙ test1 .if1 .left,
+      sym (test2 .before .asks2 .ensures) ∙ test2 .if2 .left,
+      sym (test3 .before .asks3 .ensures) ∙ test3 .if3 .left,
+      sym (test4 .before .asks4 .ensures) ∙ test4 .if4 .left,
+      sym (test5 .before .asks5 .ensures) ∙ test5 .if5 .left,
+    )
 
 pub of-words-spec : {M : Type 1} → statement M
 of-words-spec =

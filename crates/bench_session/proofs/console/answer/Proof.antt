@@ -33,10 +33,13 @@ returns-2 c =
     let fed = call .before .before .before in
     let a = fed .before .before .before .before .args in
     let line : Line = record { chars = now (a .line); fed = a .fed } in
-    let request : call .before .before .parse .result ≡ asked line = rw (fed .if2 .taken) (call .before .before .parse .ensures) in
+    let request : call .before .before .parse .result ≡ asked line =
+    rw (fed .if2 .taken) (call .before .before .parse .ensures) in
     let out' = call .respond .last .1 .1 .0 in
-    let says = subst (λ (q : Request). Says (now (a .out)) (answered (a .bench) q) out' (call .respond .result)) request (call .respond .ensures) in
-    let done = whole-said (a .bench) (answered (a .bench) (asked line)) (now (a .out)) (fed .before .if1 .left) out' (call .respond .result) says in
+    let says = subst (λ (q : Request). Says (now (a .out)) (answered (a .bench) q) out' (call .respond .result)) request
+    (call .respond .ensures) in
+    let done = whole-said (a .bench) (answered (a .bench) (asked line)) (now (a .out)) (fed .before .if1 .left) out'
+    (call .respond .result) says in
     (done .0, (done .1, done .2))
 
 respond-requires-2 : tie.Need-respond-requires-2
@@ -53,8 +56,10 @@ returns-3 c =
     let line : Line = record { chars = now (a .line); fed = a .fed } in
     let request : Bad ≡ asked line = rw (unfed .if2 .left) in
     let out' = call .respond2 .last .1 .1 .0 in
-    let says = subst (λ (q : Request). Says (now (a .out)) (answered (a .bench) q) out' (call .respond2 .result)) request (call .respond2 .ensures) in
-    let done = whole-said (a .bench) (answered (a .bench) (asked line)) (now (a .out)) (unfed .before .if1 .left) out' (call .respond2 .result) says in
+    let says = subst (λ (q : Request). Says (now (a .out)) (answered (a .bench) q) out' (call .respond2 .result))
+    request (call .respond2 .ensures) in
+    let done = whole-said (a .bench) (answered (a .bench) (asked line)) (now (a .out)) (unfed .before .if1 .left) out'
+    (call .respond2 .result) says in
     (done .0, (done .1, done .2))
 
 pub answer-spec : {M : Type 1} → statement M

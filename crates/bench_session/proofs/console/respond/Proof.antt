@@ -140,7 +140,8 @@ returns c =
     let arm = c .before .before in
     let told = arm .before .before .enum-told .given .1 in
     let start = arm .before .before .before .before .before in
-    rw told (line-says (now (start .args .out)) (start .pre) (says badLine (start .args .bench)) (arm .bad .last .1 .0) (arm .bad .result) (arm .bad .ensures .0) (arm .bad .ensures .1 .0) (arm .bad .ensures .1 .1))
+    rw told (line-says (now (start .args .out)) (start .pre) (says badLine (start .args .bench)) (arm .bad .last .1 .0)
+    (arm .bad .result) (arm .bad .ensures .0) (arm .bad .ensures .1 .0) (arm .bad .ensures .1 .1))
 
 same-length-2 : tie.Need-same-length-2
 same-length-2 c = search needs
@@ -152,8 +153,10 @@ returns-2 c =
     let call = arm .before .before in
     let told = arm .before .before .before .before .request .given .1 in
     let start = arm .before .before .before .before .before .before .before in
-    let said = line-says (now (start .args .out)) (start .pre) (ofChange (call .add .result)) (arm .change .last .1 .0) (arm .change .result) (arm .change .ensures .0) (arm .change .ensures .1 .0) (arm .change .ensures .1 .1) in
-    rw told (subst (λ (r : Changed). Says (now (start .args .out)) (ofChange r) (arm .change .last .1 .0) (arm .change .result)) (call .add .ensures) said)
+    let said = line-says (now (start .args .out)) (start .pre) (ofChange (call .add .result)) (arm .change .last .1 .0)
+    (arm .change .result) (arm .change .ensures .0) (arm .change .ensures .1 .0) (arm .change .ensures .1 .1) in
+    rw told (subst (λ (r : Changed). Says (now (start .args .out)) (ofChange r) (arm .change .last .1 .0)
+    (arm .change .result)) (call .add .ensures) said)
 
 same-length-3 : tie.Need-same-length-3
 same-length-3 c = search needs
@@ -165,8 +168,10 @@ returns-3 c =
     let call = arm .before .before in
     let told = arm .before .before .before .enum-told2 .given .1 in
     let start = arm .before .before .before .before .before .before in
-    let said = line-says (now (start .args .out)) (start .pre) (ofReset (call .reset .result)) (arm .reset2 .last .1 .0) (arm .reset2 .result) (arm .reset2 .ensures .0) (arm .reset2 .ensures .1 .0) (arm .reset2 .ensures .1 .1) in
-    rw told (subst (λ (r : ResetDone). Says (now (start .args .out)) (ofReset r) (arm .reset2 .last .1 .0) (arm .reset2 .result)) (call .reset .ensures) said)
+    let said = line-says (now (start .args .out)) (start .pre) (ofReset (call .reset .result)) (arm .reset2 .last .1 .0)
+    (arm .reset2 .result) (arm .reset2 .ensures .0) (arm .reset2 .ensures .1 .0) (arm .reset2 .ensures .1 .1) in
+    rw told (subst (λ (r : ResetDone). Says (now (start .args .out)) (ofReset r) (arm .reset2 .last .1 .0)
+    (arm .reset2 .result)) (call .reset .ensures) said)
 
 same-length-4 : tie.Need-same-length-4
 same-length-4 c = search needs
@@ -178,8 +183,10 @@ returns-4 c =
     let call = arm .before .before in
     let told = arm .before .before .before .before .request2 .given .1 in
     let start = arm .before .before .before .before .before .before .before in
-    let said = line-says (now (start .args .out)) (start .pre) (ofSlot (call .slot .result)) (arm .slot2 .last .1 .0) (arm .slot2 .result) (arm .slot2 .ensures .0) (arm .slot2 .ensures .1 .0) (arm .slot2 .ensures .1 .1) in
-    rw told (subst (λ (r : Slotted). Says (now (start .args .out)) (ofSlot r) (arm .slot2 .last .1 .0) (arm .slot2 .result)) (call .slot .ensures) said)
+    let said = line-says (now (start .args .out)) (start .pre) (ofSlot (call .slot .result)) (arm .slot2 .last .1 .0)
+    (arm .slot2 .result) (arm .slot2 .ensures .0) (arm .slot2 .ensures .1 .0) (arm .slot2 .ensures .1 .1) in
+    rw told (subst (λ (r : Slotted). Says (now (start .args .out)) (ofSlot r) (arm .slot2 .last .1 .0)
+    (arm .slot2 .result)) (call .slot .ensures) said)
 
 same-length-5 : tie.Need-same-length-5
 same-length-5 c = search needs
@@ -191,8 +198,11 @@ returns-5 c =
     let call = arm .before .before in
     let told = arm .before .before .before .before .request3 .given .1 in
     let start = arm .before .before .before .before .before .before .before in
-    let said = line-says (now (start .args .out)) (start .pre) (ofChange (call .finish-conversion .result)) (arm .change2 .last .1 .0) (arm .change2 .result) (arm .change2 .ensures .0) (arm .change2 .ensures .1 .0) (arm .change2 .ensures .1 .1) in
-    rw told (subst (λ (r : Changed). Says (now (start .args .out)) (ofChange r) (arm .change2 .last .1 .0) (arm .change2 .result)) (call .finish-conversion .ensures) said)
+    let said = line-says (now (start .args .out)) (start .pre) (ofChange (call .finish-conversion .result))
+    (arm .change2 .last .1 .0) (arm .change2 .result) (arm .change2 .ensures .0) (arm .change2 .ensures .1 .0)
+    (arm .change2 .ensures .1 .1) in
+    rw told (subst (λ (r : Changed). Says (now (start .args .out)) (ofChange r) (arm .change2 .last .1 .0)
+    (arm .change2 .result)) (call .finish-conversion .ensures) said)
 
 same-length-6 : tie.Need-same-length-6
 same-length-6 c = search needs
@@ -204,8 +214,11 @@ returns-6 c =
     let call = arm .before .before in
     let told = arm .before .before .before .before .request4 .given .1 in
     let start = arm .before .before .before .before .before .before .before in
-    let said = line-says (now (start .args .out)) (start .pre) (ofChange (call .finish-copy .result)) (arm .change3 .last .1 .0) (arm .change3 .result) (arm .change3 .ensures .0) (arm .change3 .ensures .1 .0) (arm .change3 .ensures .1 .1) in
-    rw told (subst (λ (r : Changed). Says (now (start .args .out)) (ofChange r) (arm .change3 .last .1 .0) (arm .change3 .result)) (call .finish-copy .ensures) said)
+    let said = line-says (now (start .args .out)) (start .pre) (ofChange (call .finish-copy .result))
+    (arm .change3 .last .1 .0) (arm .change3 .result) (arm .change3 .ensures .0) (arm .change3 .ensures .1 .0)
+    (arm .change3 .ensures .1 .1) in
+    rw told (subst (λ (r : Changed). Says (now (start .args .out)) (ofChange r) (arm .change3 .last .1 .0)
+    (arm .change3 .result)) (call .finish-copy .ensures) said)
 
 same-length-7 : tie.Need-same-length-7
 same-length-7 c = search needs
@@ -217,8 +230,11 @@ returns-7 c =
     let call = arm .before .before in
     let told = arm .before .before .before .before .request5 .given .1 in
     let start = arm .before .before .before .before .before .before .before in
-    let said = line-says (now (start .args .out)) (start .pre) (ofChange (call .power-cycle .result)) (arm .change4 .last .1 .0) (arm .change4 .result) (arm .change4 .ensures .0) (arm .change4 .ensures .1 .0) (arm .change4 .ensures .1 .1) in
-    rw told (subst (λ (r : Changed). Says (now (start .args .out)) (ofChange r) (arm .change4 .last .1 .0) (arm .change4 .result)) (call .power-cycle .ensures) said)
+    let said = line-says (now (start .args .out)) (start .pre) (ofChange (call .power-cycle .result))
+    (arm .change4 .last .1 .0) (arm .change4 .result) (arm .change4 .ensures .0) (arm .change4 .ensures .1 .0)
+    (arm .change4 .ensures .1 .1) in
+    rw told (subst (λ (r : Changed). Says (now (start .args .out)) (ofChange r) (arm .change4 .last .1 .0)
+    (arm .change4 .result)) (call .power-cycle .ensures) said)
 
 same-length-8 : tie.Need-same-length-8
 same-length-8 c = search needs
@@ -229,7 +245,8 @@ returns-8 c =
     let arm = c .before .before in
     let told = arm .before .before .before .request6 .given .1 in
     let start = arm .before .before .before .before .before .before in
-    rw told (whole-says (now (start .args .out)) (start .pre) _ (arm .found .last .1 .1 .1 .1 .0) (arm .found .result) (start .args .bench) (arm .found .ensures .0) (arm .found .ensures .1 .0) (arm .found .ensures .1 .1))
+    rw told (whole-says (now (start .args .out)) (start .pre) _ (arm .found .last .1 .1 .1 .1 .0) (arm .found .result)
+    (start .args .bench) (arm .found .ensures .0) (arm .found .ensures .1 .0) (arm .found .ensures .1 .1))
 
 same-length-9 : tie.Need-same-length-9
 same-length-9 c = search needs
@@ -240,7 +257,8 @@ returns-9 c =
     let arm = c .before .before in
     let told = arm .before .before .before .request7 .given .1 in
     let start = arm .before .before .before .before .before .before in
-    rw told (whole-says (now (start .args .out)) (start .pre) _ (arm .found2 .last .1 .1 .1 .1 .0) (arm .found2 .result) (start .args .bench) (arm .found2 .ensures .0) (arm .found2 .ensures .1 .0) (arm .found2 .ensures .1 .1))
+    rw told (whole-says (now (start .args .out)) (start .pre) _ (arm .found2 .last .1 .1 .1 .1 .0) (arm .found2 .result)
+    (start .args .bench) (arm .found2 .ensures .0) (arm .found2 .ensures .1 .0) (arm .found2 .ensures .1 .1))
 
 same-length-10 : tie.Need-same-length-10
 same-length-10 c = search needs
@@ -252,8 +270,11 @@ returns-10 c =
     let call = arm .before .before in
     let told = arm .before .before .before .before .request8 .given .1 in
     let start = arm .before .before .before .before .before .before .before in
-    let said = line-says (now (start .args .out)) (start .pre) (ofAccess (call .read-at .result)) (arm .access .last .1 .0) (arm .access .result) (arm .access .ensures .0) (arm .access .ensures .1 .0) (arm .access .ensures .1 .1) in
-    rw told (subst (λ (r : Access). Says (now (start .args .out)) (ofAccess r) (arm .access .last .1 .0) (arm .access .result)) (call .read-at .ensures) said)
+    let said = line-says (now (start .args .out)) (start .pre) (ofAccess (call .read-at .result))
+    (arm .access .last .1 .0) (arm .access .result) (arm .access .ensures .0) (arm .access .ensures .1 .0)
+    (arm .access .ensures .1 .1) in
+    rw told (subst (λ (r : Access). Says (now (start .args .out)) (ofAccess r) (arm .access .last .1 .0)
+    (arm .access .result)) (call .read-at .ensures) said)
 
 same-length-11 : tie.Need-same-length-11
 same-length-11 c = search needs
@@ -265,8 +286,11 @@ returns-11 c =
     let call = arm .before .before in
     let told = arm .before .before .before .before .request9 .given .1 in
     let start = arm .before .before .before .before .before .before .before in
-    let said = line-says (now (start .args .out)) (start .pre) (ofAccess (call .write-at .result)) (arm .access2 .last .1 .0) (arm .access2 .result) (arm .access2 .ensures .0) (arm .access2 .ensures .1 .0) (arm .access2 .ensures .1 .1) in
-    rw told (subst (λ (r : Access). Says (now (start .args .out)) (ofAccess r) (arm .access2 .last .1 .0) (arm .access2 .result)) (call .write-at .ensures) said)
+    let said = line-says (now (start .args .out)) (start .pre) (ofAccess (call .write-at .result))
+    (arm .access2 .last .1 .0) (arm .access2 .result) (arm .access2 .ensures .0) (arm .access2 .ensures .1 .0)
+    (arm .access2 .ensures .1 .1) in
+    rw told (subst (λ (r : Access). Says (now (start .args .out)) (ofAccess r) (arm .access2 .last .1 .0)
+    (arm .access2 .result)) (call .write-at .ensures) said)
 
 same-length-12 : tie.Need-same-length-12
 same-length-12 c = search needs
@@ -278,8 +302,11 @@ returns-12 c =
     let call = arm .before .before in
     let told = arm .before .before .before .before .request10 .given .1 in
     let start = arm .before .before .before .before .before .before .before in
-    let said = line-says (now (start .args .out)) (start .pre) (says (showLine (call .look .result)) (start .args .bench)) (arm .device .last .1 .1 .0) (arm .device .result) (arm .device .ensures .0) (arm .device .ensures .1 .0) (arm .device .ensures .1 .1) in
-    rw told (subst (λ (r : Looked). Says (now (start .args .out)) (says (showLine r) (start .args .bench)) (arm .device .last .1 .1 .0) (arm .device .result)) (call .look .ensures) said)
+    let said = line-says (now (start .args .out)) (start .pre)
+    (says (showLine (call .look .result)) (start .args .bench)) (arm .device .last .1 .1 .0) (arm .device .result)
+    (arm .device .ensures .0) (arm .device .ensures .1 .0) (arm .device .ensures .1 .1) in
+    rw told (subst (λ (r : Looked). Says (now (start .args .out)) (says (showLine r) (start .args .bench))
+    (arm .device .last .1 .1 .0) (arm .device .result)) (call .look .ensures) said)
 
 same-length-13 : tie.Need-same-length-13
 same-length-13 c = search needs
@@ -291,8 +318,11 @@ returns-13 c =
     let call = arm .before .before in
     let told = arm .before .before .before .before .request11 .given .1 in
     let start = arm .before .before .before .before .before .before .before in
-    let said = line-says (now (start .args .out)) (start .pre) (says (whyLine (call .why .result)) (start .args .bench)) (arm .why2 .last .1 .1 .0) (arm .why2 .result) (arm .why2 .ensures .0) (arm .why2 .ensures .1 .0) (arm .why2 .ensures .1 .1) in
-    rw told (subst (λ (r : Why). Says (now (start .args .out)) (says (whyLine r) (start .args .bench)) (arm .why2 .last .1 .1 .0) (arm .why2 .result)) (call .why .ensures .0) said)
+    let said = line-says (now (start .args .out)) (start .pre) (says (whyLine (call .why .result)) (start .args .bench))
+    (arm .why2 .last .1 .1 .0) (arm .why2 .result) (arm .why2 .ensures .0) (arm .why2 .ensures .1 .0)
+    (arm .why2 .ensures .1 .1) in
+    rw told (subst (λ (r : Why). Says (now (start .args .out)) (says (whyLine r) (start .args .bench))
+    (arm .why2 .last .1 .1 .0) (arm .why2 .result)) (call .why .ensures .0) said)
 
 same-length-14 : tie.Need-same-length-14
 same-length-14 c = search needs
@@ -303,7 +333,8 @@ returns-14 c =
     let arm = c .before .before in
     let told = arm .before .before .before .request12 .given .1 in
     let start = arm .before .before .before .before .before .before in
-    rw told (whole-says (now (start .args .out)) (start .pre) _ (arm .found3 .last .1 .1 .0) (arm .found3 .result) (start .args .bench) (arm .found3 .ensures .0) (arm .found3 .ensures .1 .0) (arm .found3 .ensures .1 .1))
+    rw told (whole-says (now (start .args .out)) (start .pre) _ (arm .found3 .last .1 .1 .0) (arm .found3 .result)
+    (start .args .bench) (arm .found3 .ensures .0) (arm .found3 .ensures .1 .0) (arm .found3 .ensures .1 .1))
 
 pub respond-spec : {M : Type 1} → statement M
 respond-spec =

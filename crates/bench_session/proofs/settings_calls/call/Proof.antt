@@ -21,7 +21,8 @@ returns c =
     let test = c .before in
     let room = test .before in
     let a = room .before .before .before .args in
-    call-refused (now (a .out)) (a .store) (a .request) (sym (room .has-room .ensures) ∙ not-true (room .has-room .result) (test .if1 .taken)) (c .no-room .result) (c .no-room .ensures)
+    call-refused (now (a .out)) (a .store) (a .request) (sym (room .has-room .ensures)
+    ∙ not-true (room .has-room .result) (test .if1 .taken)) (c .no-room .result) (c .no-room .ensures)
 
 make-requires : tie.Need-make-requires
 make-requires c κs =
@@ -39,7 +40,8 @@ returns-2 c =
     let room = test .before in
     let a = room .before .before .before .args in
     let has = sym (room .has-room .ensures) ∙ not-false (room .has-room .result) (test .if1 .left) in
-    call-made (now (a .out)) (a .store) (a .request) has (made .make .last .1 .1 .0) (made .make .result) (made .make .ensures)
+    call-made (now (a .out)) (a .store) (a .request) has (made .make .last .1 .1 .0) (made .make .result)
+    (made .make .ensures)
 
 pub call-spec : {M : Type 1} → statement M
 call-spec =

@@ -66,7 +66,8 @@ unfolding storeLeft
 returns c =
     let start = c .before .before .before .before in
     let d = now (start .args .out) in
-    rw (c .before .enum-told .given .1) (subst (Calls d [] (start .args .store) d) (sym (c .tell-nothing .ensures)) (nothing-calls d (start .args .store) (start .pre)))
+    rw (c .before .enum-told .given .1) (subst (Calls d [] (start .args .store) d) (sym (c .tell-nothing .ensures))
+    (nothing-calls d (start .args .store) (start .pre)))
 
 same-length : tie.Need-same-length
 same-length c = search needs
@@ -78,7 +79,8 @@ returns-2 c =
     let call = arm .before .before in
     let told = call .before .before .request .given .1 in
     let d = now (call .before .before .before .before .before .args .out) in
-    rw told (subst (λ (r : StoreAfter). Calls d (refusalLine (r .refusal)) (r .store) (arm .tell-refusal .last .1 .0) (arm .tell-refusal .result)) (call .add .ensures) (arm .tell-refusal .ensures))
+    rw told (subst (λ (r : StoreAfter). Calls d (refusalLine (r .refusal)) (r .store) (arm .tell-refusal .last .1 .0)
+    (arm .tell-refusal .result)) (call .add .ensures) (arm .tell-refusal .ensures))
 
 same-length-2 : tie.Need-same-length-2
 same-length-2 c = search needs
@@ -90,7 +92,8 @@ returns-3 c =
     let call = arm .before .before in
     let told = call .before .before .request2 .given .1 in
     let d = now (call .before .before .before .before .before .args .out) in
-    rw told (subst (λ (r : StoreAfter). Calls d (refusalLine (r .refusal)) (r .store) (arm .tell-refusal2 .last .1 .0) (arm .tell-refusal2 .result)) (call .remove .ensures) (arm .tell-refusal2 .ensures))
+    rw told (subst (λ (r : StoreAfter). Calls d (refusalLine (r .refusal)) (r .store) (arm .tell-refusal2 .last .1 .0)
+    (arm .tell-refusal2 .result)) (call .remove .ensures) (arm .tell-refusal2 .ensures))
 
 same-length-3 : tie.Need-same-length-3
 same-length-3 c = search needs
@@ -102,7 +105,9 @@ returns-4 c =
     let call = arm .before .before in
     let told = call .before .before .request3 .given .1 in
     let d = now (call .before .before .before .before .before .args .out) in
-    rw told (subst (λ (r : Current). Calls d (currentLine r) (call .before .before .before .before .before .args .store) (arm .tell-current .last .1 .1 .0) (arm .tell-current .result)) (call .read .ensures) (arm .tell-current .ensures))
+    rw told (subst (λ (r : Current). Calls d (currentLine r) (call .before .before .before .before .before .args .store)
+    (arm .tell-current .last .1 .1 .0) (arm .tell-current .result)) (call .read .ensures)
+    (arm .tell-current .ensures))
 
 same-length-4 : tie.Need-same-length-4
 same-length-4 c = search needs
@@ -114,14 +119,16 @@ returns-5 c =
     let call = arm .before .before in
     let told = call .before .before .request4 .given .1 in
     let d = now (call .before .before .before .before .before .args .out) in
-    rw told (subst (λ (r : ChangeDone). Calls d (changeLine (r .refusal) (r .version)) (r .store) (arm .tell-change .last .1 .0) (arm .tell-change .result)) (call .change .ensures) (arm .tell-change .ensures))
+    rw told (subst (λ (r : ChangeDone). Calls d (changeLine (r .refusal) (r .version)) (r .store)
+    (arm .tell-change .last .1 .0) (arm .tell-change .result)) (call .change .ensures) (arm .tell-change .ensures))
 
 returns-6 : tie.Need-returns-6
 unfolding storeLeft
 returns-6 c =
     let start = c .before .before .before .before in
     let d = now (start .args .out) in
-    rw (c .before .enum-told2 .given .1) (subst (Calls d [] (start .args .store) d) (sym (c .tell-nothing2 .ensures)) (nothing-calls d (start .args .store) (start .pre)))
+    rw (c .before .enum-told2 .given .1) (subst (Calls d [] (start .args .store) d) (sym (c .tell-nothing2 .ensures))
+    (nothing-calls d (start .args .store) (start .pre)))
 
 pub make-spec : {M : Type 1} → statement M
 make-spec =

@@ -16,7 +16,12 @@ returns c =
     let line = c .before .before in
     let done = line .before .before .before .before .args .done in
     let laid = line .change-line .ensures in
-    record { answer = laid .0; left = laid .1 .0; short = change-short (done .refusal) (done .version) (search needs) (search needs); store = refl }
+    record {
+      answer = laid .0;
+      left = laid .1 .0;
+      short = change-short (done .refusal) (done .version) (search needs) (search needs);
+      store = refl;
+    }
 
 pub tell-change-spec : {M : Type 1} → statement M
 tell-change-spec = tie.close (tie.spec change-line-requires same-length returns)

@@ -17,7 +17,13 @@ returns c =
     let current = line .before .before .before .args .current in
     let laid = line .current-line .ensures in
     let fields = current .settings in
-    record { answer = laid .0; left = laid .1 .0; short = settings-fields-short (current .refusal) (fields .high) (fields .low) (fields .configuration) (current .version) (search needs) (search needs); store = refl }
+    record {
+      answer = laid .0;
+      left = laid .1 .0;
+      short = settings-fields-short (current .refusal) (fields .high) (fields .low) (fields .configuration)
+          (current .version) (search needs) (search needs);
+      store = refl;
+    }
 
 pub tell-current-spec : {M : Type 1} → statement M
 tell-current-spec = tie.close (tie.spec current-line-requires same-length returns)

@@ -15,7 +15,12 @@ returns : tie.Need-returns
 returns c =
     let line = c .before .before in
     let done = line .before .before .before .before .args .done in
-    record { answer = line .refusal-line .ensures .0; left = line .refusal-line .ensures .1; short = refusal-short (done .refusal) (search needs); store = refl }
+    record {
+      answer = line .refusal-line .ensures .0;
+      left = line .refusal-line .ensures .1;
+      short = refusal-short (done .refusal) (search needs);
+      store = refl;
+    }
 
 pub tell-refusal-spec : {M : Type 1} → statement M
 tell-refusal-spec = tie.close (tie.spec refusal-line-requires same-length returns)

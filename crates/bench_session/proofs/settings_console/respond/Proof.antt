@@ -1,4 +1,5 @@
--- By whose request it is: the bench's, a write to a device, or one of the store alone. The answer to what the call came to is said, and the call came to what its promise says.
+-- By whose request it is: the bench's, a write to a device, or one of the store alone. The answer to what the call came
+-- to is said, and the call came to what its promise says.
 use Prim.Native.Nat.{ℕ, _+_, _≤_}
 use denote.Ref.{now}
 use mathlib.Core.Path.{_≡_, ap, refl, subst, _∙_}
@@ -27,11 +28,19 @@ use Rattle.bench_session.proofs.settings_console.respond.Statement.{sta
 use Rattle.bench_session.proofs.settings_console.respond.Tie as tie
 
 -- a call on the store, said with room for it
-called-says : (out : List ℕ) → room ≤ length out → (b : Bench) (s : Store) (q : StoreRequest) (out' : List ℕ) (done : Called) (said : Said) → done ≡ called s q out → out' ≡ lineLeaves out 0 (storeSays s q)
-    → done .written .next ≤ lineRoom → said ≡ record { refusal = done .written .refusal; count = done .written .next; bench = b } → Says out (says (storeSays s q) b) out' said × (done .store ≡ storeLeft s q)
+called-says : (out : List ℕ) → room ≤ length out
+    → (b : Bench) (s : Store) (q : StoreRequest) (out' : List ℕ) (done : Called) (said : Said) → done ≡ called s q out
+    → out' ≡ lineLeaves out 0 (storeSays s q)
+    → done .written .next ≤ lineRoom → said ≡ record {
+      refusal = done .written .refusal;
+      count = done .written .next;
+      bench = b;
+    } → Says out (says (storeSays s q) b) out' said × (done .store ≡ storeLeft s q)
 called-says out wide b s q out' done said answer left short told =
     let here : 0 + lineRoom ≤ length out = omega arith in
-    let line : said ≡ lineSaid (says (storeSays s q) b) out = told ∙ ap (λ (d : Called). record { refusal = d .written .refusal; count = d .written .next; bench = b }) answer in
+    let line : said ≡ lineSaid (says (storeSays s q) b) out =
+    told ∙ ap (λ (d : Called). record { refusal = d .written .refusal; count = d .written .next; bench = b })
+    answer in
     let few : said .count ≤ lineRoom = rw (ap (λ (x : Said). x .count) told) short in
     let kept : called s q out .store ≡ storeLeft s q = rw (le-leb (0 + lineRoom) (length out) here) in
     (line-says out wide (says (storeSays s q) b) out' said line left few, ap (λ (d : Called). d .store) answer ∙ kept)
@@ -66,7 +75,11 @@ returns c =
     let arm = c .before .before in
     let told = arm .before .before .enum-told .given .1 in
     let start = arm .before .before .before .before .before .before in
-    rw told (whole-says (now (start .args .out)) (start .pre) _ (arm .answer .last .1 .1 .1 .0) (arm .answer .result) (start .args .bench) (arm .answer .ensures .0) (arm .answer .ensures .1 .0) (arm .answer .ensures .1 .1), refl)
+    rw told (
+      whole-says (now (start .args .out)) (start .pre) _ (arm .answer .last .1 .1 .1 .0) (arm .answer .result)
+          (start .args .bench) (arm .answer .ensures .0) (arm .answer .ensures .1 .0) (arm .answer .ensures .1 .1),
+      refl,
+    )
 
 same-length-2 : tie.Need-same-length-2
 same-length-2 c = search needs
@@ -78,8 +91,14 @@ returns-2 c =
     let call = arm .before .before in
     let told = call .before .before .request .given .1 in
     let start = call .before .before .before .before .before .before in
-    let said = line-says (now (start .args .out)) (start .pre) (ofAccess (call .write .result)) (arm .access .last .1 .0) (arm .access .result) (arm .access .ensures .0) (arm .access .ensures .1 .0) (arm .access .ensures .1 .1) in
-    rw told (subst (λ (r : Access). Says (now (start .args .out)) (ofAccess r) (arm .access .last .1 .0) (arm .access .result)) (call .write .ensures) said, refl)
+    let said = line-says (now (start .args .out)) (start .pre) (ofAccess (call .write .result))
+    (arm .access .last .1 .0) (arm .access .result) (arm .access .ensures .0) (arm .access .ensures .1 .0)
+    (arm .access .ensures .1 .1) in
+    rw told (
+      subst (λ (r : Access). Says (now (start .args .out)) (ofAccess r) (arm .access .last .1 .0)
+          (arm .access .result)) (call .write .ensures) said,
+      refl,
+    )
 
 same-length-3 : tie.Need-same-length-3
 same-length-3 c = search needs
@@ -92,10 +111,14 @@ returns-3 c =
     let start = arm .before .before .before in
     let a = start .args in
     let line : Line = record { chars = now (a .line); fed = a .fed } in
-    let own = own-request (a .request) (answered (a .bench) (asked line)) (λ code. ofAccess (settingsWritten (a .store) (a .bench) code)) (says (storeSays (a .store) (a .request)) (a .bench))
+    let own = own-request (a .request) (answered (a .bench) (asked line))
+    (λ code. ofAccess (settingsWritten (a .store) (a .bench) code))
+    (says (storeSays (a .store) (a .request)) (a .bench))
     (λ e. let k = own-number (rw e at (arm .match .keys3)) in omega arith)
     (λ code e. let k = own-number (rw e at (arm .match .keys3)) in omega arith) in
-    rw own (called-says (now (a .out)) (start .pre) (a .bench) (a .store) (a .request) (call .call .last .1 .1 .0) (call .call .result) (c .say .result) (call .call .ensures .0) (call .call .ensures .1 .0) (call .call .ensures .1 .1) (c .say .ensures))
+    rw own (called-says (now (a .out)) (start .pre) (a .bench) (a .store) (a .request) (call .call .last .1 .1 .0)
+    (call .call .result) (c .say .result) (call .call .ensures .0) (call .call .ensures .1 .0)
+    (call .call .ensures .1 .1) (c .say .ensures))
 
 pub respond-spec : {M : Type 1} → statement M
 respond-spec =

@@ -35,8 +35,11 @@ loop-less c = search needs
 
 loop-again : tie.Need-loop-again Inv-loop μ-loop
 loop-again c =
-    let at-loop = c .before .before .before in
-    (omega arith, c .lengthen .ensures ∙ rw (at-loop .loop .inv .1) (fold-step longerPartial _ _ _ _ (c .before .before .loop-test .taken)))
+    let at-loop = c .before .before .before in (
+      omega arith,
+      c .lengthen .ensures ∙ rw (at-loop .loop .inv .1)
+          (fold-step longerPartial _ _ _ _ (c .before .before .loop-test .taken)),
+    )
 
 returns : tie.Need-returns Inv-loop μ-loop
 returns c =

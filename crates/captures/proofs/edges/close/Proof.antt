@@ -19,8 +19,11 @@ returns : tie.Need-returns
 returns c =
     let put = c .before .before .before .before .before in
     let a = put .before .before .before .before .before .args in
-    let w = put .write-line-at .ensures in
-    (rw (w .0) at (c .refuse .ensures) ∙ closing-refused (a .before) (a .after) (now (a .out)) (rw (w .0) at (c .before .if1 .taken)), w .1)
+    let w = put .write-line-at .ensures in (
+      rw (w .0) at (c .refuse .ensures) ∙ closing-refused (a .before) (a .after) (now (a .out))
+          (rw (w .0) at (c .before .if1 .taken)),
+      w .1,
+    )
 
 same-length-2 : tie.Need-same-length-2
 same-length-2 c = search needs

@@ -22,8 +22,11 @@ returns : tie.Need-returns
 returns c =
     let put = c .before .before .before .before .before .before in
     let a = put .before .before .before .before .before .args in
-    let w = put .write-line-at .ensures in
-    (rw (c .before .refuse .ensures, w .0) at (c .answer-of .ensures) ∙ last-refused (a .reader) (now (a .out)) (rw (w .0) at (c .before .before .if1 .taken)), w .1)
+    let w = put .write-line-at .ensures in (
+      rw (c .before .refuse .ensures, w .0) at (c .answer-of .ensures)
+          ∙ last-refused (a .reader) (now (a .out)) (rw (w .0) at (c .before .before .if1 .taken)),
+      w .1,
+    )
 
 finish-requires : tie.Need-finish-requires
 finish-requires c κs = search needs
@@ -35,8 +38,11 @@ returns-2 : tie.Need-returns-2
 returns-2 c =
     let put = c .before .before .before .before .before in
     let a = put .before .before .before .before .before .args in
-    let w = put .write-line-at .ensures in
-    (rw (w .0) at (c .finish .ensures) ∙ last-done (a .reader) (now (a .out)) (rw (w .0) at (c .before .if1 .left)), w .1)
+    let w = put .write-line-at .ensures in (
+      rw (w .0) at (c .finish .ensures) ∙ last-done (a .reader) (now (a .out))
+          (rw (w .0) at (c .before .if1 .left)),
+      w .1,
+    )
 
 pub close-last-spec : {M : Type 1} → statement M
 close-last-spec =

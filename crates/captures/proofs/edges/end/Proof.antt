@@ -1,4 +1,5 @@
--- One law for each way in which an end can come out: again refused, in a line, in a low, with a last frame, and before any edge.
+-- One law for each way in which an end can come out: again refused, in a line, in a low, with a last frame, and before
+-- any edge.
 use denote.Ref.{now}
 use native.Mathlib.Omega.{arith}
 use Rattle.captures.specs.EdgesLaws.{end-again, end-in-line, end-low, end-closes, end-nothing}
@@ -48,7 +49,8 @@ returns-3 c =
     let well = line .before .before .before in
     let a = well .before .before .before .args in
     let none : a .reader .line .count ≡ 0 = omega arith in
-    let low = end-low (a .reader) (now (a .out)) (well .if1 .left) none (ended .end-at .result) (ended .end-at .ensures) (test .if3 .taken) in
+    let low = end-low (a .reader) (now (a .out)) (well .if1 .left) none (ended .end-at .result) (ended .end-at .ensures)
+    (test .if3 .taken) in
     (rw (c .before .refuse2 .ensures) at (c .answer-of3 .ensures) ∙ low .0, low .1)
 
 close-last-requires : tie.Need-close-last-requires
@@ -66,7 +68,8 @@ returns-4 c =
     let well = line .before .before .before in
     let a = well .before .before .before .args in
     let none : a .reader .line .count ≡ 0 = omega arith in
-    let last = end-closes (a .reader) (now (a .out)) (well .if1 .left) none (ended .end-at .result) (ended .end-at .ensures) (test .before .if3 .left) (test .if4 .taken) in
+    let last = end-closes (a .reader) (now (a .out)) (well .if1 .left) none (ended .end-at .result)
+    (ended .end-at .ensures) (test .before .if3 .left) (test .if4 .taken) in
     (shut .close-last .ensures .0 ∙ last .0, shut .close-last .ensures .1 ∙ last .1)
 
 finish-requires : tie.Need-finish-requires
@@ -80,7 +83,8 @@ returns-5 c =
     let well = line .before .before .before in
     let a = well .before .before .before .args in
     let none : a .reader .line .count ≡ 0 = omega arith in
-    let nothing = end-nothing (a .reader) (now (a .out)) (well .if1 .left) none (ended .end-at .result) (ended .end-at .ensures) (test .before .if3 .left) (test .if4 .left) in
+    let nothing = end-nothing (a .reader) (now (a .out)) (well .if1 .left) none (ended .end-at .result)
+    (ended .end-at .ensures) (test .before .if3 .left) (test .if4 .left) in
     (c .finish .ensures ∙ nothing .0, nothing .1)
 
 pub end-spec : {M : Type 1} → statement M

@@ -1,4 +1,5 @@
--- The invariant: what is still to come of the piece makes of reader and buffer what the whole piece makes of those at the start.
+-- The invariant: what is still to come of the piece makes of reader and buffer what the whole piece makes of those at
+-- the start.
 use Prim.Native.Nat.{_-_, _≤_}
 use mathlib.Core.Path.{_≡_, sym, ap, _∙_}
 use lib.ListN.{length, drop, drop-of-length-le}
@@ -12,7 +13,9 @@ use Rattle.captures.proofs.edges.feed.Tie as tie
 
 abbrev Inv-loop : tie.InvT-loop
 Inv-loop s out₀ held₀ at₀ out held at =
-    (at ≤ length s) × (length out ≡ length out₀) × (fold onByte record { reader = held; out = out } (drop at s) ≡ fold onByte record { reader = held₀; out = out₀ } s)
+    (at ≤ length s) × (length out ≡ length out₀)
+    × (fold onByte record { reader = held; out = out } (drop at s)
+    ≡ fold onByte record { reader = held₀; out = out₀ } s)
 
 abbrev μ-loop : tie.MeasureT-loop
 μ-loop s out₀ held₀ at₀ out held at = length s - at
@@ -30,8 +33,11 @@ loop-again : tie.Need-loop-again Inv-loop μ-loop
 loop-again c =
     let fed = c .before .before .before in
     let at-loop = fed .before .before .before in
-    let inv = at-loop .loop .inv in
-    (fed .feed-line .ensures .1 .1, fed .feed-line .kept .1 .1 .1 .0 ∙ inv .1, sym (fed .feed-line .ensures .0) ∙ inv .2)
+    let inv = at-loop .loop .inv in (
+      fed .feed-line .ensures .1 .1,
+      fed .feed-line .kept .1 .1 .1 .0 ∙ inv .1,
+      sym (fed .feed-line .ensures .0) ∙ inv .2,
+    )
 
 answer-of-requires : tie.Need-answer-of-requires Inv-loop μ-loop
 answer-of-requires c κs = search needs
@@ -47,7 +53,8 @@ returns c =
     let a = at-loop .before .before .before .args in
     let inv = at-loop .loop .inv in
     let none : drop (at-loop .loop .at) (now (a .s)) ≡ [] = drop-of-length-le (now (a .s)) (end .loop-test .left) in
-    let whole : record { reader = at-loop .loop .held; out = at-loop .loop .out } ≡ fold onByte record { reader = a .reader; out = now (a .out) } (now (a .s)) =
+    let whole : record { reader = at-loop .loop .held; out = at-loop .loop .out }
+    ≡ fold onByte record { reader = a .reader; out = now (a .out) } (now (a .s)) =
     ap (fold onByte record { reader = at-loop .loop .held; out = at-loop .loop .out }) (sym none) ∙ inv .2 in
     (c .answer-of .ensures ∙ ap (λ (x : Reading). answersOf (x .reader)) whole, ap (λ (x : Reading). x .out) whole)
 

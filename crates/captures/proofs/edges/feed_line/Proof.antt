@@ -13,7 +13,8 @@ use Rattle.captures.proofs.edges.feed_line.Statement.{statement}
 use Rattle.captures.proofs.edges.feed_line.Tie as tie
 
 -- the characters end within the piece
-ends-within : (c : tie.After-line-end) → c .line-end .result ≤ length (now (c .before .before .before .before .before .args .s))
+ends-within : (c : tie.After-line-end) → c .line-end .result
+    ≤ length (now (c .before .before .before .before .before .args .s))
 ends-within c =
     let a = c .before .before .before .before .before in
     let s = now (a .args .s) in
@@ -26,8 +27,10 @@ ends-within c =
 returns : tie.Need-returns
 returns c =
     let a = c .before .before .before .before .args in
-    let x : Reading = record { reader = a .reader; out = now (a .out) } in
-    (refused-stays x (c .if1 .taken) _ ∙ sym (refused-stays x (c .if1 .taken) _), (c .before .before .before .before .pre, omega arith))
+    let x : Reading = record { reader = a .reader; out = now (a .out) } in (
+      refused-stays x (c .if1 .taken) _ ∙ sym (refused-stays x (c .if1 .taken) _),
+      (c .before .before .before .before .pre, omega arith),
+    )
 
 line-end-requires : tie.Need-line-end-requires
 line-end-requires c κs = search needs
@@ -68,7 +71,8 @@ returns-2 c =
     let there = test .if2 .taken in
     let e = ended .line-end .ensures in (
       rw (fed .take-feed .ensures .0, fed .take-feed .ensures .1, held .with-line .ensures, got .gather .ensures)
-          (line-fed (a .args .reader) (now (a .args .out)) (now (a .args .s)) (a .args .at) (ended .line-end .result) (well .if1 .left) (a .pre) e there),
+          (line-fed (a .args .reader) (now (a .args .out)) (now (a .args .s)) (a .args .at) (ended .line-end .result)
+          (well .if1 .left) (a .pre) e there),
       (omega arith, omega arith),
     )
 
@@ -81,7 +85,8 @@ returns-3 c =
     let a = well .before .before .before .before in
     let e = ended .line-end .ensures in (
       rw (held .with-line .ensures, got .gather .ensures)
-          (lengthens (a .args .reader) (now (a .args .out)) (now (a .args .s)) (a .args .at) (ended .line-end .result) (well .if1 .left) (a .pre) e),
+          (lengthens (a .args .reader) (now (a .args .out)) (now (a .args .s)) (a .args .at) (ended .line-end .result)
+          (well .if1 .left) (a .pre) e),
       (omega arith, ends-within ended),
     )
 

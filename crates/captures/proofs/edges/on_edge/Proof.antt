@@ -11,7 +11,8 @@ refuse-requires : tie.Need-refuse-requires
 refuse-requires c κs = search needs
 
 returns : tie.Need-returns
-returns c = ap (λ (x : Reader). record { closes = false; reader = x }) (c .refuse .ensures) ∙ edge-refused _ _ (c .before .if1 .taken)
+returns c = ap (λ (x : Reader). record { closes = false; reader = x }) (c .refuse .ensures)
+    ∙ edge-refused _ _ (c .before .if1 .taken)
 
 none-requires : tie.Need-none-requires
 none-requires c κs = search needs

@@ -45,32 +45,38 @@ after-low-requires c κs = search needs
 returns : tie.Need-returns
 returns c =
     let a = c .before .before .before .args in
-    c .move-on .ensures ∙ ap (λ (s : PulseStage). afterLevel s (a .wire) (a .time) (a .lasted)) (sym (c .before .enum-told .given .1))
+    c .move-on .ensures ∙ ap (λ (s : PulseStage). afterLevel s (a .wire) (a .time) (a .lasted))
+    (sym (c .before .enum-told .given .1))
 
 returns-2 : tie.Need-returns-2
 returns-2 c =
     let a = c .before .before .before .args in
-    c .after-first-low .ensures ∙ ap (λ (s : PulseStage). afterLevel s (a .wire) (a .time) (a .lasted)) (sym (c .before .enum-told2 .given .1))
+    c .after-first-low .ensures ∙ ap (λ (s : PulseStage). afterLevel s (a .wire) (a .time) (a .lasted))
+    (sym (c .before .enum-told2 .given .1))
 
 returns-3 : tie.Need-returns-3
 returns-3 c =
     let a = c .before .before .before .args in
-    c .after-release .ensures ∙ ap (λ (s : PulseStage). afterLevel s (a .wire) (a .time) (a .lasted)) (sym (c .before .enum-told3 .given .1))
+    c .after-release .ensures ∙ ap (λ (s : PulseStage). afterLevel s (a .wire) (a .time) (a .lasted))
+    (sym (c .before .enum-told3 .given .1))
 
 returns-4 : tie.Need-returns-4
 returns-4 c =
     let a = c .before .before .before .args in
-    c .after-presence .ensures ∙ ap (λ (s : PulseStage). afterLevel s (a .wire) (a .time) (a .lasted)) (sym (c .before .enum-told4 .given .1))
+    c .after-presence .ensures ∙ ap (λ (s : PulseStage). afterLevel s (a .wire) (a .time) (a .lasted))
+    (sym (c .before .enum-told4 .given .1))
 
 returns-5 : tie.Need-returns-5
 returns-5 c =
     let a = c .before .before .before .args in
-    c .move-on2 .ensures ∙ ap (λ (s : PulseStage). afterLevel s (a .wire) (a .time) (a .lasted)) (sym (c .before .enum-told5 .given .1))
+    c .move-on2 .ensures ∙ ap (λ (s : PulseStage). afterLevel s (a .wire) (a .time) (a .lasted))
+    (sym (c .before .enum-told5 .given .1))
 
 returns-6 : tie.Need-returns-6
 returns-6 c =
     let a = c .before .before .before .args in
-    c .after-low .ensures ∙ ap (λ (s : PulseStage). afterLevel s (a .wire) (a .time) (a .lasted)) (sym (c .before .enum-told6 .given .1))
+    c .after-low .ensures ∙ ap (λ (s : PulseStage). afterLevel s (a .wire) (a .time) (a .lasted))
+    (sym (c .before .enum-told6 .given .1))
 
 pub after-level-spec : {M : Type 1} → statement M
 after-level-spec =

@@ -34,7 +34,10 @@ returns : tie.Need-returns
 returns c = rw (← c .before .before .before .pulse-of .ensures, c .before .enum-told .given .1) (c .take-slot .ensures)
 
 returns-2 : tie.Need-returns-2
-returns-2 c = rw (← c .before .before .before .pulse-of .ensures, c .before .enum-told2 .given .1) (c .take-slot2 .ensures)
+returns-2 c = rw (
+  ← c .before .before .before .pulse-of .ensures,
+  c .before .enum-told2 .given .1,
+) (c .take-slot2 .ensures)
 
 returns-3 : tie.Need-returns-3
 returns-3 c = rw (← c .before .before .before .pulse-of .ensures, c .before .enum-told3 .given .1) (c .restart .ensures)

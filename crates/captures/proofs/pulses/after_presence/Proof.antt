@@ -20,7 +20,8 @@ go-requires c κs = search needs
 returns-2 : tie.Need-returns-2
 returns-2 c =
     let seen = c .before in
-    rw (seen .blank .ensures) at (c .go .ensures) ∙ presence-seen _ _ _ (seen .before .before .if1 .left) (seen .before .if2 .taken)
+    rw (seen .blank .ensures) at (c .go .ensures)
+    ∙ presence-seen _ _ _ (seen .before .before .if1 .left) (seen .before .if2 .taken)
 
 refuse-requires-2 : tie.Need-refuse-requires-2
 refuse-requires-2 c κs = search needs

@@ -34,7 +34,8 @@ returns-3 c =
     let test = c .before .before in
     let w = test .before .before .before .before .before .args .wire in
     let room : w .frame .count < 512 = omega arith in
-    rw (c .before .push .ensures .0) at (c .go .ensures) ∙ slot-taken w _ _ (not-false _ (test .before .before .if1 .left)) room
+    rw (c .before .push .ensures .0) at (c .go .ensures)
+    ∙ slot-taken w _ _ (not-false _ (test .before .before .if1 .left)) room
 
 pub take-slot-spec : {M : Type 1} → statement M
 take-slot-spec =

@@ -1,4 +1,5 @@
--- The proof of the cycle of calls {turned}: one bit fewer is left to turn in each call, and the loop passes each place once.
+-- The proof of the cycle of calls {turned}: one bit fewer is left to turn in each call, and the loop passes each place
+-- once.
 use Prim.Native.Nat.{ℕ, _<_, _≤_, _-_}
 use borrow.Author.Needs.{needs}
 use borrow.Fn.Kinds.{In}

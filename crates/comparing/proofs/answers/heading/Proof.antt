@@ -29,7 +29,8 @@ returns : tie.Need-returns
 returns c =
     let room = c .before .before in
     let a = room .before .before .before .args in
-    let none = line-refused (now (a .out)) 0 (headingOf (a .side) (a .line)) (sym (room .has-room .ensures) ∙ not-true (room .has-room .result) (c .before .if1 .taken)) in
+    let none = line-refused (now (a .out)) 0 (headingOf (a .side) (a .line)) (sym (room .has-room .ensures)
+    ∙ not-true (room .has-room .result) (c .before .if1 .taken)) in
     let answer = c .no-room .ensures in
     let next : c .no-room .result .next ≡ 0 = ap (λ (w : Written). w .next) answer in
     ((answer ∙ none .0, omega arith), none .1)
@@ -56,11 +57,17 @@ returns-2 c =
     let a = start .args in
     let heading = headingOf (a .side) (a .line) in
     let laid = heading-puts (a .side) (a .line)
-    (field-puts (now (a .out)) 0 (sideWord (a .side) (a .line)) space (word .put-side .last .0) (word .put-side .result) (word .put-side .ensures .0, word .put-side .ensures .1))
-    (field-puts (word .put-side .last .0) (word .put-side .result) (decimal (a .line)) lineFeed (number .put-number .last .0) (number .put-number .result) (number .put-number .ensures .0, number .put-number .ensures .1)) in
+    (field-puts (now (a .out)) 0 (sideWord (a .side) (a .line)) space (word .put-side .last .0) (word .put-side .result)
+    (word .put-side .ensures .0, word .put-side .ensures .1))
+    (field-puts (word .put-side .last .0) (word .put-side .result) (decimal (a .line)) lineFeed
+    (number .put-number .last .0) (number .put-number .result) (
+      number .put-number .ensures .0,
+      number .put-number .ensures .1,
+    )) in
     let there = sym (room .has-room .ensures) ∙ not-false (room .has-room .result) (test .if1 .left) in
     let short = heading-short (a .side) (a .line) (start .fits .line .fits) in
-    let done = line-done (now (a .out)) 0 heading there short (number .put-number .last .0) (number .put-number .result) laid in
+    let done = line-done (now (a .out)) 0 heading there short (number .put-number .last .0) (number .put-number .result)
+    laid in
     let enough = leb-true (0 + lineRoom) (length (now (a .out))) there in
     let behind = laid .puts (omega arith) .1 in
     let answer = c .behind .ensures in

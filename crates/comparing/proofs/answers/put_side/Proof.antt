@@ -35,7 +35,10 @@ returns-2 c =
     let put = c .before .before in
     let test = put .before .before .before in
     let a = test .before .before .before .args in
-    rw (ne-eqb (a .line) 0 (test .before .if1 .left), eq-eqb (a .side) (sideNumber Other) (test .if2 .taken)) (put .put-word2 .ensures)
+    rw (
+      ne-eqb (a .line) 0 (test .before .if1 .left),
+      eq-eqb (a .side) (sideNumber Other) (test .if2 .taken),
+    ) (put .put-word2 .ensures)
 
 slice-aggregate-put-word-3 : tie.Need-slice-aggregate-put-word-3
 slice-aggregate-put-word-3 c = search needs
@@ -51,7 +54,10 @@ returns-3 c =
     let put = c .before .before in
     let test = put .before .before .before in
     let a = test .before .before .before .args in
-    rw (ne-eqb (a .line) 0 (test .before .if1 .left), ne-eqb (a .side) (sideNumber Other) (test .if2 .left)) (put .put-word3 .ensures)
+    rw (
+      ne-eqb (a .line) 0 (test .before .if1 .left),
+      ne-eqb (a .side) (sideNumber Other) (test .if2 .left),
+    ) (put .put-word3 .ensures)
 
 pub put-side-spec : {M : Type 1} → statement M
 put-side-spec =

@@ -22,8 +22,10 @@ returns c =
     let mark = c .before .before in
     let lay = mark .before .before .before .before in
     let a = lay .before .before .before .before .args in
-    field-laid (now (a .out)) 0 (now (a .word)) space (lay .lay .result .next) (lay .lay .last .0) (mark .put-char .result) (mark .put-char .last .0)
-    (ap (λ (w : Written). w .next) (lay .lay .ensures .0)) (lay .lay .ensures .1) (mark .put-char .ensures .0) (mark .put-char .ensures .1)
+    field-laid (now (a .out)) 0 (now (a .word)) space (lay .lay .result .next) (lay .lay .last .0)
+    (mark .put-char .result) (mark .put-char .last .0)
+    (ap (λ (w : Written). w .next) (lay .lay .ensures .0)) (lay .lay .ensures .1) (mark .put-char .ensures .0)
+    (mark .put-char .ensures .1)
 
 pub put-word-spec : {M : Type 1} → statement M
 put-word-spec = tie.close (tie.spec lay-requires put-char-requires same-length returns)

@@ -21,7 +21,13 @@ returns : tie.Need-returns
 unfolding functionCommand
 returns c =
     let if1 = c .before in let busy = if1 .before in let other = busy .before .match .rest in
-    simp (ne-eqb _ _ (other .0 .1), ne-eqb _ _ (other .1), ← busy .is-busy .ensures, if1 .if1 .taken, c .with-stage3 .ensures)
+    simp (
+      ne-eqb _ _ (other .0 .1),
+      ne-eqb _ _ (other .1),
+      ← busy .is-busy .ensures,
+      if1 .if1 .taken,
+      c .with-stage3 .ensures,
+    )
 
 idle-command-requires : tie.Need-idle-command-requires
 idle-command-requires c κs = search needs
@@ -38,7 +44,13 @@ returns-4 : tie.Need-returns-4
 unfolding functionCommand
 returns-4 c =
     let if1 = c .before in let busy = if1 .before in let other = busy .before .match .rest in
-    simp (ne-eqb _ _ (other .0 .1), ne-eqb _ _ (other .1), ← busy .is-busy .ensures, if1 .if1 .left, c .idle-command .ensures)
+    simp (
+      ne-eqb _ _ (other .0 .1),
+      ne-eqb _ _ (other .1),
+      ← busy .is-busy .ensures,
+      if1 .if1 .left,
+      c .idle-command .ensures,
+    )
 
 pub function-command-spec : {M : Type 1} → statement M
 function-command-spec =

@@ -55,7 +55,13 @@ returns-5 : tie.Need-returns-5
 unfolding idleCommand
 returns-5 c =
     let other = c .before .match .rest in
-    simp (c .with-stage5 .ensures, ne-eqb _ _ (other .0 .0 .0 .1), ne-eqb _ _ (other .0 .0 .1), ne-eqb _ _ (other .0 .1), ne-eqb _ _ (other .1))
+    simp (
+      c .with-stage5 .ensures,
+      ne-eqb _ _ (other .0 .0 .0 .1),
+      ne-eqb _ _ (other .0 .0 .1),
+      ne-eqb _ _ (other .0 .1),
+      ne-eqb _ _ (other .1),
+    )
 
 pub idle-command-spec : {M : Type 1} → statement M
 idle-command-spec =

@@ -1,4 +1,5 @@
--- No more bytes than the family has settings (`last`, of its `row`); a byte within them is stored in the scratchpad (`pad`), and the next is awaited or all are there.
+-- No more bytes than the family has settings (`last`, of its `row`); a byte within them is stored in the scratchpad
+-- (`pad`), and the next is awaited or all are there.
 use Rattle.device.specs.Hear.{storeSetting}
 use Rattle.device.specs.SettingsLaws.{settings-few}
 use borrow.Author.Tests.{lt-ltb, le-ltb}
@@ -49,10 +50,18 @@ with-stage-requires-2 c κs = search needs
 returns-2 : tie.Need-returns-2
 unfolding storeSetting
 returns-2 c =
-    let if2 = c .before in let pad = if2 .before in let byte = pad .before in let if1 = byte .before .before in let last = if1 .before in let row = last .before in
+    let if2 = c .before in let pad = if2 .before in let byte = pad .before in let if1 = byte .before .before in
+    let last = if1 .before in let row = last .before in
     let more = lt-ltb _ _ (if2 .if2 .taken) in
-    simp
-    (← row .row-of .ensures, ← last .settings-count .ensures, lt-ltb _ _ (if1 .if1 .left), more, c .with-stage2 .ensures, pad .with-scratchpad .ensures, byte .setting-byte .ensures)
+    simp (
+      ← row .row-of .ensures,
+      ← last .settings-count .ensures,
+      lt-ltb _ _ (if1 .if1 .left),
+      more,
+      c .with-stage2 .ensures,
+      pad .with-scratchpad .ensures,
+      byte .setting-byte .ensures,
+    )
 
 with-stage-requires-3 : tie.Need-with-stage-requires-3
 with-stage-requires-3 c κs = search needs
@@ -60,10 +69,18 @@ with-stage-requires-3 c κs = search needs
 returns-3 : tie.Need-returns-3
 unfolding storeSetting
 returns-3 c =
-    let if2 = c .before in let pad = if2 .before in let byte = pad .before in let if1 = byte .before .before in let last = if1 .before in let row = last .before in
+    let if2 = c .before in let pad = if2 .before in let byte = pad .before in let if1 = byte .before .before in
+    let last = if1 .before in let row = last .before in
     let more = le-ltb _ _ (if2 .if2 .left) in
-    simp
-    (← row .row-of .ensures, ← last .settings-count .ensures, lt-ltb _ _ (if1 .if1 .left), more, c .with-stage3 .ensures, pad .with-scratchpad .ensures, byte .setting-byte .ensures)
+    simp (
+      ← row .row-of .ensures,
+      ← last .settings-count .ensures,
+      lt-ltb _ _ (if1 .if1 .left),
+      more,
+      c .with-stage3 .ensures,
+      pad .with-scratchpad .ensures,
+      byte .setting-byte .ensures,
+    )
 
 pub store-setting-spec : {M : Type 1} → statement M
 store-setting-spec =

@@ -1,4 +1,5 @@
--- A bit of one of the eight bytes, or of their CRC, which is the ninth; past the nine the line gets a 1. `pad` is the eight, `long` their number.
+-- A bit of one of the eight bytes, or of their CRC, which is the ninth; past the nine the line gets a 1. `pad` is the
+-- eight, `long` their number.
 use Prim.Native.Nat.{_<_, _≤_}
 use mathlib.Core.Path.{_≡_}
 use native.Mathlib.Omega.{arith}
@@ -36,10 +37,17 @@ byte-slot-requires-2 c κs = search needs
 returns-2 : tie.Need-returns-2
 unfolding scratchpadSlot
 returns-2 c =
-    let crc = c .before in let if2 = crc .before .before in let if1 = if2 .before in let entry = if1 .before in let pad = entry .args .t1 in
+    let crc = c .before in let if2 = crc .before .before in let if1 = if2 .before in let entry = if1 .before in
+    let pad = entry .args .t1 in
     let long : length pad ≡ 8 = search needs in
     let within : entry .args .k < 9 = omega (arith, if2 .if2 .taken) in
-    simp (c .byte-slot2 .ensures, crc .crc-of .ensures, nine-length pad long, lt-ltb _ 9 within, nine-crc pad _ long (if2 .if2 .taken))
+    simp (
+      c .byte-slot2 .ensures,
+      crc .crc-of .ensures,
+      nine-length pad long,
+      lt-ltb _ 9 within,
+      nine-crc pad _ long (if2 .if2 .taken),
+    )
 
 returns-3 : tie.Need-returns-3
 unfolding scratchpadSlot

@@ -23,7 +23,12 @@ returns : tie.Need-returns
 unfolding conversionEnded
 returns c =
     let if1 = c .before in let range = if1 .before in
-    simp (range .before .enum-told2 .given .1, ← range .in-range .ensures, if1 .if1 .taken, ← c .finish-conversion .ensures)
+    simp (
+      range .before .enum-told2 .given .1,
+      ← range .in-range .ensures,
+      if1 .if1 .taken,
+      ← c .finish-conversion .ensures,
+    )
 
 refuse-requires-2 : tie.Need-refuse-requires-2
 refuse-requires-2 c κs = search needs

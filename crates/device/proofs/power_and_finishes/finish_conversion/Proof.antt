@@ -1,4 +1,5 @@
--- The reading, the scratchpad and the flag are those of the definition, each from the call that makes it, and each part is replaced by its own call.
+-- The reading, the scratchpad and the flag are those of the definition, each from the call that makes it, and each part
+-- is replaced by its own call.
 use Rattle.device.specs.Finish.{conversionDone}
 use borrow.Author.Needs.{needs}
 use Rattle.device.proofs.power_and_finishes.finish_conversion.Statement.{statement}
@@ -39,8 +40,16 @@ unfolding conversionDone
 returns c =
     let flagged = c .before in let verdict = flagged .before in let stored = verdict .before in
     let pad = stored .before in let idle = pad .before in let reading = idle .before in let row = reading .before in
-    simp
-    (c .with-page .ensures, flagged .with-alarm .ensures, verdict .verdict .ensures, stored .with-scratchpad .ensures, pad .after-conversion .ensures, idle .with-activity .ensures, reading .stored-reading .ensures, row .row-of .ensures)
+    simp (
+      c .with-page .ensures,
+      flagged .with-alarm .ensures,
+      verdict .verdict .ensures,
+      stored .with-scratchpad .ensures,
+      pad .after-conversion .ensures,
+      idle .with-activity .ensures,
+      reading .stored-reading .ensures,
+      row .row-of .ensures,
+    )
 
 pub finish-conversion-spec : {M : Type 1} → statement M
 finish-conversion-spec =

@@ -25,8 +25,15 @@ returns c =
     let kept = c .before in
     let row = kept .before in
     let pins = row .before in
-    simp (c .powered-up .ensures, kept .kept-configuration .ensures, row .row-of .ensures, pins .kept-pins .ensures, pins .before .family-row .ensures)
+    simp (
+      c .powered-up .ensures,
+      kept .kept-configuration .ensures,
+      row .row-of .ensures,
+      pins .kept-pins .ensures,
+      pins .before .family-row .ensures,
+    )
 
 pub join-spec : {M : Type 1} → statement M
 join-spec =
-    tie.close (tie.spec family-row-requires kept-pins-requires row-of-requires kept-configuration-requires powered-up-requires returns)
+    tie.close (tie.spec family-row-requires kept-pins-requires row-of-requires kept-configuration-requires
+    powered-up-requires returns)

@@ -90,7 +90,13 @@ returns c =
     let l = long a in let most = a .pre .0 in let e = bytes .bytes-for .ensures in
     length-take-le (bytesFor (f .count)) (f .bits) (omega arith) ∙ sym e in
     let room : a .args .at + (7 + 2 * n) ≤ length (now (a .args .s)) = rw (bytes .bytes-for .ensures) (a .pre .1) in
-    rw (slots .lay-hex-bytes .ensures .1, part, count .lay-hex2 .ensures .1, head .lay-hex .ensures .1, bytes .before .presence-number .ensures) (line-laid (now (a .args .s)) (a .args .at) f n size room)
+    rw (
+      slots .lay-hex-bytes .ensures .1,
+      part,
+      count .lay-hex2 .ensures .1,
+      head .lay-hex .ensures .1,
+      bytes .before .presence-number .ensures,
+    ) (line-laid (now (a .args .s)) (a .args .at) f n size room)
 
 pub put-line-spec : {M : Type 1} → statement M
 put-line-spec =

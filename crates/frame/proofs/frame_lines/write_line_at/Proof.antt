@@ -19,7 +19,8 @@ long c = simp length-map at (c .good .1 .1 .0 .1 .1 .1 .1 .0 .1 .0 .1)
 sound : (c : tie.Else1) → lineable (c .before .before .before .args .f) ≡ true
 sound c = sym (c .before .can-carry .ensures) ∙ not-false (c .before .can-carry .result) (c .if1 .left)
 
-wide : (c : tie.After-bytes-for) → length (fedLine (c .before .before .before .before .args .f)) ≡ 7 + 2 * c .bytes-for .result
+wide : (c : tie.After-bytes-for) → length (fedLine (c .before .before .before .before .args .f))
+    ≡ 7 + 2 * c .bytes-for .result
 wide c =
     let a = c .before .before .before .before in
     rw (c .bytes-for .ensures) (fed-length (a .args .f) (long a) (sound (c .before)))
@@ -32,7 +33,8 @@ room-there : (c : tie.Else2) →
 room-there c =
     let width = c .before .before .before in
     let a = width .before .before .before .before in
-    leb-true (a .args .at + (7 + 2 * width .bytes-for .result)) (length (now (a .args .s))) (sym (c .before .has-room .ensures) ∙ not-false (c .before .has-room .result) (c .if2 .left))
+    leb-true (a .args .at + (7 + 2 * width .bytes-for .result)) (length (now (a .args .s)))
+    (sym (c .before .has-room .ensures) ∙ not-false (c .before .has-room .result) (c .if2 .left))
 
 can-carry-requires : tie.Need-can-carry-requires
 can-carry-requires c κs = search needs
@@ -44,7 +46,8 @@ returns : tie.Need-returns
 returns c =
     let carried = c .before .before in
     let a = carried .before .before .args in
-    let unsound = write-unsound (now (a .s)) (a .at) (a .f) (sym (carried .can-carry .ensures) ∙ not-true (carried .can-carry .result) (c .before .if1 .taken)) in
+    let unsound = write-unsound (now (a .s)) (a .at) (a .f) (sym (carried .can-carry .ensures)
+    ∙ not-true (carried .can-carry .result) (c .before .if1 .taken)) in
     (c .refuse-write .ensures ∙ unsound .0, unsound .1)
 
 bytes-for-requires : tie.Need-bytes-for-requires
@@ -70,7 +73,8 @@ returns-2 c =
     let room = c .before .before in
     let width = room .before .before in
     let a = width .before .before .before .before .args in
-    let short = write-short (now (a .s)) (a .at) (a .f) (7 + 2 * width .bytes-for .result) (sound (width .before)) (wide width) (sym (room .has-room .ensures) ∙ not-true (room .has-room .result) (c .before .if2 .taken)) in
+    let short = write-short (now (a .s)) (a .at) (a .f) (7 + 2 * width .bytes-for .result) (sound (width .before))
+    (wide width) (sym (room .has-room .ensures) ∙ not-true (room .has-room .result) (c .before .if2 .taken)) in
     (c .refuse-write2 .ensures ∙ short .0, short .1)
 
 put-line-requires : tie.Need-put-line-requires
@@ -95,7 +99,8 @@ returns-3 c =
     let room = put .before .before in
     let width = room .before .before .before in
     let a = width .before .before .before .before .args in
-    let done = write-done (now (a .s)) (a .at) (a .f) (7 + 2 * width .bytes-for .result) (sound (width .before)) (wide width) (room-there room) in
+    let done = write-done (now (a .s)) (a .at) (a .f) (7 + 2 * width .bytes-for .result) (sound (width .before))
+    (wide width) (room-there room) in
     (done .0, put .put-line .ensures ∙ done .1)
 
 pub write-line-at-spec : {M : Type 1} → statement M

@@ -18,7 +18,8 @@ returns c =
     let a = c .before .before .before in
     let long : length (now (a .args .line)) ≡ mostHeldByHost = search (needs, a .good .0) in
     let room : mostHeldByHost ≤ length (now (a .args .line)) = omega arith in
-    lent-room (now (a .args .line)) (a .args .held) (now (a .args .bytes)) (a .args .at) (a .args .ended) room (c .next .result) (c .next .last .0) (c .next .ensures .0) (c .next .ensures .1)
+    lent-room (now (a .args .line)) (a .args .held) (now (a .args .bytes)) (a .args .at) (a .args .ended) room
+    (c .next .result) (c .next .last .0) (c .next .ensures .0) (c .next .ensures .1)
 
 pub skiffle-next-spec : {M : Type 1} → statement M
 skiffle-next-spec = tie.close (tie.spec next-requires returns)

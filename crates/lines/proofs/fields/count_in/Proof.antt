@@ -1,4 +1,5 @@
--- A number of five digits with its sign fits sixteen bits where its reader takes it; behind a minus stands the rest of the word.
+-- A number of five digits with its sign fits sixteen bits where its reader takes it; behind a minus stands the rest of
+-- the word.
 use denote.Ref.{now}
 use Prim.Native.Nat.{_-_}
 use lib.ListN.{length, take, drop}
@@ -18,12 +19,14 @@ is-negative-requires c κs = search needs
 
 sub-read-decimal : tie.Need-sub-read-decimal
 sub-read-decimal c =
-    let minus = negative-some (now (c .before .before .before .args .w)) (sym (c .before .is-negative .ensures) ∙ c .if1 .taken) in
+    let minus = negative-some (now (c .before .before .before .args .w)) (sym (c .before .is-negative .ensures)
+    ∙ c .if1 .taken) in
     search (needs, minus)
 
 part-read-decimal-start : tie.Need-part-read-decimal-start
 part-read-decimal-start c =
-    let minus = negative-some (now (c .before .before .before .args .w)) (sym (c .before .is-negative .ensures) ∙ c .if1 .taken) in
+    let minus = negative-some (now (c .before .before .before .args .w)) (sym (c .before .is-negative .ensures)
+    ∙ c .if1 .taken) in
     search (needs, minus)
 
 part-read-decimal-end : tie.Need-part-read-decimal-end
@@ -56,7 +59,8 @@ returns c =
     let w = now (c .before .before .before .before .before .before .args .w) in
     let most = rw (← c .before .read-decimal .ensures) at (decimal-at-most 5 32768 (take (length w - 1) (drop 1 w))) in
     let test = c .before .before .before in
-    let rest : c .before .read-decimal .result ≡ decimalRead 5 32768 (drop 1 w) = c .before .read-decimal .ensures ∙ ap (decimalRead 5 32768) (rest-whole w (length w - 1) refl) in
+    let rest : c .before .read-decimal .result ≡ decimalRead 5 32768 (drop 1 w) =
+    c .before .read-decimal .ensures ∙ ap (decimalRead 5 32768) (rest-whole w (length w - 1) refl) in
     rw (negative-code _ most, ← test .before .is-negative .ensures, test .if1 .taken, ← rest)
 
 read-decimal-requires-2 : tie.Need-read-decimal-requires-2

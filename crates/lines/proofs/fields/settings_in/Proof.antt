@@ -37,14 +37,23 @@ cast-t11 : tie.Need-cast-t11
 cast-t11 c =
     let last = c .before .before .before .before .before in
     let read = last .byte-in3 .ensures in
-    record { fits = rw read (byte-below (now (last .before .before .before .before .before .before .args .configuration))) }
+    record {
+      fits = rw read (byte-below
+          (now (last .before .before .before .before .before .before .args .configuration)));
+    }
 
 returns : tie.Need-returns
 unfolding threeBytesIn
 returns c =
     let tests = c .before .before .before in
     let last = tests .before .before in
-    rw (tests .both2 .ensures, tests .before .both .ensures, last .before .before .byte-in .ensures, last .before .byte-in2 .ensures, last .byte-in3 .ensures)
+    rw (
+      tests .both2 .ensures,
+      tests .before .both .ensures,
+      last .before .before .byte-in .ensures,
+      last .before .byte-in2 .ensures,
+      last .byte-in3 .ensures,
+    )
 
 pub settings-in-spec : {M : Type 1} → statement M
 settings-in-spec =

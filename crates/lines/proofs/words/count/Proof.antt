@@ -1,4 +1,5 @@
--- The loop's invariant: the words counted so far and those from `i` on, which share one, are all the words. The measure is what is left.
+-- The loop's invariant: the words counted so far and those from `i` on, which share one, are all the words. The measure
+-- is what is left.
 use denote.Ref.{now}
 use Prim.Native.Nat.{_+_, _≤_, _-_}
 use mathlib.Core.Path.{_≡_}
@@ -11,7 +12,8 @@ use Rattle.lines.proofs.words.count.Statement.{statement}
 use Rattle.lines.proofs.words.count.Tie as tie
 
 abbrev Inv-loop : tie.InvT-loop
-Inv-loop line n₀ i₀ n i = (i ≤ length line) × (n ≤ i + 1) × (n + length (wordsOf (drop i line)) ≡ 1 + length (wordsOf line))
+Inv-loop line n₀ i₀ n i = (i ≤ length line) × (n ≤ i + 1)
+    × (n + length (wordsOf (drop i line)) ≡ 1 + length (wordsOf line))
 
 abbrev μ-loop : tie.MeasureT-loop
 μ-loop line n₀ i₀ n i = length line - i

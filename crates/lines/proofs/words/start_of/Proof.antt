@@ -26,7 +26,8 @@ add-at : tie.Need-add-at Inv-loop μ-loop
 add-at c =
     let l = c .before .before in
     let a = l .before .before in
-    let next = word-next (now (a .args .line)) (a .args .k) (l .loop .at) (l .loop .j) _ (l .loop .inv .1) (l .loop .inv .2) (c .word-end .ensures) (c .before .loop-test .taken) (a .pre) in
+    let next = word-next (now (a .args .line)) (a .args .k) (l .loop .at) (l .loop .j) _ (l .loop .inv .1)
+    (l .loop .inv .2) (c .word-end .ensures) (c .before .loop-test .taken) (a .pre) in
     search (needs, next .0)
 
 add-j : tie.Need-add-j Inv-loop μ-loop
@@ -39,7 +40,8 @@ loop-again : tie.Need-loop-again Inv-loop μ-loop
 loop-again c =
     let l = c .before .before in
     let a = l .before .before in
-    let next = word-next (now (a .args .line)) (a .args .k) (l .loop .at) (l .loop .j) _ (l .loop .inv .1) (l .loop .inv .2) (c .word-end .ensures) (c .before .loop-test .taken) (a .pre) in
+    let next = word-next (now (a .args .line)) (a .args .k) (l .loop .at) (l .loop .j) _ (l .loop .inv .1)
+    (l .loop .inv .2) (c .word-end .ensures) (c .before .loop-test .taken) (a .pre) in
     (omega arith, next .0, next .1)
 
 returns : tie.Need-returns Inv-loop μ-loop

@@ -1,4 +1,5 @@
--- The word starts where the passed words end, and ends at the next space. Where there are no more words, the part is empty.
+-- The word starts where the passed words end, and ends at the next space. Where there are no more words, the part is
+-- empty.
 use denote.Ref.{now}
 use native.Mathlib.Omega.{arith}
 use lib.ListN.{drop, length-drop}
@@ -57,7 +58,8 @@ returns-2 : tie.Need-returns-2
 returns-2 c =
     let s = c .before .before .start-of in
     let a = c .before .before .before .before .before .before in
-    word-here (now (a .args .line)) (a .args .k) (s .result) (a .args .k) _ (s .ensures .0) (s .ensures .1) (c .before .word-end .ensures) _ refl
+    word-here (now (a .args .line)) (a .args .k) (s .result) (a .args .k) _ (s .ensures .0) (s .ensures .1)
+    (c .before .word-end .ensures) _ refl
 
 pub word-spec : {M : Type 1} → statement M
 word-spec =

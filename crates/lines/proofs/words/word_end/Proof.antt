@@ -26,7 +26,8 @@ shared-slice-read-if1 c = search needs
 returns : tie.Need-returns Inv-loop μ-loop
 returns c =
     let l = c .before .before .before in
-    sym (at-here space (now (l .before .args .line)) (l .loop .i) (c .before .before .loop-test .taken) (c .if1 .taken)) ∙ l .loop .inv .1
+    sym (at-here space (now (l .before .args .line)) (l .loop .i) (c .before .before .loop-test .taken) (c .if1 .taken))
+    ∙ l .loop .inv .1
 
 add-i : tie.Need-add-i Inv-loop μ-loop
 add-i c = search needs
@@ -38,7 +39,8 @@ loop-again : tie.Need-loop-again Inv-loop μ-loop
 loop-again c =
     let l = c .before .before .before in (
       omega arith,
-      sym (at-on space (now (l .before .args .line)) (l .loop .i) (c .before .before .loop-test .taken) (c .if1 .left)) ∙ l .loop .inv .1,
+      sym (at-on space (now (l .before .args .line)) (l .loop .i) (c .before .before .loop-test .taken) (c .if1 .left))
+          ∙ l .loop .inv .1,
     )
 
 returns-2 : tie.Need-returns-2 Inv-loop μ-loop

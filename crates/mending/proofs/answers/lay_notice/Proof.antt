@@ -37,8 +37,11 @@ returns c =
     let lay = c .before .before in
     let n = lay .before .before .before .before in
     let a = n .before .before .before .args in
-    let told = notice-read (replicate 64 0) (a .number) (a .report) (n .notice .result) (n .notice .last .0) refl (n .notice .ensures .0 .0) (n .notice .ensures .1) in
-    (lay .lay .ensures .0 ∙ ap (layAnswer (now (a .out)) (a .at)) told, lay .lay .ensures .1 ∙ ap (layLeaves (now (a .out)) (a .at)) told)
+    let told = notice-read (replicate 64 0) (a .number) (a .report) (n .notice .result) (n .notice .last .0) refl
+    (n .notice .ensures .0 .0) (n .notice .ensures .1) in (
+      lay .lay .ensures .0 ∙ ap (layAnswer (now (a .out)) (a .at)) told,
+      lay .lay .ensures .1 ∙ ap (layLeaves (now (a .out)) (a .at)) told,
+    )
 
 pub lay-notice-spec : {M : Type 1} → statement M
 lay-notice-spec =

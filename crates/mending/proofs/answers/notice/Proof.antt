@@ -27,7 +27,8 @@ returns : tie.Need-returns
 returns c =
     let room = c .before .before in
     let a = room .before .before .before .args in
-    let none = line-refused (now (a .out)) 0 (noticeOf (a .number) (a .report)) (sym (room .has-room .ensures) ∙ not-true (room .has-room .result) (c .before .if1 .taken)) in
+    let none = line-refused (now (a .out)) 0 (noticeOf (a .number) (a .report)) (sym (room .has-room .ensures)
+    ∙ not-true (room .has-room .result) (c .before .if1 .taken)) in
     let answer = c .no-room .ensures in
     let next : c .no-room .result .next ≡ 0 = ap (λ (w : Written). w .next) answer in
     ((answer ∙ none .0, omega arith), none .1)
@@ -43,7 +44,8 @@ returns-2 c =
     let k = c .before in
     let room = k .before .before in
     let a = room .before .before .before .args in
-    let none = notice-none (now (a .out)) (a .number) (a .report) (k .if2 .taken) (sym (room .has-room .ensures) ∙ not-false (room .has-room .result) (k .before .if1 .left)) in
+    let none = notice-none (now (a .out)) (a .number) (a .report) (k .if2 .taken) (sym (room .has-room .ensures)
+    ∙ not-false (room .has-room .result) (k .before .if1 .left)) in
     let answer = c .behind .ensures in
     let next : c .behind .result .next ≡ 0 = ap (λ (w : Written). w .next) answer in
     ((answer ∙ none .0, omega arith), none .1)
@@ -65,7 +67,8 @@ returns-3 c =
     let a = room .before .before .before .args in
     let laid = put .put-fields .ensures in
     let there = sym (room .has-room .ensures) ∙ not-false (room .has-room .result) (k .before .if1 .left) in
-    let done = line-done (now (a .out)) 0 (noticeLine (a .number) (a .report)) there (laid .1) (put .put-fields .last .0) (put .put-fields .result) (laid .0) in
+    let done = line-done (now (a .out)) 0 (noticeLine (a .number) (a .report)) there (laid .1)
+    (put .put-fields .last .0) (put .put-fields .result) (laid .0) in
     let enough = leb-true (0 + lineRoom) (length (now (a .out))) there in
     let short = laid .1 in
     let place = laid .0 .puts (omega arith) .1 in

@@ -1,4 +1,5 @@
--- The loop's invariant is `Noting`: what is told of the first `i` lines is laid. The measure is what is left of the report.
+-- The loop's invariant is `Noting`: what is told of the first `i` lines is laid. The measure is what is left of the
+-- report.
 use Prim.Native.Nat.{_*_, _-_, _<_, _≤_}
 use denote.Ref.{now}
 use native.Mathlib.Omega.{arith}
@@ -53,8 +54,10 @@ loop-again c =
     let room : mostTold * length report ≤ length (now (a .out)) = omega arith in
     let byte = k .shared-slice-known2 .given (l .loop .i) in
     let small : getD report (l .loop .i) 0 < 256 = omega arith in
-    noting-more (a .before) report (now (a .out)) room (l .loop .i) (l .loop .number) (l .loop .written) (l .loop .out) (l .loop .inv) (w .before .loop-test .taken)
-    (w .wrapping-add-u64 .result) (w .wrapping-add-u64 .ensures) small (lay .lay-notice .result) (lay .lay-notice .last .0) (lay .lay-notice .ensures .0) (lay .lay-notice .ensures .1)
+    noting-more (a .before) report (now (a .out)) room (l .loop .i) (l .loop .number) (l .loop .written) (l .loop .out)
+    (l .loop .inv) (w .before .loop-test .taken)
+    (w .wrapping-add-u64 .result) (w .wrapping-add-u64 .ensures) small (lay .lay-notice .result)
+    (lay .lay-notice .last .0) (lay .lay-notice .ensures .0) (lay .lay-notice .ensures .1)
 
 same-length : tie.Need-same-length Inv-loop μ-loop
 same-length c = c .before .loop .inv .size
@@ -66,7 +69,8 @@ returns-2 c =
     let a = e .before .before .before .args in
     let left = e .if1 .left in
     let room : mostTold * length (now (a .report)) ≤ length (now (a .out)) = omega arith in
-    noting-done (a .before) (now (a .report)) (now (a .out)) room (l .loop .i) (l .loop .number) (l .loop .written) (l .loop .out) (l .loop .inv) (c .loop-test .left) left
+    noting-done (a .before) (now (a .report)) (now (a .out)) room (l .loop .i) (l .loop .number) (l .loop .written)
+    (l .loop .out) (l .loop .inv) (c .loop-test .left) left
 
 pub notices-spec : {M : Type 1} → statement M
 notices-spec =

@@ -26,8 +26,13 @@ returns c =
     let start = number .before .before .before in
     let a = start .args in (
       puts-field (decimal (a .number)) space
-          (field-puts (now (a .out)) 0 (decimal (a .number)) space (number .put-number .last .0) (number .put-number .result) (number .put-number .ensures .0, number .put-number .ensures .1))
-          (field-puts (number .put-number .last .0) (number .put-number .result) (decimal (a .report)) lineFeed (report .put-number2 .last .0) (report .put-number2 .result) (report .put-number2 .ensures .0, report .put-number2 .ensures .1)),
+          (field-puts (now (a .out)) 0 (decimal (a .number)) space (number .put-number .last .0)
+          (number .put-number .result) (number .put-number .ensures .0, number .put-number .ensures .1))
+          (field-puts (number .put-number .last .0) (number .put-number .result) (decimal (a .report)) lineFeed
+          (report .put-number2 .last .0) (report .put-number2 .result) (
+            report .put-number2 .ensures .0,
+            report .put-number2 .ensures .1,
+          )),
       notice-short (a .number) (a .report) (start .fits .number .fits) (start .fits .report .fits),
     )
 

@@ -31,7 +31,8 @@ returns-2 : tie.Need-returns-2
 returns-2 c =
     let n = c .before .before in
     let a = n .before .before .before .before .before .before .args in
-    let few : length (now (a .report)) < length (linesOf (now (a .s))) = let count = n .count-lines .ensures in let test = c .before .if2 .taken in omega arith in
+    let few : length (now (a .report)) < length (linesOf (now (a .s))) = let count = n .count-lines .ensures in
+    let test = c .before .if2 .taken in omega arith in
     rw (c .no-room2 .ensures) (piece-few (now (a .s)) (now (a .out)) (now (a .report)) few)
 
 mend-whole-requires : tie.Need-mend-whole-requires
@@ -56,8 +57,10 @@ returns-3 c =
     let e = w .before .before .before .before in
     let n = e .before in
     let a = n .before .before .before .before .before .before .args in
-    let places : length (linesOf (now (a .s))) ≤ length (now (a .report)) = let count = n .count-lines .ensures in let test = e .if2 .left in omega arith in
-    let d = piece-done (now (a .s)) (now (a .out)) (now (a .report)) (n .before .before .if1 .left) places (w .mend-whole .result) (w .mend-whole .ensures .0)
+    let places : length (linesOf (now (a .s))) ≤ length (now (a .report)) = let count = n .count-lines .ensures in
+    let test = e .if2 .left in omega arith in
+    let d = piece-done (now (a .s)) (now (a .out)) (now (a .report)) (n .before .before .if1 .left) places
+    (w .mend-whole .result) (w .mend-whole .ensures .0)
     (k .keep-front .result) (k .keep-front .last .0) (k .keep-front .ensures .0) (k .keep-front .ensures .1) in
     (d .0, (d .1 .0, (w .mend-whole .ensures .1 .0 ∙ d .1 .1 .0, w .mend-whole .ensures .1 .1 ∙ d .1 .1 .1)))
 

@@ -34,7 +34,8 @@ returns-2 : tie.Need-returns-2
 returns-2 c =
     let n = c .before .before in
     let a = n .before .before .before .before .before .args in
-    let few : length (now (a .report)) < length (linesOf (now (a .s))) = let count = n .count-lines .ensures in let test = c .before .if2 .taken in omega arith in
+    let few : length (now (a .report)) < length (linesOf (now (a .s))) = let count = n .count-lines .ensures in
+    let test = c .before .if2 .taken in omega arith in
     rw (c .refuse-text2 .ensures) (report-few (now (a .s)) (now (a .out)) (now (a .report)) few)
 
 mend-whole-requires : tie.Need-mend-whole-requires
@@ -52,9 +53,12 @@ returns-3 c =
     let e = w .before .before .before in
     let n = e .before in
     let a = n .before .before .before .before .before .args in
-    let places : length (linesOf (now (a .s))) ≤ length (now (a .report)) = let count = n .count-lines .ensures in let test = e .if2 .left in omega arith in
-    text-done (now (a .s)) (now (a .out)) (now (a .report)) (n .before .if1 .left) places (w .mend-whole .result) (w .mend-whole .ensures .0) (c .if3 .taken)
-    (n .count-lines .result) (n .count-lines .ensures) (w .mend-whole .last .1 .0) (w .mend-whole .last .1 .1 .0) (w .mend-whole .ensures .1 .0) (w .mend-whole .ensures .1 .1)
+    let places : length (linesOf (now (a .s))) ≤ length (now (a .report)) = let count = n .count-lines .ensures in
+    let test = e .if2 .left in omega arith in
+    text-done (now (a .s)) (now (a .out)) (now (a .report)) (n .before .if1 .left) places (w .mend-whole .result)
+    (w .mend-whole .ensures .0) (c .if3 .taken)
+    (n .count-lines .result) (n .count-lines .ensures) (w .mend-whole .last .1 .0) (w .mend-whole .last .1 .1 .0)
+    (w .mend-whole .ensures .1 .0) (w .mend-whole .ensures .1 .1)
 
 sub-mend-last : tie.Need-sub-mend-last
 sub-mend-last c = search needs
@@ -84,12 +88,18 @@ returns-4 c =
     let a = n .before .before .before .before .before .args in
     let s = now (a .s) in
     let p = w .mend-whole .result in
-    let places : length (linesOf s) ≤ length (now (a .report)) = let count = n .count-lines .ensures in let test = e .if2 .left in omega arith in
+    let places : length (linesOf s) ≤ length (now (a .report)) = let count = n .count-lines .ensures in let test =
+    e .if2 .left in omega arith in
     let last = part-all s (p .next) in
-    let text = m .mend-last .ensures .0 ∙ ap (λ (cs : List ℕ). layLeaves (w .mend-whole .last .1 .0) (p .written) (mendedBytes record { chars = cs; fed = false })) last in
-    let noted = m .mend-last .ensures .1 ∙ ap (λ (cs : List ℕ). layLeaves (w .mend-whole .last .1 .1 .0) (p .lines) (reportSaid record { chars = cs; fed = false })) last in
-    text-open s (now (a .out)) (now (a .report)) (n .before .if1 .left) places p (w .mend-whole .ensures .0) (f .if3 .left)
-    (n .count-lines .result) (n .count-lines .ensures) (w .mend-whole .last .1 .0) (m .mend-last .last .1 .0) (w .mend-whole .last .1 .1 .0) (m .mend-last .last .1 .1 .1 .0)
+    let text = m .mend-last .ensures .0 ∙ ap (λ (cs : List ℕ). layLeaves (w .mend-whole .last .1 .0) (p .written)
+    (mendedBytes record { chars = cs; fed = false })) last in
+    let noted = m .mend-last .ensures .1 ∙ ap
+    (λ (cs : List ℕ). layLeaves (w .mend-whole .last .1 .1 .0) (p .lines)
+    (reportSaid record { chars = cs; fed = false })) last in
+    text-open s (now (a .out)) (now (a .report)) (n .before .if1 .left) places p (w .mend-whole .ensures .0)
+    (f .if3 .left)
+    (n .count-lines .result) (n .count-lines .ensures) (w .mend-whole .last .1 .0) (m .mend-last .last .1 .0)
+    (w .mend-whole .last .1 .1 .0) (m .mend-last .last .1 .1 .1 .0)
     (w .mend-whole .ensures .1 .0) (w .mend-whole .ensures .1 .1) text noted
 
 pub mend-spec : {M : Type 1} → statement M

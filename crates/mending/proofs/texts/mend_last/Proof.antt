@@ -29,8 +29,11 @@ returns c =
     let y = c .before .before in
     let x = y .before .before .before .before .before in
     let a = x .before .before .before .before .before .args in
-    let report = ap (λ (m : LineMended). m .report) (x .mend-line .ensures .0) in
-    (x .mend-line .ensures .1, y .lay .ensures .1 ∙ ap (λ (b : ℕ). layLeaves (now (a .report)) (a .lines) (b ∷ [])) report)
+    let report = ap (λ (m : LineMended). m .report) (x .mend-line .ensures .0) in (
+      x .mend-line .ensures .1,
+      y .lay .ensures .1
+          ∙ ap (λ (b : ℕ). layLeaves (now (a .report)) (a .lines) (b ∷ [])) report,
+    )
 
 pub mend-last-spec : {M : Type 1} → statement M
 mend-last-spec =

@@ -1,5 +1,5 @@
--- The loop's invariant is `MendingWalk`: text and report of the lines before `at` are laid, and what is to come is that of the lines from it on. The measure is
--- what is left of the text.
+-- The loop's invariant is `MendingWalk`: text and report of the lines before `at` are laid, and what is to come is that
+-- of the lines from it on. The measure is what is left of the text.
 use Prim.Native.Nat.{ℕ, _-_}
 use denote.Ref.{now}
 use mathlib.Core.List.{[], _∷_}
@@ -14,7 +14,8 @@ use Rattle.mending.proofs.texts.mend_whole.Statement.{statement}
 use Rattle.mending.proofs.texts.mend_whole.Tie as tie
 
 abbrev Inv-loop : tie.InvT-loop
-Inv-loop s out₀ report₀ at₀ written₀ lines₀ out report at written lines = MendingWalk s out₀ report₀ at written lines out report
+Inv-loop s out₀ report₀ at₀ written₀ lines₀ out report at written lines =
+    MendingWalk s out₀ report₀ at written lines out report
 
 abbrev μ-loop : tie.MeasureT-loop
 μ-loop s out₀ report₀ at₀ written₀ lines₀ out report at written lines = length s - at
@@ -36,7 +37,8 @@ returns c =
     let d = c .before in
     let l = d .before .before in
     let a = l .before .before .before .before in
-    walking-open (now (a .args .s)) _ _ (a .pre .0) (a .pre .1) _ _ _ _ _ (l .loop .inv) (d .line-end .result) (d .before .loop-test .taken) (sym (d .line-end .ensures)) (c .if1 .taken)
+    walking-open (now (a .args .s)) _ _ (a .pre .0) (a .pre .1) _ _ _ _ _ (l .loop .inv) (d .line-end .result)
+    (d .before .loop-test .taken) (sym (d .line-end .ensures)) (c .if1 .taken)
 
 sub-mend-line : tie.Need-sub-mend-line Inv-loop μ-loop
 sub-mend-line c = search needs
@@ -77,10 +79,13 @@ loop-again c =
     let a = l .before .before .before .before in
     let s = now (a .args .s) in
     let report = ap (λ (m : LineMended). m .report) (x .mend-line .ensures .0) in
-    walking-more s _ _ (a .pre .0) (a .pre .1) _ _ _ _ _ (l .loop .inv) (d .line-end .result) (d .before .loop-test .taken) (sym (d .line-end .ensures)) (x .before .before .before .if1 .left)
-    (x .mend-line .result .written) (x .mend-line .last .0) (ap (λ (m : LineMended). m .written) (x .mend-line .ensures .0)) (x .mend-line .ensures .1)
+    walking-more s _ _ (a .pre .0) (a .pre .1) _ _ _ _ _ (l .loop .inv) (d .line-end .result)
+    (d .before .loop-test .taken) (sym (d .line-end .ensures)) (x .before .before .before .if1 .left)
+    (x .mend-line .result .written) (x .mend-line .last .0)
+    (ap (λ (m : LineMended). m .written) (x .mend-line .ensures .0)) (x .mend-line .ensures .1)
     (y .lay .result) (y .lay .last .0)
-    (y .lay .ensures .0 ∙ ap (λ (b : ℕ). layAnswer (l .loop .report) (l .loop .lines) (b ∷ [])) report) (y .lay .ensures .1 ∙ ap (λ (b : ℕ). layLeaves (l .loop .report) (l .loop .lines) (b ∷ [])) report)
+    (y .lay .ensures .0 ∙ ap (λ (b : ℕ). layAnswer (l .loop .report) (l .loop .lines) (b ∷ [])) report)
+    (y .lay .ensures .1 ∙ ap (λ (b : ℕ). layLeaves (l .loop .report) (l .loop .lines) (b ∷ [])) report)
 
 same-length-3 : tie.Need-same-length-3 Inv-loop μ-loop
 same-length-3 c = c .before .loop .inv .text .size

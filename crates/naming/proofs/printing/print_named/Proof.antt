@@ -27,7 +27,8 @@ part-lay-end : tie.Need-part-lay-end
 part-lay-end c =
     let text = c .before .before .before in
     let a = text .before .before in
-    let within : text .text-of .result .count ≤ length (text .text-of .result .bytes) = rw (text .text-of .ensures) (text-fits (a .args .named) (refusal-fits a .fits)) in
+    let within : text .text-of .result .count ≤ length (text .text-of .result .bytes) =
+    rw (text .text-of .ensures) (text-fits (a .args .named) (refusal-fits a .fits)) in
     within
 
 lay-requires : tie.Need-lay-requires
@@ -41,7 +42,8 @@ returns c =
     let laid = c .before .before in
     let text = laid .before .before .before .before .before in
     let a = text .before .before in
-    let read : take (text .text-of .result .count - 0) (drop 0 (text .text-of .result .bytes)) ≡ printedName (a .args .named) = rw (text .text-of .ensures) (text-read (a .args .named)) in
+    let read : take (text .text-of .result .count - 0) (drop 0 (text .text-of .result .bytes))
+    ≡ printedName (a .args .named) = rw (text .text-of .ensures) (text-read (a .args .named)) in
     rw (← read) (laid .lay .ensures)
 
 pub print-named-spec : {M : Type 1} → statement M

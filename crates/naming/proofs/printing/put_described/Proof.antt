@@ -12,7 +12,8 @@ use Rattle.naming.proofs.printing.put_described.Statement.{statement}
 use Rattle.naming.proofs.printing.put_described.Tie as tie
 
 -- the place behind the word
-behind : (c : tie.After-put-word) → c .put-word .result .next ≡ 0 + length (word (c .before .before .before .before .args .named .name))
+behind : (c : tie.After-put-word) → c .put-word .result .next
+    ≡ 0 + length (word (c .before .before .before .before .args .named .name))
 behind c =
     let a = c .before .before .before .before in
     ap (λ (w : Written). w .next) (c .put-word .ensures .0) ∙ word-next (now (a .args .s)) (a .args .named) (a .pre)
@@ -27,7 +28,8 @@ returns : tie.Need-returns
 returns c =
     let text = c .before .before in
     let a = text .before .before .before .before in
-    rw (← refused-described (now (a .args .s)) (a .args .named) (a .pre) (text .before .before .if1 .taken)) (text .put-refused .ensures)
+    rw (← refused-described (now (a .args .s)) (a .args .named) (a .pre) (text .before .before .if1 .taken))
+    (text .put-refused .ensures)
 
 put-word-requires : tie.Need-put-word-requires
 put-word-requires c κs = search needs
@@ -49,7 +51,8 @@ returns-2 c =
     let rest = c .before .before in
     let text = rest .before .before .before .before in
     let a = text .before .before .before .before in
-    let both = named-laid (now (a .args .s)) (a .args .named) (a .pre) (text .put-word .result .next) (text .before .before .if1 .left) (behind text) in
+    let both = named-laid (now (a .args .s)) (a .args .named) (a .pre) (text .put-word .result .next)
+    (text .before .before .if1 .left) (behind text) in
     let first = text .put-word .ensures .1 ∙ word-laid (now (a .args .s)) (a .args .named) (a .pre) in
     (rest .put-detail .ensures .0 ∙ both .0, rest .put-detail .ensures .1 ∙ rw first (both .1))
 

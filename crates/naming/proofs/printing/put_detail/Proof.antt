@@ -62,7 +62,8 @@ returns : tie.Need-returns
 returns c =
     let d = c .before .before in
     let a = d .before .before .before .before .before in
-    rw (d .before .before .enum-told .given .1) (ap (λ (n : ℕ). a .args .at + n) (sym (spaced-length 16 (a .args .code))), d .put-spaced .ensures)
+    rw (d .before .before .enum-told .given .1)
+    (ap (λ (n : ℕ). a .args .at + n) (sym (spaced-length 16 (a .args .code))), d .put-spaced .ensures)
 
 same-length-2 : tie.Need-same-length-2
 same-length-2 c = search needs
@@ -71,7 +72,8 @@ returns-2 : tie.Need-returns-2
 returns-2 c =
     let d = c .before .before in
     let a = d .before .before .before .before .before in
-    rw (d .before .before .enum-told2 .given .1) (ap (λ (n : ℕ). a .args .at + n) (sym (spaced-length 16 (a .args .code))), d .put-spaced2 .ensures)
+    rw (d .before .before .enum-told2 .given .1)
+    (ap (λ (n : ℕ). a .args .at + n) (sym (spaced-length 16 (a .args .code))), d .put-spaced2 .ensures)
 
 same-length-3 : tie.Need-same-length-3
 same-length-3 c = search needs
@@ -88,7 +90,8 @@ returns-3 c =
     let b : at + length (space ∷ hexDigits 16 (a .args .code)) ≡ at + 17 = omega arith in
     rw (d .before .before .enum-told3 .given .1) (
       ap (λ (n : ℕ). at + n) (sym (pad-length (a .args .code) (a .args .raw))),
-      e .put-spaced4 .ensures ∙ rw (d .put-spaced3 .ensures) (laid-then s at (space ∷ hexDigits 16 (a .args .code)) (space ∷ hexDigits 4 (a .args .raw)) (at + 17) b r),
+      e .put-spaced4 .ensures ∙ rw (d .put-spaced3 .ensures)
+          (laid-then s at (space ∷ hexDigits 16 (a .args .code)) (space ∷ hexDigits 4 (a .args .raw)) (at + 17) b r),
     )
 
 returns-4 : tie.Need-returns-4

@@ -26,7 +26,8 @@ returns c =
     let a = word .before .before .before .before in
     let small = a .fits .refusal .fits in
     let s = now (a .args .s) in (
-      ap (λ (w : Written). w .next) (number .lay-decimal .ensures .0) ∙ rw (word .lay .ensures .1) (refused-next (a .args .refusal) small s (a .pre)),
+      ap (λ (w : Written). w .next) (number .lay-decimal .ensures .0)
+          ∙ rw (word .lay .ensures .1) (refused-next (a .args .refusal) small s (a .pre)),
       number .lay-decimal .ensures .1 ∙ rw (word .lay .ensures .1) (refused-laid (a .args .refusal) small s (a .pre)),
     )
 

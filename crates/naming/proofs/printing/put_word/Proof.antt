@@ -67,31 +67,36 @@ same-length-2 : tie.Need-same-length-2
 same-length-2 c = search needs
 
 returns-2 : tie.Need-returns-2
-returns-2 c = let laid = c .before .before in rw (laid .before .before .before .enum-told2 .given .1) (laid .lay2 .ensures)
+returns-2 c = let laid = c .before .before in
+    rw (laid .before .before .before .enum-told2 .given .1) (laid .lay2 .ensures)
 
 same-length-3 : tie.Need-same-length-3
 same-length-3 c = search needs
 
 returns-3 : tie.Need-returns-3
-returns-3 c = let laid = c .before .before in rw (laid .before .before .before .enum-told3 .given .1) (laid .lay3 .ensures)
+returns-3 c = let laid = c .before .before in
+    rw (laid .before .before .before .enum-told3 .given .1) (laid .lay3 .ensures)
 
 same-length-4 : tie.Need-same-length-4
 same-length-4 c = search needs
 
 returns-4 : tie.Need-returns-4
-returns-4 c = let laid = c .before .before in rw (laid .before .before .before .enum-told4 .given .1) (laid .lay4 .ensures)
+returns-4 c = let laid = c .before .before in
+    rw (laid .before .before .before .enum-told4 .given .1) (laid .lay4 .ensures)
 
 same-length-5 : tie.Need-same-length-5
 same-length-5 c = search needs
 
 returns-5 : tie.Need-returns-5
-returns-5 c = let laid = c .before .before in rw (laid .before .before .before .enum-told5 .given .1) (laid .lay5 .ensures)
+returns-5 c = let laid = c .before .before in
+    rw (laid .before .before .before .enum-told5 .given .1) (laid .lay5 .ensures)
 
 same-length-6 : tie.Need-same-length-6
 same-length-6 c = search needs
 
 returns-6 : tie.Need-returns-6
-returns-6 c = let laid = c .before .before in rw (laid .before .before .before .enum-told6 .given .1) (laid .lay6 .ensures)
+returns-6 c = let laid = c .before .before in
+    rw (laid .before .before .before .enum-told6 .given .1) (laid .lay6 .ensures)
 
 pub put-word-spec : {M : Type 1} → statement M
 put-word-spec =

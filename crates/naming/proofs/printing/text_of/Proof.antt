@@ -38,7 +38,8 @@ add-t9 c =
 returns : tie.Need-returns
 returns c =
     let d = c .before in
-    text-made (d .before .before .args .named) (small (d .before .before)) (d .put-described .last .0) (d .put-described .result) (d .put-described .ensures .0) (d .put-described .ensures .1)
+    text-made (d .before .before .args .named) (small (d .before .before)) (d .put-described .last .0)
+    (d .put-described .result) (d .put-described .ensures .0) (d .put-described .ensures .1)
 
 pub text-of-spec : {M : Type 1} → statement M
 text-of-spec =

@@ -30,7 +30,10 @@ returns-2 c =
     let k = c .before .before in
     let p = k .before .before .before .before in
     let a = p .before .before .before .before .before .before in
-    feed-done printedLine mostPrinted (lit< tt) (now (a .args .s)) (now (a .args .out)) (p .before .before .before .if1 .left) (p .print-whole .result) (p .print-whole .ensures .0) (p .print-whole .last .1 .0) (p .print-whole .ensures .1) mostHeldOfRecording (k .keep-front .result) (k .keep-front .last .0) (k .keep-front .ensures .0) (k .keep-front .ensures .1)
+    feed-done printedLine mostPrinted (lit< tt) (now (a .args .s)) (now (a .args .out))
+    (p .before .before .before .if1 .left) (p .print-whole .result) (p .print-whole .ensures .0)
+    (p .print-whole .last .1 .0) (p .print-whole .ensures .1) mostHeldOfRecording (k .keep-front .result)
+    (k .keep-front .last .0) (k .keep-front .ensures .0) (k .keep-front .ensures .1)
 
 pub feed-spec : {M : Type 1} → statement M
 feed-spec =

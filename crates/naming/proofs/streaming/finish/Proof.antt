@@ -39,7 +39,10 @@ returns-2 c =
     let t = q .before .before .before in
     let p = t .before .before .before in
     let a = p .before .before .before .before .before in
-    finish-open printedLine mostPrinted (lit< tt) (now (a .args .s)) (now (a .args .out)) (p .before .before .if1 .left) (p .print-whole .result) (p .print-whole .ensures .0) (p .print-whole .last .1 .0) (p .print-whole .ensures .1) text-short _ (part-all (now (a .args .s)) (p .print-whole .result .next)) (t .if2 .taken) (q .print-line .result) (q .print-line .last .0) (q .print-line .ensures .0) (q .print-line .ensures .1)
+    finish-open printedLine mostPrinted (lit< tt) (now (a .args .s)) (now (a .args .out)) (p .before .before .if1 .left)
+    (p .print-whole .result) (p .print-whole .ensures .0) (p .print-whole .last .1 .0) (p .print-whole .ensures .1)
+    text-short _ (part-all (now (a .args .s)) (p .print-whole .result .next)) (t .if2 .taken)
+    (q .print-line .result) (q .print-line .last .0) (q .print-line .ensures .0) (q .print-line .ensures .1)
 
 same-length-2 : tie.Need-same-length-2
 same-length-2 c = search needs
@@ -48,7 +51,9 @@ returns-3 : tie.Need-returns-3
 returns-3 c =
     let p = c .before .before .before in
     let a = p .before .before .before .before .before in
-    finish-whole printedLine mostPrinted (lit< tt) (now (a .args .s)) (now (a .args .out)) (p .before .before .if1 .left) (p .print-whole .result) (p .print-whole .ensures .0) (p .print-whole .last .1 .0) (p .print-whole .ensures .1) (c .if2 .left)
+    finish-whole printedLine mostPrinted (lit< tt) (now (a .args .s)) (now (a .args .out))
+    (p .before .before .if1 .left) (p .print-whole .result) (p .print-whole .ensures .0)
+    (p .print-whole .last .1 .0) (p .print-whole .ensures .1) (c .if2 .left)
 
 pub finish-spec : {M : Type 1} → statement M
 finish-spec =

@@ -1,5 +1,5 @@
--- The loop's invariant is `Running`: the text of the lines before `at` is laid, and what is to come is that of the lines from it on. The measure is
--- what is left of the piece.
+-- The loop's invariant is `Running`: the text of the lines before `at` is laid, and what is to come is that of the
+-- lines from it on. The measure is what is left of the piece.
 use Prim.Native.Nat.{_-_}
 use mathlib.Core.Path.{sym}
 use native.Mathlib.Omega.{arith}
@@ -31,7 +31,8 @@ returns : tie.Need-returns Inv-loop μ-loop
 returns c =
     let d = c .before in
     let l = d .before .before in
-    running-open printedLine mostPrinted _ _ _ _ _ (l .loop .inv) (d .line-end .result) (d .before .loop-test .taken) (sym (d .line-end .ensures)) (c .if1 .taken)
+    running-open printedLine mostPrinted _ _ _ _ _ (l .loop .inv) (d .line-end .result) (d .before .loop-test .taken)
+    (sym (d .line-end .ensures)) (c .if1 .taken)
 
 sub-print-line : tie.Need-sub-print-line Inv-loop μ-loop
 sub-print-line c = search needs
@@ -62,8 +63,10 @@ loop-again c =
     let d = p .before .before .before .before in
     let l = d .before .before in
     let a = l .before .before .before in
-    let room = here-room printedLine mostPrinted text-short _ _ _ _ _ (l .loop .inv) (d .line-end .result) (d .before .loop-test .taken) (sym (d .line-end .ensures)) (p .before .before .before .if1 .left) (a .pre) in
-    running-more printedLine mostPrinted text-short _ _ _ _ _ (l .loop .inv) (d .line-end .result) (d .before .loop-test .taken) (sym (d .line-end .ensures)) (p .before .before .before .if1 .left)
+    let room = here-room printedLine mostPrinted text-short _ _ _ _ _ (l .loop .inv) (d .line-end .result)
+    (d .before .loop-test .taken) (sym (d .line-end .ensures)) (p .before .before .before .if1 .left) (a .pre) in
+    running-more printedLine mostPrinted text-short _ _ _ _ _ (l .loop .inv) (d .line-end .result)
+    (d .before .loop-test .taken) (sym (d .line-end .ensures)) (p .before .before .before .if1 .left)
     room (p .print-line .result) (p .print-line .last .0) (p .print-line .ensures .0) (p .print-line .ensures .1)
 
 same-length-2 : tie.Need-same-length-2 Inv-loop μ-loop

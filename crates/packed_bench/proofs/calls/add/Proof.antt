@@ -17,7 +17,8 @@ returns : tie.Need-returns
 returns c =
     let u = c .before in
     let a = u .before .before .before .args in
-    refused-done (λ b. addedTo b (a .new)) (λ r. r .refusal) (λ r. r .bench) (λ n. n) (now (a .t)) (u .unpack .result) (u .unpack .ensures) (c .if1 .taken)
+    refused-done (λ b. addedTo b (a .new)) (λ r. r .refusal) (λ r. r .bench) (λ n. n) (now (a .t)) (u .unpack .result)
+    (u .unpack .ensures) (c .if1 .taken)
 
 add-requires : tie.Need-add-requires
 add-requires c κs = search needs
@@ -35,7 +36,8 @@ returns-2 c =
     let u = d .before .before in
     let a = u .before .before .before .args in
     let done =
-    accepted-done (λ b. addedTo b (a .new)) (λ r. r .refusal) (λ r. r .bench) (λ n. n) (now (a .t)) (u .unpack .result) (u .unpack .ensures) (added-keeps (a .new)) (d .before .if1 .left)
+    accepted-done (λ b. addedTo b (a .new)) (λ r. r .refusal) (λ r. r .bench) (λ n. n) (now (a .t)) (u .unpack .result)
+    (u .unpack .ensures) (added-keeps (a .new)) (d .before .if1 .left)
     (d .add .result) (d .add .ensures) _ (k .keep .ensures .1 .0) (k .keep .ensures .1 .1) in
     (k .keep .ensures .0 ∙ done .0, done .1)
 

@@ -17,7 +17,8 @@ returns : tie.Need-returns
 returns c =
     let u = c .before in
     let a = u .before .before .before .args in
-    refused-done (λ b. conversionFinished b (a .code) (a .count)) (λ r. r .refusal) (λ r. r .bench) (λ n. n) (now (a .t)) (u .unpack .result) (u .unpack .ensures) (c .if1 .taken)
+    refused-done (λ b. conversionFinished b (a .code) (a .count)) (λ r. r .refusal) (λ r. r .bench) (λ n. n)
+    (now (a .t)) (u .unpack .result) (u .unpack .ensures) (c .if1 .taken)
 
 finish-conversion-requires : tie.Need-finish-conversion-requires
 finish-conversion-requires c κs = search needs
@@ -35,8 +36,11 @@ returns-2 c =
     let u = d .before .before in
     let a = u .before .before .before .args in
     let done =
-    accepted-done (λ b. conversionFinished b (a .code) (a .count)) (λ r. r .refusal) (λ r. r .bench) (λ n. n) (now (a .t)) (u .unpack .result) (u .unpack .ensures) (conversion-keeps (a .code) (a .count)) (d .before .if1 .left)
-    (d .finish-conversion .result) (d .finish-conversion .ensures) _ (k .keep .ensures .1 .0) (k .keep .ensures .1 .1) in
+    accepted-done (λ b. conversionFinished b (a .code) (a .count)) (λ r. r .refusal) (λ r. r .bench) (λ n. n)
+    (now (a .t)) (u .unpack .result) (u .unpack .ensures) (conversion-keeps (a .code) (a .count))
+    (d .before .if1 .left)
+    (d .finish-conversion .result) (d .finish-conversion .ensures) _ (k .keep .ensures .1 .0)
+    (k .keep .ensures .1 .1) in
     (k .keep .ensures .0 ∙ done .0, done .1)
 
 pub finish-conversion-spec : {M : Type 1} → statement M

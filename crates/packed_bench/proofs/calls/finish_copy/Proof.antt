@@ -17,7 +17,8 @@ returns : tie.Need-returns
 returns c =
     let u = c .before in
     let a = u .before .before .before .args in
-    refused-done (λ b. copyFinished b (a .code)) (λ r. r .refusal) (λ r. r .bench) (λ n. n) (now (a .t)) (u .unpack .result) (u .unpack .ensures) (c .if1 .taken)
+    refused-done (λ b. copyFinished b (a .code)) (λ r. r .refusal) (λ r. r .bench) (λ n. n) (now (a .t))
+    (u .unpack .result) (u .unpack .ensures) (c .if1 .taken)
 
 finish-copy-requires : tie.Need-finish-copy-requires
 finish-copy-requires c κs = search needs
@@ -35,7 +36,8 @@ returns-2 c =
     let u = d .before .before in
     let a = u .before .before .before .args in
     let done =
-    accepted-done (λ b. copyFinished b (a .code)) (λ r. r .refusal) (λ r. r .bench) (λ n. n) (now (a .t)) (u .unpack .result) (u .unpack .ensures) (copy-keeps (a .code)) (d .before .if1 .left)
+    accepted-done (λ b. copyFinished b (a .code)) (λ r. r .refusal) (λ r. r .bench) (λ n. n) (now (a .t))
+    (u .unpack .result) (u .unpack .ensures) (copy-keeps (a .code)) (d .before .if1 .left)
     (d .finish-copy .result) (d .finish-copy .ensures) _ (k .keep .ensures .1 .0) (k .keep .ensures .1 .1) in
     (k .keep .ensures .0 ∙ done .0, done .1)
 

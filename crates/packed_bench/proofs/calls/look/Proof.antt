@@ -25,7 +25,8 @@ returns c =
     let t = now (a .t) in
     let none = rw (u .unpack .ensures) at (c .before .if1 .taken) in
     let unseen-device : l .look .result .device ≡ vacant =
-    ap (λ v. v .device) (l .look .ensures) ∙ ap (λ v. looked (v .bench) (a .code) .device) (u .unpack .ensures) ∙ refused-unseen t (a .code) none in
+    ap (λ v. v .device) (l .look .ensures) ∙ ap (λ v. looked (v .bench) (a .code) .device) (u .unpack .ensures)
+    ∙ refused-unseen t (a .code) none in
     rw (ne-eqb (unpacked t .refusal) accepted none, unseen-device, u .unpack .ensures)
 
 returns-2 : tie.Need-returns-2

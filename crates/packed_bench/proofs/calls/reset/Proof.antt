@@ -17,7 +17,8 @@ returns : tie.Need-returns
 returns c =
     let u = c .before in
     let a = u .before .before .before .args in
-    refused-done (λ b. resetDone b) resetSeen (λ r. r .bench) noReset (now (a .t)) (u .unpack .result) (u .unpack .ensures) (c .if1 .taken)
+    refused-done (λ b. resetDone b) resetSeen (λ r. r .bench) noReset (now (a .t)) (u .unpack .result)
+    (u .unpack .ensures) (c .if1 .taken)
 
 reset-requires : tie.Need-reset-requires
 reset-requires c κs = search needs
@@ -34,7 +35,8 @@ returns-2 c =
     let d = k .before .before .before in
     let u = d .before .before in
     let a = u .before .before .before .args in
-    accepted-done (λ b. resetDone b) resetSeen (λ r. r .bench) noReset (now (a .t)) (u .unpack .result) (u .unpack .ensures) reset-keeps (d .before .if1 .left)
+    accepted-done (λ b. resetDone b) resetSeen (λ r. r .bench) noReset (now (a .t)) (u .unpack .result)
+    (u .unpack .ensures) reset-keeps (d .before .if1 .left)
     (d .reset .result) (d .reset .ensures) _ (k .pack .ensures .1 .0) (k .pack .ensures .1 .1)
 
 pub reset-spec : {M : Type 1} → statement M

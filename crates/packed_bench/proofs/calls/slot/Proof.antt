@@ -17,7 +17,8 @@ returns : tie.Need-returns
 returns c =
     let u = c .before in
     let a = u .before .before .before .args in
-    refused-done (λ b. slotted b (a .bit)) slotSeen (λ r. r .bench) noSlot (now (a .t)) (u .unpack .result) (u .unpack .ensures) (c .if1 .taken)
+    refused-done (λ b. slotted b (a .bit)) slotSeen (λ r. r .bench) noSlot (now (a .t)) (u .unpack .result)
+    (u .unpack .ensures) (c .if1 .taken)
 
 slot-requires : tie.Need-slot-requires
 slot-requires c κs = search needs
@@ -34,7 +35,8 @@ returns-2 c =
     let d = k .before .before .before in
     let u = d .before .before in
     let a = u .before .before .before .args in
-    accepted-done (λ b. slotted b (a .bit)) slotSeen (λ r. r .bench) noSlot (now (a .t)) (u .unpack .result) (u .unpack .ensures) (slot-keeps (a .bit)) (d .before .if1 .left)
+    accepted-done (λ b. slotted b (a .bit)) slotSeen (λ r. r .bench) noSlot (now (a .t)) (u .unpack .result)
+    (u .unpack .ensures) (slot-keeps (a .bit)) (d .before .if1 .left)
     (d .slot .result) (d .slot .ensures) _ (k .pack .ensures .1 .0) (k .pack .ensures .1 .1)
 
 pub slot-spec : {M : Type 1} → statement M

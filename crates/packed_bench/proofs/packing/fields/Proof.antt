@@ -78,10 +78,13 @@ returns c =
     let staged = powered .before .before .before in
     let coded = staged .before .before .before in
     let t = coded .before .before .args .t1 in
-    let code : coded .code-of .result ≡ codeFromBytes (eightAt t 0) = coded .code-of .ensures ∙ ap (λ l. codeFromBytes (eightAt l 0)) (coded .before .eight-at .ensures) in
+    let code : coded .code-of .result ≡ codeFromBytes (eightAt t 0) =
+    coded .code-of .ensures ∙ ap (λ l. codeFromBytes (eightAt l 0)) (coded .before .eight-at .ensures) in
     let pad : staged .before .before .eight-at2 .result ≡ eightAt t 8 = staged .before .before .eight-at2 .ensures in
-    let stage : staged .stage-of .result ≡ stageOf (caseAt t 16) = staged .stage-of .ensures ∙ ap stageOf (staged .before .case-at .ensures) in
-    let activity : powered .before .activity-of .result ≡ activityOf (caseAt t 20) = powered .before .activity-of .ensures ∙ ap activityOf (powered .before .before .case-at2 .ensures) in
+    let stage : staged .stage-of .result ≡ stageOf (caseAt t 16) =
+    staged .stage-of .ensures ∙ ap stageOf (staged .before .case-at .ensures) in
+    let activity : powered .before .activity-of .result ≡ activityOf (caseAt t 20) =
+    powered .before .activity-of .ensures ∙ ap activityOf (powered .before .before .case-at2 .ensures) in
     let power : powered .power-of .result ≡ powerOf (getD t 27 0) = powered .power-of .ensures in
     let reading : c .reading-from .result ≡ readingAt t 30 = c .reading-from .ensures in
     rw (code, pad, stage, activity, power, reading)

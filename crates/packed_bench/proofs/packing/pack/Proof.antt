@@ -52,7 +52,17 @@ returns c =
     let codes = coded .before .before .before .before in
     let s = codes .before in
     let d = s .args .d in (
-      rw (c .with-eight5 .ensures, paged .page-bytes .ensures .0, kept .with-eight4 .ensures, keeps .kept-bytes .ensures, staged .with-eight3 .ensures, course .course-bytes .ensures, padded .with-eight2 .ensures, coded .with-eight .ensures, codes .code-bytes .ensures)
+      rw (
+        c .with-eight5 .ensures,
+        paged .page-bytes .ensures .0,
+        kept .with-eight4 .ensures,
+        keeps .kept-bytes .ensures,
+        staged .with-eight3 .ensures,
+        course .course-bytes .ensures,
+        padded .with-eight2 .ensures,
+        coded .with-eight .ensures,
+        codes .code-bytes .ensures,
+      )
           (packed-laid d (pad-length s)),
       record { code-fits = code-fits s; pad-length = pad-length s; reading-fits = paged .page-bytes .ensures .1 },
     )

@@ -13,7 +13,10 @@ unit-byte-requires : tie.Need-unit-byte-requires
 unit-byte-requires c κs = search needs
 
 returns : tie.Need-returns
-returns c = (rw (c .unit-byte .ensures .0, c .before .truth-byte .ensures, c .before .before .register-of .ensures), c .unit-byte .ensures .1)
+returns c = (
+  rw (c .unit-byte .ensures .0, c .before .truth-byte .ensures, c .before .before .register-of .ensures),
+  c .unit-byte .ensures .1,
+)
 
 pub page-bytes-spec : {M : Type 1} → statement M
 page-bytes-spec = tie.close (tie.spec register-of-requires truth-byte-requires unit-byte-requires returns)

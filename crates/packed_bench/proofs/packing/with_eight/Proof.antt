@@ -43,8 +43,13 @@ loop-again c =
     let b = s .args .t3 in
     let more : l .i < length b = omega arith in
     let room : at + l .i < length e = omega arith in
-    let next = laid-next e at b (l .i) (at + l .i) 0 (getD b (l .i) 0) refl more room refl in
-    (omega arith, l .inv .1, l .inv .2, simp length-set (l .inv .3), ap (λ u. set u (at + l .i) (getD b (l .i) 0)) (l .inv .4) ∙ next)
+    let next = laid-next e at b (l .i) (at + l .i) 0 (getD b (l .i) 0) refl more room refl in (
+      omega arith,
+      l .inv .1,
+      l .inv .2,
+      simp length-set (l .inv .3),
+      ap (λ u. set u (at + l .i) (getD b (l .i) 0)) (l .inv .4) ∙ next,
+    )
 
 returns : tie.Need-returns Inv-loop μ-loop
 returns c =

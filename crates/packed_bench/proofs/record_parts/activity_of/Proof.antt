@@ -15,7 +15,9 @@ returns-2 : tie.Need-returns-2
 returns-2 c = search needs
 
 returns-3 : tie.Need-returns-3
-returns-3 c = let n = c .before .args .x .0 in sym (List·getD-eq-default (Idle ∷ Converting ∷ []) _ (past n 1 (nonzero n (c .match .rest .0 .1)) (c .match .rest .1)))
+returns-3 c = let n = c .before .args .x .0 in
+    sym (List·getD-eq-default (Idle ∷ Converting ∷ [])
+    _ (past n 1 (nonzero n (c .match .rest .0 .1)) (c .match .rest .1)))
 
 pub activity-of-spec : {M : Type 1} → statement M
 activity-of-spec = tie.close (tie.spec returns returns-2 returns-3)

@@ -54,7 +54,16 @@ below-requires-8 c κs = search needs
 
 returns : tie.Need-returns
 unfolding codeFromBytes
-returns c = rw (c .below8 .ensures .0, c .before .below7 .ensures .0, c .before .before .below6 .ensures .0, c .before .before .before .below5 .ensures .0, c .before .before .before .before .below4 .ensures .0, c .before .before .before .before .before .below3 .ensures .0, c .before .before .before .before .before .before .below2 .ensures .0, c .before .before .before .before .before .before .before .below .ensures .0)
+returns c = rw (
+  c .below8 .ensures .0,
+  c .before .below7 .ensures .0,
+  c .before .before .below6 .ensures .0,
+  c .before .before .before .below5 .ensures .0,
+  c .before .before .before .before .below4 .ensures .0,
+  c .before .before .before .before .before .below3 .ensures .0,
+  c .before .before .before .before .before .before .below2 .ensures .0,
+  c .before .before .before .before .before .before .before .below .ensures .0,
+)
 
 pub code-of-spec : {M : Type 1} → statement M
 code-of-spec =

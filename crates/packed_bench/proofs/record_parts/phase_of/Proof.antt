@@ -15,7 +15,9 @@ returns-2 : tie.Need-returns-2
 returns-2 c = search needs
 
 returns-3 : tie.Need-returns-3
-returns-3 c = let n = c .before .args .byte in sym (List·getD-eq-default (SendBit ∷ SendComplement ∷ []) TakeBit (past n 1 (nonzero n (c .match .rest .0 .1)) (c .match .rest .1)))
+returns-3 c = let n = c .before .args .byte in
+    sym (List·getD-eq-default (SendBit ∷ SendComplement ∷ []) TakeBit
+    (past n 1 (nonzero n (c .match .rest .0 .1)) (c .match .rest .1)))
 
 pub phase-of-spec : {M : Type 1} → statement M
 phase-of-spec = tie.close (tie.spec returns returns-2 returns-3)

@@ -43,7 +43,8 @@ returns-10 c =
     let x = c .before .args .x in
     let n = x .0 in
     let r = c .match .rest in
-    let p3 = past n 2 (past n 1 (nonzero n (r .0 .0 .0 .0 .0 .0 .0 .0 .1)) (r .0 .0 .0 .0 .0 .0 .0 .1)) (r .0 .0 .0 .0 .0 .0 .1) in
+    let p3 = past n 2 (past n 1 (nonzero n (r .0 .0 .0 .0 .0 .0 .0 .0 .1)) (r .0 .0 .0 .0 .0 .0 .0 .1))
+    (r .0 .0 .0 .0 .0 .0 .1) in
     let p6 = past n 5 (past n 4 (past n 3 p3 (r .0 .0 .0 .0 .0 .1)) (r .0 .0 .0 .0 .1)) (r .0 .0 .0 .1) in
     let p9 = past n 8 (past n 7 (past n 6 p6 (r .0 .0 .1)) (r .0 .1)) (r .1) in
     sym (List·getD-eq-default (stages (x .1) (x .2) (x .3)) Quiet p9)

@@ -12,7 +12,8 @@ returns : tie.Need-returns
 returns c = search needs
 
 returns-2 : tie.Need-returns-2
-returns-2 c = let n = c .before .args .byte in sym (List·getD-eq-default (Sixteenths ∷ []) HalfDegrees (nonzero n (c .match .rest .1)))
+returns-2 c = let n = c .before .args .byte in
+    sym (List·getD-eq-default (Sixteenths ∷ []) HalfDegrees (nonzero n (c .match .rest .1)))
 
 pub unit-at-spec : {M : Type 1} → statement M
 unit-at-spec = tie.close (tie.spec returns returns-2)

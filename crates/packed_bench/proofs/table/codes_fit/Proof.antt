@@ -52,7 +52,8 @@ returns c =
     let p = r .before .before in
     let s = p .before .before in
     let there = getD-take (s .args .count) (s .args .t1) (p .before .loop .i) _ (p .loop-test .taken) in
-    let unsound = ap (λ d. sound (d .code)) there ∙ ap (λ n. eqb n accepted) (sym (r .refusal-of .ensures)) ∙ ne-eqb _ _ (c .if1 .taken) in
+    let unsound = ap (λ d. sound (d .code)) there ∙ ap (λ n. eqb n accepted) (sym (r .refusal-of .ensures))
+    ∙ ne-eqb _ _ (c .if1 .taken) in
     sym (codes-unsound _ _ _ (within p) unsound) ∙ p .before .loop .inv
 
 add-is-absent : tie.Need-add-is-absent Inv-loop μ-loop
@@ -68,8 +69,10 @@ returns-2 c =
     let p = r .before .before in
     let s = p .before .before in
     let there = getD-take (s .args .count) (s .args .t1) (p .before .loop .i) _ (p .loop-test .taken) in
-    let is-sound = ap (λ d. sound (d .code)) there ∙ ap (λ n. eqb n accepted) (sym (r .refusal-of .ensures)) ∙ eq-eqb _ _ (a .before .if1 .left) in
-    let again = ap (λ d. absent (d .code) (drop (p .before .loop .i + 1) (take (s .args .count) (s .args .t1)))) there ∙ sym (a .is-absent .ensures) ∙ not-true _ (c .if2 .taken) in
+    let is-sound = ap (λ d. sound (d .code)) there ∙ ap (λ n. eqb n accepted) (sym (r .refusal-of .ensures))
+    ∙ eq-eqb _ _ (a .before .if1 .left) in
+    let again = ap (λ d. absent (d .code) (drop (p .before .loop .i + 1) (take (s .args .count) (s .args .t1)))) there
+    ∙ sym (a .is-absent .ensures) ∙ not-true _ (c .if2 .taken) in
     sym (codes-twice _ _ _ (within p) is-sound again) ∙ p .before .loop .inv
 
 add-i : tie.Need-add-i Inv-loop μ-loop
@@ -85,8 +88,10 @@ loop-again c =
     let p = r .before .before in
     let s = p .before .before in
     let there = getD-take (s .args .count) (s .args .t1) (p .before .loop .i) _ (p .loop-test .taken) in
-    let is-sound = ap (λ d. sound (d .code)) there ∙ ap (λ n. eqb n accepted) (sym (r .refusal-of .ensures)) ∙ eq-eqb _ _ (a .before .if1 .left) in
-    let once = ap (λ d. absent (d .code) (drop (p .before .loop .i + 1) (take (s .args .count) (s .args .t1)))) there ∙ sym (a .is-absent .ensures) ∙ not-false _ (c .if2 .left) in
+    let is-sound = ap (λ d. sound (d .code)) there ∙ ap (λ n. eqb n accepted) (sym (r .refusal-of .ensures))
+    ∙ eq-eqb _ _ (a .before .if1 .left) in
+    let once = ap (λ d. absent (d .code) (drop (p .before .loop .i + 1) (take (s .args .count) (s .args .t1)))) there
+    ∙ sym (a .is-absent .ensures) ∙ not-false _ (c .if2 .left) in
     sym (codes-onward _ _ _ (within p) is-sound once) ∙ p .before .loop .inv
 
 returns-3 : tie.Need-returns-3 Inv-loop μ-loop

@@ -39,8 +39,11 @@ loop-again c =
     let l = c .before .before .loop in
     let t = s .args .t .now in
     let h : l .i < length (l .e) = omega arith in
-    let k : l .i < length (drop (s .args .at) t) = simp length-drop (omega arith) in
-    (omega arith, simp length-set (l .inv .1), rw (← getD-drop (s .args .at) t (l .i) 0) (copy-more (l .e) (drop (s .args .at) t) (l .i) h k (l .inv .2)))
+    let k : l .i < length (drop (s .args .at) t) = simp length-drop (omega arith) in (
+      omega arith,
+      simp length-set (l .inv .1),
+      rw (← getD-drop (s .args .at) t (l .i) 0) (copy-more (l .e) (drop (s .args .at) t) (l .i) h k (l .inv .2)),
+    )
 
 returns : tie.Need-returns Inv-loop μ-loop
 returns c =

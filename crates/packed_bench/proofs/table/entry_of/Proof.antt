@@ -27,7 +27,8 @@ returns c =
     let s = c .before .before .before in
     let l = long s in
     let h : s .args .place < length (s .args .t1) = omega arith in (
-      c .pack .ensures .0 ∙ entry-there (s .args .t1) (s .args .count) (s .args .place) _ (c .before .before .if1 .taken) h,
+      c .pack .ensures .0 ∙ entry-there (s .args .t1) (s .args .count) (s .args .place)
+          _ (c .before .before .if1 .taken) h,
       (λ k. subst InTypes (getD-within (s .args .t1) (s .args .place) _ _ h) (c .pack .ensures .1)),
     )
 

@@ -14,7 +14,8 @@ use Rattle.packed_bench.proofs.table.is_absent.Statement.{statement}
 use Rattle.packed_bench.proofs.table.is_absent.Tie as tie
 
 abbrev Inv-loop : tie.InvT-loop
-Inv-loop count from code devices i₀ i = absent code (drop i (take count devices)) ≡ absent code (drop from (take count devices))
+Inv-loop count from code devices i₀ i = absent code (drop i (take count devices))
+    ≡ absent code (drop from (take count devices))
 
 abbrev μ-loop : tie.MeasureT-loop
 μ-loop count from code devices i₀ i = count - i
@@ -48,7 +49,8 @@ returns c =
     let s = p .before .before in
     let code = s .args .code in
     let there = getD-take (s .args .count) (s .args .t1) (p .before .loop .i) _ (p .loop-test .taken) in
-    sym (all-fails (λ d. not (eqb (d .code) code)) _ _ _ (within p) (ap not (ap (λ d. eqb (d .code) code) there ∙ eq-eqb _ _ (c .if1 .taken)))) ∙ p .before .loop .inv
+    sym (all-fails (λ d. not (eqb (d .code) code)) _ _ _ (within p)
+    (ap not (ap (λ d. eqb (d .code) code) there ∙ eq-eqb _ _ (c .if1 .taken)))) ∙ p .before .loop .inv
 
 add-i : tie.Need-add-i Inv-loop μ-loop
 add-i c = search needs
@@ -62,7 +64,8 @@ loop-again c =
     let s = p .before .before in
     let code = s .args .code in
     let there = getD-take (s .args .count) (s .args .t1) (p .before .loop .i) _ (p .loop-test .taken) in
-    sym (all-passes (λ d. not (eqb (d .code) code)) _ _ _ (within p) (ap not (ap (λ d. eqb (d .code) code) there ∙ ne-eqb _ _ (c .if1 .left)))) ∙ p .before .loop .inv
+    sym (all-passes (λ d. not (eqb (d .code) code)) _ _ _ (within p)
+    (ap not (ap (λ d. eqb (d .code) code) there ∙ ne-eqb _ _ (c .if1 .left)))) ∙ p .before .loop .inv
 
 returns-2 : tie.Need-returns-2 Inv-loop μ-loop
 returns-2 c =

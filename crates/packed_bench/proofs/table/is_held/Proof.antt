@@ -40,11 +40,14 @@ codes-fit-requires c κs = search needs
 
 -- what the comparison compares
 module _ (u : tie.After-same) where
-  compared : u .same .result ≡ same (tableOf 32 (live (u .before .before .before .before .before .before .before .args .bench))) (take tableBytes (now (u .before .before .before .before .before .before .before .args .t)))
+  compared : u .same .result ≡ same (tableOf 32
+      (live (u .before .before .before .before .before .before .before .args .bench)))
+      (take tableBytes (now (u .before .before .before .before .before .before .before .args .t)))
   compared =
       let w = u .before .before .before .before in
       let s = w .before .before .before in
-      u .same .ensures ∙ ap (λ l. same l (take tableBytes (now (s .args .t)))) (w .write .ensures .0 ∙ laid-whole _ _ refl)
+      u .same .ensures ∙ ap (λ l. same l (take tableBytes (now (s .args .t)))) (w .write .ensures .0
+      ∙ laid-whole _ _ refl)
 
 returns : tie.Need-returns
 returns c =

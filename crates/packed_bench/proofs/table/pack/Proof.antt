@@ -1,4 +1,5 @@
--- Too few bytes stay as they are; else the table is written, and what the types of the records hold is what its way back asks for.
+-- Too few bytes stay as they are; else the table is written, and what the types of the records hold is what its way
+-- back asks for.
 use native.Mathlib.Omega.{arith}
 use borrow.Author.Needs.{needs}
 use borrow.Author.Tests.{lt-ltb, le-ltb}
@@ -30,8 +31,14 @@ returns-2 c =
     let s = e .before .before in
     let t = now (s .args .t) in
     let room = le-ltb (length t) tableBytes (e .if1 .left) in
-    let written = w .write .ensures .0 in
-    (rw room, (rw room written, (λ long tabled. rw written (rw room at (unpack-pack (s .args .bench) t tabled (w .write .ensures .1) long)))))
+    let written = w .write .ensures .0 in (
+      rw room,
+      (
+        rw room written,
+        (λ long tabled. rw written
+            (rw room at (unpack-pack (s .args .bench) t tabled (w .write .ensures .1) long))),
+      ),
+    )
 
 pub pack-spec : {M : Type 1} → statement M
 pack-spec = tie.close (tie.spec returns write-requires same-length returns-2)

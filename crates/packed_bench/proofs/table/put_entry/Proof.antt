@@ -52,7 +52,8 @@ loop-again c =
     let v : s .args .at + l .i < length t = omega arith in (
       omega arith,
       simp length-set (l .inv .1),
-      rw (add-one (l .i), take-suc e (l .i) 0 m) (ap (λ u. set u (s .args .at + l .i) (getD e (l .i) 0)) (l .inv .2) ∙ laid-store t (s .args .at) (take (l .i) e) (getD e (l .i) 0) (s .args .at + l .i) w v),
+      rw (add-one (l .i), take-suc e (l .i) 0 m) (ap (λ u. set u (s .args .at + l .i) (getD e (l .i) 0)) (l .inv .2)
+          ∙ laid-store t (s .args .at) (take (l .i) e) (getD e (l .i) 0) (s .args .at + l .i) w v),
     )
 
 same-length : tie.Need-same-length Inv-loop μ-loop

@@ -1,4 +1,5 @@
--- The loop's invariant: the devices so far, and those of the entries from i on, are the devices of the bytes; the places from i on are vacant.
+-- The loop's invariant: the devices so far, and those of the entries from i on, are the devices of the bytes; the
+-- places from i on are vacant.
 use Prim.Native.Nat.{_+_, _*_, _≤_, _-_}
 use mathlib.Core.Path.{_≡_, _∙_, sym, ap, refl}
 use mathlib.Core.List.{_++_}
@@ -55,8 +56,10 @@ returns c =
     let p = f .before .before .before in
     let t = now (p .before .before .before .before .args .t) in
     let is = f .fields .ensures ∙ ap fieldsOf (f .before .entry-at .ensures) in
-    let all-of = p .loop .inv .3 ∙ read-stop t (p .loop .devices) (p .loop .i) (f .fields .result) is (f .before .before .loop-test .taken) (c .before .if1 .taken) in
-    c .of-records .ensures ∙ sym (ap benchOf all-of ∙ bench-read (p .loop .devices) (p .loop .i) (p .loop .inv .0) (p .loop .inv .1) (p .loop .inv .2))
+    let all-of = p .loop .inv .3 ∙ read-stop t (p .loop .devices) (p .loop .i) (f .fields .result) is
+    (f .before .before .loop-test .taken) (c .before .if1 .taken) in
+    c .of-records .ensures ∙ sym (ap benchOf all-of
+    ∙ bench-read (p .loop .devices) (p .loop .i) (p .loop .inv .0) (p .loop .inv .1) (p .loop .inv .2))
 
 mul-devices : tie.Need-mul-devices Inv-loop μ-loop
 mul-devices c = search needs
@@ -80,7 +83,8 @@ loop-again c =
       omega arith,
       length-set (p .loop .devices) (p .loop .i) (f .fields .result) ∙ p .loop .inv .1,
       vacant-turn (p .loop .devices) (p .loop .i) (f .fields .result) h (p .loop .inv .2),
-      p .loop .inv .3 ∙ read-turn t (p .loop .devices) (p .loop .i) (f .fields .result) is h (p .loop .inv .1) (c .if1 .left),
+      p .loop .inv .3 ∙ read-turn t (p .loop .devices) (p .loop .i) (f .fields .result) is h (p .loop .inv .1)
+          (c .if1 .left),
     )
 
 of-records-requires-2 : tie.Need-of-records-requires-2 Inv-loop μ-loop
@@ -93,7 +97,8 @@ returns-2 c =
     let end : p .loop .i ≡ 32 = omega arith in
     let all-of = p .loop .inv .3 ∙ read-end t (p .loop .devices) (p .loop .i) end in
     c .of-records2 .ensures
-    ∙ sym (ap benchOf all-of ∙ bench-read (p .loop .devices) (p .loop .i) (p .loop .inv .0) (p .loop .inv .1) (p .loop .inv .2) ∙ rw end refl)
+    ∙ sym (ap benchOf all-of ∙ bench-read (p .loop .devices) (p .loop .i) (p .loop .inv .0) (p .loop .inv .1)
+    (p .loop .inv .2) ∙ rw end refl)
 
 pub read-spec : {M : Type 1} → statement M
 read-spec =

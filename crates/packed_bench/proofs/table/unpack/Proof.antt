@@ -33,7 +33,8 @@ module _ (c : tie.After-is-held) where
   tested : c .is-held .result ≡ isTable (now (c .before .before .before .before .args .t))
   tested =
       let t = now (c .before .before .before .before .args .t) in
-      c .is-held .ensures ∙ ap (λ b. holds t (live b)) (c .before .read .ensures) ∙ ap (holds t) (bench-live (devicesIn 32 t))
+      c .is-held .ensures ∙ ap (λ b. holds t (live b)) (c .before .read .ensures)
+      ∙ ap (holds t) (bench-live (devicesIn 32 t))
 
 returns-2 : tie.Need-returns-2
 unfolding unpacked

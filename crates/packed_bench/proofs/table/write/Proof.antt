@@ -1,4 +1,5 @@
--- The loop's invariant: what is lent, with the entries that are left laid from entry i on, is what is promised; the devices so far are of the types.
+-- The loop's invariant: what is lent, with the entries that are left laid from entry i on, is what is promised; the
+-- devices so far are of the types.
 use Prim.Native.Nat.{_+_, _*_, _≤_, _<_, _-_}
 use mathlib.Core.Path.{_≡_, _∙_, sym, ap, refl}
 use native.Mathlib.Omega.{arith}
@@ -73,8 +74,10 @@ loop-again c =
     let few = length-take (o .count-of .result) (o .before .records-of .result) in (
       omega arith,
       ap length e ∙ laid-length t (48 * i) (entryBytes (drop i ds)) fits ∙ same,
-      ap (λ u. laid u (48 * (i + 1)) (tableOf (32 - (i + 1)) (drop (i + 1) ds))) e ∙ sym (table-turn t ds i h room) ∙ p .loop .inv .2,
-      each-more InTypes ds i vacant (λ k. rw (getD-take (o .count-of .result) (o .before .records-of .result) i vacant (omega arith)) (q .before .entry-of .ensures .1 (omega arith))) (p .loop .inv .3),
+      ap (λ u. laid u (48 * (i + 1)) (tableOf (32 - (i + 1)) (drop (i + 1) ds))) e ∙ sym (table-turn t ds i h room)
+          ∙ p .loop .inv .2,
+      each-more InTypes ds i vacant (λ k. rw (getD-take (o .count-of .result) (o .before .records-of .result) i vacant
+          (omega arith)) (q .before .entry-of .ensures .1 (omega arith))) (p .loop .inv .3),
     )
 
 same-length : tie.Need-same-length Inv-loop μ-loop
@@ -90,7 +93,8 @@ returns c =
     let is : ds ≡ live (s .args .bench) = rw (o .count-of .ensures, o .before .records-of .ensures) refl in
     let few = length-take (o .count-of .result) (o .before .records-of .result) in
     let all-of : length ds ≤ p .loop .i = omega arith in (
-      sym (table-end (p .loop .t) ds (p .loop .i) end) ∙ p .loop .inv .2 ∙ ap (λ l. laid (now (s .args .t)) 0 (tableOf 32 l)) is,
+      sym (table-end (p .loop .t) ds (p .loop .i) end) ∙ p .loop .inv .2
+          ∙ ap (λ l. laid (now (s .args .t)) 0 (tableOf 32 l)) is,
       rw (← is) (rw (take-all (p .loop .i) ds all-of) at (p .loop .inv .3)),
     )
 

@@ -61,7 +61,8 @@ returns-3 c =
     let a = e .before .before .before .before .args in
     let room = le-ltb (length (now (a .out))) textRoom (e .before .if1 .left) in
     let long = le-ltb (length (now (a .t))) tableBytes (e .if2 .left) in (
-      rw (room, long) (c .behind .ensures ∙ ap (λ n. record { refusal = accepted; next = n }) (q .put-entries .ensures .0)),
+      rw (room, long) (c .behind .ensures ∙ ap (λ n. record { refusal = accepted; next = n })
+          (q .put-entries .ensures .0)),
       rw (room, long) (q .put-entries .ensures .1),
     )
 

@@ -23,7 +23,9 @@ returns : tie.Need-returns
 returns c =
     let s = c .before .before in
     let l = s .before .before .before in
-    let none : l .look .result .device ≡ vacant = ap (λ v. v .device) (l .look .ensures) ∙ ap (λ b. looked b 0 .device) (l .before .new .ensures) ∙ empty-unseen 0 in
+    let none : l .look .result .device ≡ vacant =
+    ap (λ v. v .device) (l .look .ensures) ∙ ap (λ b. looked b 0 .device) (l .before .new .ensures)
+    ∙ empty-unseen 0 in
     rw none at (s .show-line .ensures)
 
 pub no-device-spec : {M : Type 1} → statement M

@@ -18,7 +18,10 @@ returns : tie.Need-returns
 returns c = let a = c .before .args in (rw (lt-ltb (a .place) (length (now (a .t))) (c .if1 .taken)), refl)
 
 returns-2 : tie.Need-returns-2
-returns-2 c = let a = c .before .args in (rw (le-ltb (a .place) (length (now (a .t))) (c .if1 .left)), sym (set-out (now (a .t)) (a .place) (a .byte) (c .if1 .left)))
+returns-2 c = let a = c .before .args in (
+  rw (le-ltb (a .place) (length (now (a .t))) (c .if1 .left)),
+  sym (set-out (now (a .t)) (a .place) (a .byte) (c .if1 .left)),
+)
 
 pub poke-spec : {M : Type 1} → statement M
 poke-spec = tie.close (tie.spec slice-write-t same-length returns returns-2)

@@ -66,7 +66,8 @@ loop-again c =
     let wide = s .pre .1 in
     let same = p .loop .inv .1 in
     let part : 48 * i + 48 - 48 * i ≡ 48 = omega arith in
-    let put = field-puts out (p .loop .to) (hexOf e) lineFeed (q .put-bytes .last .0) (q .put-bytes .result) (rw part at (q .put-bytes .ensures)) in
+    let put = field-puts out (p .loop .to) (hexOf e) lineFeed (q .put-bytes .last .0) (q .put-bytes .result)
+    (rw part at (q .put-bytes .ensures)) in
     let d = length-drop (48 * i) t in
     let w = line-length (drop (48 * i) t) (omega arith) in
     let fits : 97 * i + length (entryLine e) ≤ length out = omega arith in
@@ -74,7 +75,8 @@ loop-again c =
       omega arith,
       ap length (done .0) ∙ laid-length out (97 * i) (entryLine e) fits ∙ same,
       done .1 ∙ omega arith,
-      ap (λ u. laid u (97 * (i + 1)) (tableText (32 - (i + 1)) (drop (48 * (i + 1)) t))) (done .0) ∙ sym (text-turn out t i h long (omega arith)) ∙ p .loop .inv .3,
+      ap (λ u. laid u (97 * (i + 1)) (tableText (32 - (i + 1)) (drop (48 * (i + 1)) t))) (done .0)
+          ∙ sym (text-turn out t i h long (omega arith)) ∙ p .loop .inv .3,
     )
 
 same-length : tie.Need-same-length Inv-loop μ-loop

@@ -121,21 +121,24 @@ same-length-5 c = search needs
 
 returns-5 : tie.Need-returns-5
 unfolding refusedOnTable
-returns-5 c = let arm = c .before .before in rw (arm .before .before .enum-told5 .given .1) (arm .refusal-line2 .ensures)
+returns-5 c = let arm = c .before .before in
+    rw (arm .before .before .enum-told5 .given .1) (arm .refusal-line2 .ensures)
 
 same-length-6 : tie.Need-same-length-6
 same-length-6 c = search needs
 
 returns-6 : tie.Need-returns-6
 unfolding refusedOnTable
-returns-6 c = let arm = c .before .before in rw (arm .before .before .enum-told6 .given .1) (arm .refusal-line3 .ensures)
+returns-6 c = let arm = c .before .before in
+    rw (arm .before .before .enum-told6 .given .1) (arm .refusal-line3 .ensures)
 
 same-length-7 : tie.Need-same-length-7
 same-length-7 c = search needs
 
 returns-7 : tie.Need-returns-7
 unfolding refusedOnTable
-returns-7 c = let arm = c .before .before in rw (arm .before .before .enum-told7 .given .1) (arm .refusal-line4 .ensures)
+returns-7 c = let arm = c .before .before in
+    rw (arm .before .before .enum-told7 .given .1) (arm .refusal-line4 .ensures)
 
 same-length-8 : tie.Need-same-length-8
 same-length-8 c = search needs
@@ -184,7 +187,8 @@ same-length-14 c = search needs
 
 returns-14 : tie.Need-returns-14
 unfolding refusedOnTable
-returns-14 c = let arm = c .before .before in rw (arm .before .before .enum-told14 .given .1) (arm .refusal-line5 .ensures)
+returns-14 c = let arm = c .before .before in
+    rw (arm .before .before .enum-told14 .given .1) (arm .refusal-line5 .ensures)
 
 pub refuse-spec : {M : Type 1} → statement M
 refuse-spec =

@@ -61,7 +61,8 @@ returns-3 c =
     let l : Line = record { chars = now (s .args .line); fed = s .args .fed } in
     let request : Other ≡ tableAsked l = rw (f .if2 .left) in
     let done = rw request at (q .speak2 .ensures .0) in
-    let after = subst (λ (k : TableRequest). TableAfter k (now (s .args .t)) l (q .speak2 .last .1 .0)) request (q .speak2 .ensures .1) in
+    let after = subst (λ (k : TableRequest). TableAfter k (now (s .args .t)) l (q .speak2 .last .1 .0)) request
+    (q .speak2 .ensures .1) in
     let wide = le-leb room (length (now (s .args .out))) (e .if1 .left) in
     (rw wide (done .told-is), (rw wide (done .wrote-is), (rw wide (done .left-is), (λ lent. after))))
 

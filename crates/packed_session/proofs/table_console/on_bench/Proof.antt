@@ -1,4 +1,5 @@
--- Refused bytes are told and stay; else what the console answered on the bench of the bytes is said, and the bench that it left is packed.
+-- Refused bytes are told and stay; else what the console answered on the bench of the bytes is said, and the bench that
+-- it left is packed.
 use denote.Ref.{now}
 use borrow.Author.Tests.{le-leb}
 use lib.ListN.{length}
@@ -31,7 +32,9 @@ returns c =
     let u = k .before in
     let s = u .before .before .before .before .before in
     let l : Line = record { chars = now (s .args .line); fed = s .args .fed } in
-    refused-told (λ b. answered b (asked l)) (λ n. refusedOnTable n (asked l)) (now (s .args .t)) (now (s .args .out)) (s .pre) (u .unpack .result) (u .unpack .ensures) (k .if1 .taken) (q .refuse .result) (q .refuse .last .1 .1 .1 .0) (q .refuse .ensures .0) (q .refuse .ensures .1)
+    refused-told (λ b. answered b (asked l)) (λ n. refusedOnTable n (asked l)) (now (s .args .t)) (now (s .args .out))
+    (s .pre) (u .unpack .result) (u .unpack .ensures) (k .if1 .taken) (q .refuse .result)
+    (q .refuse .last .1 .1 .1 .0) (q .refuse .ensures .0) (q .refuse .ensures .1)
 
 answer-requires : tie.Need-answer-requires
 answer-requires c κs = search needs
@@ -54,7 +57,10 @@ returns-2 c =
     let s = u .before .before .before .before .before in
     let l : Line = record { chars = now (s .args .line); fed = s .args .fed } in
     let enough = le-leb room (length (now (s .args .out))) (s .pre) in
-    answered-told (λ b. answered b (asked l)) (λ n. refusedOnTable n (asked l)) (now (s .args .t)) (now (s .args .out)) (s .pre) (u .unpack .result) (u .unpack .ensures) (answered-keeps (asked l)) (e .if1 .left) (n .answer .result) _ _ (rw enough at (n .answer .ensures .0)) (rw enough at (n .answer .ensures .1 .0)) (k .pack .ensures .1 .0) (k .pack .ensures .1 .1)
+    answered-told (λ b. answered b (asked l)) (λ n. refusedOnTable n (asked l)) (now (s .args .t)) (now (s .args .out))
+    (s .pre) (u .unpack .result) (u .unpack .ensures) (answered-keeps (asked l)) (e .if1 .left) (n .answer .result)
+    _ _ (rw enough at (n .answer .ensures .0)) (rw enough at (n .answer .ensures .1 .0))
+    (k .pack .ensures .1 .0) (k .pack .ensures .1 .1)
 
 pub on-bench-spec : {M : Type 1} → statement M
 on-bench-spec =

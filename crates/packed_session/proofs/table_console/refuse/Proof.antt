@@ -13,7 +13,8 @@ same-length : tie.Need-same-length
 same-length c = search needs
 
 returns : tie.Need-returns
-returns c = let q = c .before .before in let e = q .before .before in rw (e .before .if1 .taken, ← e .parse .ensures) (q .refuse .ensures)
+returns c = let q = c .before .before in let e = q .before .before in
+    rw (e .before .if1 .taken, ← e .parse .ensures) (q .refuse .ensures)
 
 refuse-requires-2 : tie.Need-refuse-requires-2
 refuse-requires-2 c κs = search needs

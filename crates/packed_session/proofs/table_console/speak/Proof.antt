@@ -36,7 +36,11 @@ returns c =
     let q = c .before .before .before .before in
     let r = q .before .before .before .before in
     let s = r .before .before .before .before .before in
-    rw (r .request .given .1) (line-tells _ (now (s .args .out)) (s .pre) _ _ _ (q .store .ensures .0) (q .store .ensures .1 .0) (q .store .ensures .1 .1), tt)
+    rw (r .request .given .1) (
+      line-tells _ (now (s .args .out)) (s .pre) _ _ _ (q .store .ensures .0)
+          (q .store .ensures .1 .0) (q .store .ensures .1 .1),
+      tt,
+    )
 
 same-length-3 : tie.Need-same-length-3
 same-length-3 c = search needs
@@ -50,7 +54,11 @@ returns-2 c =
     let q = c .before .before in
     let e = q .before .before .before in
     let s = e .before .before .before .before .before in
-    rw (e .enum-told .given .1) (dump-tells (now (s .args .t)) (now (s .args .out)) (s .pre) _ _ (q .dump .ensures .0) (q .dump .ensures .1), tt)
+    rw (e .enum-told .given .1) (
+      dump-tells (now (s .args .t)) (now (s .args .out)) (s .pre) _ _ (q .dump .ensures .0)
+          (q .dump .ensures .1),
+      tt,
+    )
 
 same-length-5 : tie.Need-same-length-5
 same-length-5 c = search needs
@@ -64,7 +72,10 @@ returns-3 c =
     let q = c .before .before .before .before in
     let e = q .before .before .before in
     let done = q .on-bench .ensures in
-    rw (e .enum-told2 .given .1) (record { told-is = done .0; wrote-is = done .1 .0; left-is = done .1 .1 .0 }, done .1 .1 .1)
+    rw (e .enum-told2 .given .1) (
+      record { told-is = done .0; wrote-is = done .1 .0; left-is = done .1 .1 .0 },
+      done .1 .1 .1,
+    )
 
 pub speak-spec : {M : Type 1} → statement M
 speak-spec =

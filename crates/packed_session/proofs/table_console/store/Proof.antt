@@ -18,8 +18,10 @@ same-length-2 c = search needs
 returns : tie.Need-returns
 returns c =
     let q = c .before .before in
-    let p = q .before .before .before .before in
-    (rw (← p .poke .ensures .0) (q .refusal-line .ensures .0), (rw (← p .poke .ensures .0) (q .refusal-line .ensures .1), p .poke .ensures .1))
+    let p = q .before .before .before .before in (
+      rw (← p .poke .ensures .0) (q .refusal-line .ensures .0),
+      (rw (← p .poke .ensures .0) (q .refusal-line .ensures .1), p .poke .ensures .1),
+    )
 
 pub store-spec : {M : Type 1} → statement M
 store-spec =

@@ -26,7 +26,13 @@ returns c =
     let u = c .before .before in
     let w = u .before .before in
     let n = w .before .before in
-    rw (← n .count .ensures, eq-eqb _ _ (w .before .if1 .taken), ← w .word .ensures, ← u .same .ensures, c .before .if2 .taken) (c .poke .ensures)
+    rw (
+      ← n .count .ensures,
+      eq-eqb _ _ (w .before .if1 .taken),
+      ← w .word .ensures,
+      ← u .same .ensures,
+      c .before .if2 .taken,
+    ) (c .poke .ensures)
 
 returns-2 : tie.Need-returns-2
 unfolding ofTable
@@ -51,7 +57,14 @@ returns-3 c =
     let u = c .before in
     let w = u .before .before in
     let e = w .before .before in
-    rw (← e .before .count .ensures, ne-eqb _ _ (e .if1 .left), eq-eqb _ _ (w .before .if3 .taken), ← w .word2 .ensures, ← u .same2 .ensures, c .if4 .taken)
+    rw (
+      ← e .before .count .ensures,
+      ne-eqb _ _ (e .if1 .left),
+      eq-eqb _ _ (w .before .if3 .taken),
+      ← w .word2 .ensures,
+      ← u .same2 .ensures,
+      c .if4 .taken,
+    )
 
 returns-4 : tie.Need-returns-4
 unfolding ofTable
@@ -59,7 +72,14 @@ returns-4 c =
     let u = c .before in
     let w = u .before .before in
     let e = w .before .before in
-    rw (← e .before .count .ensures, ne-eqb _ _ (e .if1 .left), eq-eqb _ _ (w .before .if3 .taken), ← w .word2 .ensures, ← u .same2 .ensures, c .if4 .left)
+    rw (
+      ← e .before .count .ensures,
+      ne-eqb _ _ (e .if1 .left),
+      eq-eqb _ _ (w .before .if3 .taken),
+      ← w .word2 .ensures,
+      ← u .same2 .ensures,
+      c .if4 .left,
+    )
 
 returns-5 : tie.Need-returns-5
 unfolding ofTable

@@ -23,19 +23,25 @@ read-fixed-requires c κs = search needs
 
 -- both fields, as they were read
 module _ (c : tie.After-read-fixed) where
-  place : c .before .before .read-decimal .result ≡ placeIn (wordOf (wordsOf (now (c .before .before .before .before .before .args .line))) 1)
+  place : c .before .before .read-decimal .result
+      ≡ placeIn (wordOf (wordsOf (now (c .before .before .before .before .before .args .line))) 1)
   place = c .before .before .read-decimal .ensures ∙ ap placeIn (c .before .before .before .word .ensures)
 
-  byte : c .read-fixed .result ≡ byteIn (wordOf (wordsOf (now (c .before .before .before .before .before .args .line))) 2)
+  byte : c .read-fixed .result ≡ byteIn (wordOf
+      (wordsOf (now (c .before .before .before .before .before .args .line))) 2)
   byte = c .read-fixed .ensures ∙ ap byteIn (c .before .word2 .ensures)
 
 cast-t9 : tie.Need-cast-t9
 cast-t9 c =
     let read = c .before .before .before in
-    record { fits = rw (byte read) (byte-below (wordOf (wordsOf (now (read .before .before .before .before .before .args .line))) 2)) }
+    record {
+      fits = rw (byte read) (byte-below
+          (wordOf (wordsOf (now (read .before .before .before .before .before .args .line))) 2));
+    }
 
 returns : tie.Need-returns
-returns c = let read = c .before .before .before in rw (← place read, ← byte read, c .before .before .if1 .taken, c .before .if2 .taken)
+returns c = let read = c .before .before .before in
+    rw (← place read, ← byte read, c .before .before .if1 .taken, c .before .if2 .taken)
 
 returns-2 : tie.Need-returns-2
 returns-2 c = let read = c .before .before in rw (← place read, ← byte read, c .before .if1 .taken, c .if2 .left)

@@ -42,8 +42,11 @@ returns-2 c =
     let request : p .parse .result ≡ storeAsked l = rw (p .before .before .if2 .taken) (p .parse .ensures) in
     let done = rw request at (q .respond .ensures .0) in
     let left = q .respond .ensures .1 ∙ ap (storeLeft (s .args .store)) request in
-    let wide = le-leb room (length (now (s .args .out))) (e .if1 .left) in
-    (rw wide (told-parts _ (telling (spokenOf (now (s .args .t)) (s .args .store) l (storeAsked l) .text)) _ _ (done .told-is) left), (rw wide (done .wrote-is), rw wide (done .left-is)))
+    let wide = le-leb room (length (now (s .args .out))) (e .if1 .left) in (
+      rw wide (told-parts _ (telling (spokenOf (now (s .args .t)) (s .args .store) l (storeAsked l) .text))
+          _ _ (done .told-is) left),
+      (rw wide (done .wrote-is), rw wide (done .left-is)),
+    )
 
 respond-requires-2 : tie.Need-respond-requires-2
 respond-requires-2 c κs = search needs
@@ -64,8 +67,11 @@ returns-3 c =
     let request : Other ≡ storeAsked l = rw (f .if2 .left) in
     let done = rw request at (q .respond2 .ensures .0) in
     let left = q .respond2 .ensures .1 ∙ ap (storeLeft (s .args .store)) request in
-    let wide = le-leb room (length (now (s .args .out))) (e .if1 .left) in
-    (rw wide (told-parts _ (telling (spokenOf (now (s .args .t)) (s .args .store) l (storeAsked l) .text)) _ _ (done .told-is) left), (rw wide (done .wrote-is), rw wide (done .left-is)))
+    let wide = le-leb room (length (now (s .args .out))) (e .if1 .left) in (
+      rw wide (told-parts _ (telling (spokenOf (now (s .args .t)) (s .args .store) l (storeAsked l) .text))
+          _ _ (done .told-is) left),
+      (rw wide (done .wrote-is), rw wide (done .left-is)),
+    )
 
 pub answer-spec : {M : Type 1} → statement M
 answer-spec =

@@ -1,4 +1,5 @@
--- By whose request it is: the table's, a write to a device, or one of the store alone. The answer to what the call came to is said, and the call came to what its promise says.
+-- By whose request it is: the table's, a write to a device, or one of the store alone. The answer to what the call came
+-- to is said, and the call came to what its promise says.
 use Prim.Native.Nat.{ℕ, _+_, _≤_}
 use denote.Ref.{now}
 use mathlib.Core.Path.{_≡_, ap, refl, _∙_}
@@ -22,12 +23,18 @@ use Rattle.packed_session.proofs.table_settings.respond.Statement.{stat
 use Rattle.packed_session.proofs.table_settings.respond.Tie as tie
 
 -- a call on the store, said with room for it
-called-tells : (out : List ℕ) → room ≤ length out → (t : List ℕ) (s : Store) (q : StoreRequest) (out' : List ℕ) (done : Called) → done ≡ called s q out → out' ≡ lineLeaves out 0 (storeSays s q)
+called-tells : (out : List ℕ) → room ≤ length out
+    → (t : List ℕ) (s : Store) (q : StoreRequest) (out' : List ℕ) (done : Called) → done ≡ called s q out
+    → out' ≡ lineLeaves out 0 (storeSays s q)
     → Tells (speaks (storeSays s q) t) out out' t (done .written) × (done .store ≡ storeLeft s q)
 called-tells out wide t s q out' done answer left =
     let here : 0 + lineRoom ≤ length out = omega arith in
-    let kept : called s q out .store ≡ storeLeft s q = rw (le-leb (0 + lineRoom) (length out) here) in
-    (line-tells (speaks (storeSays s q) t) out wide out' t (done .written) (ap (λ (d : Called). d .written) answer) left refl, ap (λ (d : Called). d .store) answer ∙ kept)
+    let kept : called s q out .store ≡ storeLeft s q = rw (le-leb (0 + lineRoom) (length out) here) in (
+      line-tells (speaks (storeSays s q) t) out wide out' t (done .written)
+          (ap (λ (d : Called). d .written) answer) left
+          refl,
+      ap (λ (d : Called). d .store) answer ∙ kept,
+    )
 
 enum-told : tie.Need-enum-told
 enum-told c = search needs
@@ -58,7 +65,14 @@ returns c =
     let s = e .before .before .before .before .before in
     let wide = le-leb room (length (now (s .args .out))) (s .pre) in
     let done = q .answer .ensures in
-    rw (e .enum-told .given .1) (record { told-is = rw wide at (done .0); wrote-is = rw wide at (done .1 .0); left-is = rw wide at (done .1 .1 .0) }, refl)
+    rw (e .enum-told .given .1) (
+      record {
+        told-is = rw wide at (done .0);
+        wrote-is = rw wide at (done .1 .0);
+        left-is = rw wide at (done .1 .1 .0);
+      },
+      refl,
+    )
 
 same-length-3 : tie.Need-same-length-3
 same-length-3 c = search needs
@@ -84,10 +98,12 @@ returns-3 c =
     let arm = call .before .before in
     let start = arm .before .before .before .before in
     let a = start .args in
-    let own = own-request (a .request) (spoken (now (a .t)) (record { chars = now (a .line); fed = a .fed })) (writtenOn (now (a .t)) (a .store)) (speaks (storeSays (a .store) (a .request)) (now (a .t)))
+    let own = own-request (a .request) (spoken (now (a .t)) (record { chars = now (a .line); fed = a .fed }))
+    (writtenOn (now (a .t)) (a .store)) (speaks (storeSays (a .store) (a .request)) (now (a .t)))
     (λ e. let k = own-number (rw e at (arm .match .keys3)) in omega arith)
     (λ code e. let k = own-number (rw e at (arm .match .keys3)) in omega arith) in
-    rw own (called-tells (now (a .out)) (start .pre) (now (a .t)) (a .store) (a .request) (call .call .last .1 .1 .0) (call .call .result) (call .call .ensures .0) (call .call .ensures .1 .0))
+    rw own (called-tells (now (a .out)) (start .pre) (now (a .t)) (a .store) (a .request) (call .call .last .1 .1 .0)
+    (call .call .result) (call .call .ensures .0) (call .call .ensures .1 .0))
 
 pub respond-spec : {M : Type 1} → statement M
 respond-spec =

@@ -1,4 +1,5 @@
--- Refused bytes are told and stay; else what the write came to on the bench of the bytes is said, and the bench that it left is packed.
+-- Refused bytes are told and stay; else what the write came to on the bench of the bytes is said, and the bench that it
+-- left is packed.
 use denote.Ref.{now}
 use mathlib.Core.Path.{ap, _∙_}
 use Rattle.basic_laws.specs.Laid.{laid}
@@ -33,7 +34,9 @@ returns c =
     let k = q .before .before in
     let u = k .before in
     let s = u .before .before .before .before in
-    refused-told (λ b. ofAccess (settingsWritten (s .args .store) b (s .args .code))) (λ n. refusedOnTable n (Read (s .args .code))) (now (s .args .t)) (now (s .args .out)) (s .pre) (u .unpack .result) (u .unpack .ensures) (k .if1 .taken) _ _ (q .refuse .ensures .0) (q .refuse .ensures .1)
+    refused-told (λ b. ofAccess (settingsWritten (s .args .store) b (s .args .code)))
+    (λ n. refusedOnTable n (Read (s .args .code))) (now (s .args .t)) (now (s .args .out)) (s .pre)
+    (u .unpack .result) (u .unpack .ensures) (k .if1 .taken) _ _ (q .refuse .ensures .0) (q .refuse .ensures .1)
 
 write-requires : tie.Need-write-requires
 write-requires c κs = search needs
@@ -58,11 +61,16 @@ returns-2 c =
     let e = w .before .before in
     let u = e .before in
     let s = u .before .before .before .before in
-    let says = line-says (now (s .args .out)) (s .pre) (ofAccess (w .write .result)) _ (n .access .result) (n .access .ensures .0) (n .access .ensures .1 .0) (n .access .ensures .1 .1) in
+    let says = line-says (now (s .args .out)) (s .pre) (ofAccess (w .write .result)) _ (n .access .result)
+    (n .access .ensures .0) (n .access .ensures .1 .0) (n .access .ensures .1 .1) in
     let told = says .said ∙ ap (λ (a : Access). saying (ofAccess a)) (w .write .ensures) in
-    let left = says .laid-is ∙ ap (λ (a : Access). laid (now (s .args .out)) 0 (ofAccess a .text)) (w .write .ensures) in
-    answered-told (λ b. ofAccess (settingsWritten (s .args .store) b (s .args .code))) (λ n. refusedOnTable n (Read (s .args .code))) (now (s .args .t)) (now (s .args .out)) (s .pre) (u .unpack .result) (u .unpack .ensures)
-    (settings-keep (s .args .store) (s .args .code)) (e .if1 .left) (n .access .result) _ _ told left (k .pack .ensures .1 .0) (k .pack .ensures .1 .1)
+    let left = says .laid-is ∙ ap (λ (a : Access). laid (now (s .args .out)) 0 (ofAccess a .text))
+    (w .write .ensures) in
+    answered-told (λ b. ofAccess (settingsWritten (s .args .store) b (s .args .code)))
+    (λ n. refusedOnTable n (Read (s .args .code))) (now (s .args .t)) (now (s .args .out)) (s .pre)
+    (u .unpack .result) (u .unpack .ensures)
+    (settings-keep (s .args .store) (s .args .code)) (e .if1 .left) (n .access .result) _ _ told left
+    (k .pack .ensures .1 .0) (k .pack .ensures .1 .1)
 
 pub write-spec : {M : Type 1} → statement M
 write-spec =

@@ -13,8 +13,10 @@ use Rattle.scratchpad.proofs.fine.fine_of.Tie as tie
 
 -- what right counts are
 right-counts : (remaining per : ℕ) → countsRight inHalfDegrees remaining per ≡ true → (0 < per) × (remaining ≤ per)
-right-counts remaining per e =
-    (ltb-true 0 per (and-left (ltb 0 per) (leb remaining per) e), leb-true remaining per (and-right (ltb 0 per) (leb remaining per) e))
+right-counts remaining per e = (
+  ltb-true 0 per (and-left (ltb 0 per) (leb remaining per) e),
+  leb-true remaining per (and-right (ltb 0 per) (leb remaining per) e),
+)
 
 enum-told : tie.Need-enum-told
 enum-told c = search needs
@@ -42,7 +44,13 @@ returns c =
     let whole = c .before in
     let test = whole .before in
     let counts = test .before in
-    simp (c .fraction .ensures, whole .whole-of .ensures, counts .before .enum-told2 .given .1, ← counts .counts-right .ensures, test .if1 .taken)
+    simp (
+      c .fraction .ensures,
+      whole .whole-of .ensures,
+      counts .before .enum-told2 .given .1,
+      ← counts .counts-right .ensures,
+      test .if1 .taken,
+    )
 
 no-fine-requires-2 : tie.Need-no-fine-requires-2
 no-fine-requires-2 c κs = search needs

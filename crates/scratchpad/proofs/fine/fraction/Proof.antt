@@ -1,4 +1,5 @@
--- Every product, difference and sum stays far within 32 bits: whole degrees of 16 bits times at most 1020, and two small numbers.
+-- Every product, difference and sum stays far within 32 bits: whole degrees of 16 bits times at most 1020, and two
+-- small numbers.
 use Prim.Native.Nat.{ℕ, _-_, _*_, _<_, _≤_}
 use mathlib.Core.Path.{_≡_, ap}
 use native.Mathlib.Omega.{arith}
@@ -27,7 +28,14 @@ module _ (z : ℤ) (f : Fits16 z) (p q l : ℕ) (some : 0 < q) (few : q ≤ 1020
   less-fits = record { sfits = omega (arith, product-size, minus-size (z *ℤ pos q) p) }
 
   sum-fits : SFits w32 (z *ℤ pos q -ℤ pos p +ℤ pos l)
-  sum-fits = record { sfits = omega (arith, product-size, minus-size (z *ℤ pos q) p, plus-size (z *ℤ pos q -ℤ pos p) l) }
+  sum-fits = record {
+    sfits = omega (
+      arith,
+      product-size,
+      minus-size (z *ℤ pos q) p,
+      plus-size (z *ℤ pos q -ℤ pos p) l,
+    );
+  }
 
   -- the same on numbers as the code holds them
   abbrev factor : ℤ
@@ -111,7 +119,8 @@ add-t14 : tie.Need-add-t14
 add-t14 c = sum-code _ (degrees-fit c) _ _ _ (some c) (few c) (byte c) (small c)
 
 returns : tie.Need-returns
-returns c = ap (λ z. record { numerator = z; denominator = 4 * c .before .before .args .per }) (numerator-code _ (degrees-fit c) _ _ _ (some c) (few c) (byte c) (small c))
+returns c = ap (λ z. record { numerator = z; denominator = 4 * c .before .before .args .per })
+    (numerator-code _ (degrees-fit c) _ _ _ (some c) (few c) (byte c) (small c))
 
 pub fraction-spec : {M : Type 1} → statement M
 fraction-spec =

@@ -15,7 +15,8 @@ sub-result : tie.Need-sub-result
 sub-result c = search needs
 
 returns : tie.Need-returns
-returns c = rw (c .before .register-of .ensures) (sym (remaining-low (c .before .before .args .count) (record { sfits = c .before .before .good .0 .1 .1 .0 .1 })))
+returns c = rw (c .before .register-of .ensures)
+    (sym (remaining-low (c .before .before .args .count) (record { sfits = c .before .before .good .0 .1 .1 .0 .1 })))
 
 pub remaining-spec : {M : Type 1} → statement M
 remaining-spec = tie.close (tie.spec register-of-requires add-result sub-result returns)

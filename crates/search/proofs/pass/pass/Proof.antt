@@ -27,7 +27,8 @@ take-bit-requires : tie.Need-take-bit-requires Inv-loop μ-loop
 take-bit-requires c κs =
     let p = c .before .before in
     let b = p .before in
-    let k = p .loop .inv .1 _ (b .begin-pass .ensures ∙ begun-walk (b .before .args .command) (b .before .args .bench)) refl in
+    let k = p .loop .inv .1 _ (b .begin-pass .ensures
+    ∙ begun-walk (b .before .args .command) (b .before .args .bench)) refl in
     (c .before .loop-test .taken, k .small)
 
 add-place : tie.Need-add-place Inv-loop μ-loop
@@ -44,7 +45,8 @@ loop-again c =
       λ v₀ e z.
           let k = p .loop .inv .1 v₀ e z in
           ⊎-elim
-          (λ t. rw (t .2, t .1 .ensures) (walking-turn (a .previous) (a .departure) v₀ (p .loop .place) (p .loop .w) (c .before .loop-test .taken) (t .0 .taken) k))
+          (λ t. rw (t .2, t .1 .ensures) (walking-turn (a .previous) (a .departure) v₀ (p .loop .place) (p .loop .w)
+          (c .before .loop-test .taken) (t .0 .taken) k))
           (λ t. rw (t .1) (walking-over (a .previous) (a .departure) v₀ (p .loop .place) (p .loop .w) (t .0 .left) k))
           (c .if1 .came),
     )
@@ -53,7 +55,8 @@ returns : tie.Need-returns Inv-loop μ-loop
 returns c =
     let p = c .before in
     let b = p .before in
-    let k = p .loop .inv .1 _ (b .begin-pass .ensures ∙ begun-walk (b .before .args .command) (b .before .args .bench)) refl in
+    let k = p .loop .inv .1 _ (b .begin-pass .ensures
+    ∙ begun-walk (b .before .args .command) (b .before .args .bench)) refl in
     walking-end _ _ _ _ _ (c .loop-test .left) k
 
 pub pass-spec : {M : Type 1} → statement M

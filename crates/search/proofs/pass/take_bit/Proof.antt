@@ -50,7 +50,15 @@ returns-2 c =
     let slots = second .before .before .before .before in
     let plan = slots .before in
     let a = plan .before .before .args in
-    rw (c .last-after .ensures, code .with-bit .ensures, third .push3 .ensures .0, second .push2 .ensures .0, second .before .push .ensures .0, slots .slots-at .ensures, plan .planned .ensures)
+    rw (
+      c .last-after .ensures,
+      code .with-bit .ensures,
+      third .push3 .ensures .0,
+      second .push2 .ensures .0,
+      second .before .push .ensures .0,
+      slots .slots-at .ensures,
+      plan .planned .ensures,
+    )
     (sym (place-on (a .previous) (a .departure) (a .place) (a .w)
     (rw (← plan .planned .ensures, ← slots .slots-at .ensures) (sym (silence .silent .ensures) ∙ if1 .if1 .left))))
 

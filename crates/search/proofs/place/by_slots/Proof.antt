@@ -36,7 +36,14 @@ returns-2 c =
     let both = if1 .before in
     let two = both .before .before in
     let one = two .before .before in
-    simp (← one .slot .ensures, ← two .slot2 .ensures, ← both .both .ensures, if1 .if1 .left, ← choose .choose .ensures, ← three .slot3 .ensures)
+    simp (
+      ← one .slot .ensures,
+      ← two .slot2 .ensures,
+      ← both .both .ensures,
+      if1 .if1 .left,
+      ← choose .choose .ensures,
+      ← three .slot3 .ensures,
+    )
 
 pub by-slots-spec : {M : Type 1} → statement M
 by-slots-spec =

@@ -12,7 +12,8 @@ use Rattle.search.proofs.place.look_over.Statement.{statement}
 use Rattle.search.proofs.place.look_over.Tie as tie
 
 abbrev Inv-loop : tie.InvT-loop
-Inv-loop count place devices taken s₀ i₀ s i = (i ≤ taken) × (s ≡ fold (surveyedWith place) surveyStart (take i devices))
+Inv-loop count place devices taken s₀ i₀ s i =
+    (i ≤ taken) × (s ≡ fold (surveyedWith place) surveyStart (take i devices))
 
 abbrev μ-loop : tie.MeasureT-loop
 μ-loop count place devices taken s₀ i₀ s i = taken - i
@@ -34,7 +35,8 @@ survey-with-requires : tie.Need-survey-with-requires Inv-loop μ-loop
 survey-with-requires c κs = search needs
 
 add-i : tie.Need-add-i Inv-loop μ-loop
-add-i c = let h : c .before .before .before .loop .i < 32 = omega (arith, c .before .before .before .before .places .ensures) in search needs
+add-i c = let h : c .before .before .before .loop .i < 32 =
+    omega (arith, c .before .before .before .before .places .ensures) in search needs
 
 loop-less : tie.Need-loop-less Inv-loop μ-loop
 loop-less c = omega arith
@@ -44,8 +46,13 @@ loop-again c =
     let p = c .before .before .before in
     let a = p .before .before in
     let long : length (a .args .t1) ≡ 32 = search needs in
-    let h : p .loop .i < length (a .args .t1) = omega (arith, p .before .places .ensures) in
-    (omega arith, rw (c .survey-with .ensures, p .loop .inv .1) (fold-step (surveyedWith (a .args .place)) surveyStart (p .loop .i) (a .args .t1) _ h))
+    let h : p .loop .i < length (a .args .t1) = omega (arith, p .before .places .ensures) in (
+      omega arith,
+      rw (
+        c .survey-with .ensures,
+        p .loop .inv .1,
+      ) (fold-step (surveyedWith (a .args .place)) surveyStart (p .loop .i) (a .args .t1) _ h),
+    )
 
 returns : tie.Need-returns Inv-loop μ-loop
 returns c =
@@ -53,7 +60,8 @@ returns c =
     let a = p .before .before in
     let long : length (a .args .t1) ≡ 32 = search needs in
     let most : p .loop .i ≡ min (a .args .count) 32 = omega (arith, p .before .places .ensures) in
-    p .loop .inv .1 ∙ ap (fold (surveyedWith (a .args .place)) surveyStart) (rw most (taken-most (a .args .count) 32 (a .args .t1) long))
+    p .loop .inv .1 ∙ ap (fold (surveyedWith (a .args .place)) surveyStart)
+    (rw most (taken-most (a .args .count) 32 (a .args .t1) long))
 
 pub look-over-spec : {M : Type 1} → statement M
 look-over-spec =

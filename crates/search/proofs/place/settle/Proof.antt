@@ -1,4 +1,5 @@
--- The loop's invariant: the devices before i are settled, and all others as they were; a quiet one is settled as it stands.
+-- The loop's invariant: the devices before i are settled, and all others as they were; a quiet one is settled as it
+-- stands.
 use Prim.Native.Nat.{_≤_, _<_, _-_, min}
 use mathlib.Core.Bool.{not}
 use mathlib.Core.Logic.{⊎-elim}
@@ -39,13 +40,15 @@ settled-requires : tie.Need-settled-requires Inv-loop μ-loop
 settled-requires c κs = search needs
 
 mul-next : tie.Need-mul-next Inv-loop μ-loop
-mul-next c = let p = c .before .before .before .before .before in let h : p .loop .i < 32 = omega (arith, p .before .places .ensures) in search needs
+mul-next c = let p = c .before .before .before .before .before in let h : p .loop .i < 32 =
+    omega (arith, p .before .places .ensures) in search needs
 
 array-set-from-next : tie.Need-array-set-from-next Inv-loop μ-loop
 array-set-from-next c = omega (arith, c .before .before .before .before .before .before .places .ensures)
 
 add-i : tie.Need-add-i Inv-loop μ-loop
-add-i c = let p = c .before .before .before .before in let h : p .loop .i < 32 = omega (arith, p .before .places .ensures) in search needs
+add-i c = let p = c .before .before .before .before in let h : p .loop .i < 32 =
+    omega (arith, p .before .places .ensures) in search needs
 
 loop-less : tie.Need-loop-less Inv-loop μ-loop
 loop-less c = omega arith
@@ -60,7 +63,8 @@ loop-again c =
       omega arith,
       ⊎-elim
           (λ w. w .2 ∙ rw (w .1 .ensures, p .loop .inv .1) (front-more _ _ _ _))
-          (λ w. w .1 ∙ front-kept _ _ _ _ _ (p .loop .inv .1) h (settled-quiet (a .place) (a .bit) _ (quiet ∙ w .0 .left)))
+          (λ w. w .1 ∙ front-kept _ _ _ _ _ (p .loop .inv .1) h
+          (settled-quiet (a .place) (a .bit) _ (quiet ∙ w .0 .left)))
           (c .if1 .came),
     )
 

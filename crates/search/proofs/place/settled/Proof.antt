@@ -21,7 +21,12 @@ returns-2 : tie.Need-returns-2
 unfolding settledOf
 returns-2 c =
     let after = c .before in
-    simp (← after .before .before .is-quiet .ensures, after .before .if1 .left, c .with-stage .ensures, after .after-search .ensures)
+    simp (
+      ← after .before .before .is-quiet .ensures,
+      after .before .if1 .left,
+      c .with-stage .ensures,
+      after .after-search .ensures,
+    )
 
 pub settled-spec : {M : Type 1} → statement M
 settled-spec =

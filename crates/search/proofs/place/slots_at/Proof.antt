@@ -1,4 +1,5 @@
--- Where every device fits and the reads are not both 1, the law of the three slots at once; elsewhere the slots themselves.
+-- Where every device fits and the reads are not both 1, the law of the three slots at once; elsewhere the slots
+-- themselves.
 use mathlib.Core.Path.{sym}
 use borrow.Author.Needs.{needs}
 use Rattle.search.specs.PlaceLaws.{surveyed-at-once}
@@ -40,9 +41,22 @@ returns c =
     let count = look .before in
     let records = count .before in
     let a = records .before .args in
-    rw (c .of-records .ensures, settle .settle .ensures, choose .choose .ensures, look .look-over .ensures, count .count-of .ensures, records .records-of .ensures)
+    rw (
+      c .of-records .ensures,
+      settle .settle .ensures,
+      choose .choose .ensures,
+      look .look-over .ensures,
+      count .count-of .ensures,
+      records .records-of .ensures,
+    )
     (sym (surveyed-at-once (a .place) (a .bench) (a .plan)
-    (rw (← records .records-of .ensures, ← count .count-of .ensures, ← look .look-over .ensures, ← inner .both .ensures, ← outer .both2 .ensures) (if1 .if1 .taken))))
+    (rw (
+      ← records .records-of .ensures,
+      ← count .count-of .ensures,
+      ← look .look-over .ensures,
+      ← inner .both .ensures,
+      ← outer .both2 .ensures,
+    ) (if1 .if1 .taken))))
 
 by-slots-requires : tie.Need-by-slots-requires
 by-slots-requires c κs = search needs

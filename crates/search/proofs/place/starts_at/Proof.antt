@@ -52,7 +52,12 @@ returns-3 : tie.Need-returns-3
 returns-3 c = search needs
 
 returns-4 : tie.Need-returns-4
-returns-4 c = simp (c .before .before .before .before .stage .given .1, c .both2 .ensures, c .before .both .ensures, c .before .before .is-first .ensures)
+returns-4 c = simp (
+  c .before .before .before .before .stage .given .1,
+  c .both2 .ensures,
+  c .before .both .ensures,
+  c .before .before .is-first .ensures,
+)
 
 returns-5 : tie.Need-returns-5
 returns-5 c = search needs

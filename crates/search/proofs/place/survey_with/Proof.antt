@@ -21,7 +21,15 @@ returns c =
     let quiet = if1 .before in
     let s = quiet .before .before .args .s in
     let held = quiet .before .holds-wire in
-    simp (c .both .ensures, ← quiet .is-quiet .ensures, if1 .if1 .taken, ← held .ensures, and-true (not (held .result)), and-true (s .ones), and-true (s .zeros))
+    simp (
+      c .both .ensures,
+      ← quiet .is-quiet .ensures,
+      if1 .if1 .taken,
+      ← held .ensures,
+      and-true (not (held .result)),
+      and-true (s .ones),
+      and-true (s .zeros),
+    )
 
 bit-of-requires : tie.Need-bit-of-requires
 bit-of-requires c κs = search needs
@@ -50,7 +58,17 @@ returns-2 c =
     let own = starts .before in
     let if1 = own .before in
     let quiet = if1 .before in
-    simp (c .both5 .ensures, ones .both4 .ensures, ones .before .both3 .ensures, inner .both2 .ensures, starts .starts-at .ensures, own .bit-of .ensures, ← quiet .is-quiet .ensures, if1 .if1 .left, quiet .before .holds-wire .ensures)
+    simp (
+      c .both5 .ensures,
+      ones .both4 .ensures,
+      ones .before .both3 .ensures,
+      inner .both2 .ensures,
+      starts .starts-at .ensures,
+      own .bit-of .ensures,
+      ← quiet .is-quiet .ensures,
+      if1 .if1 .left,
+      quiet .before .holds-wire .ensures,
+    )
 
 pub survey-with-spec : {M : Type 1} → statement M
 survey-with-spec =

@@ -1,5 +1,5 @@
--- The loop's invariant: the first `i` characters are laid behind those that were held, and end within the buffer, which has its length.
--- The measure is what is left of them.
+-- The loop's invariant: the first `i` characters are laid behind those that were held, and end within the buffer, which
+-- has its length. The measure is what is left of them.
 use Prim.Native.Nat.{_+_, _-_, _<_, _≤_}
 use mathlib.Core.Path.{_≡_, refl, _∙_}
 use native.Mathlib.Omega.{arith}
@@ -14,7 +14,8 @@ use Rattle.sessions.proofs.gathering.hold.Tie as tie
 
 abbrev Inv-loop : tie.InvT-loop
 Inv-loop line₀ held chars to₀ i₀ line to i =
-    (i ≤ length chars) × (to ≡ held + i) × (i ≤ length line₀ - held) × (length line ≡ length line₀) × (line ≡ laid line₀ held (take i chars))
+    (i ≤ length chars) × (to ≡ held + i) × (i ≤ length line₀ - held) × (length line ≡ length line₀)
+    × (line ≡ laid line₀ held (take i chars))
 
 abbrev μ-loop : tie.MeasureT-loop
 μ-loop line₀ held chars to₀ i₀ line to i = length chars - i
@@ -30,7 +31,8 @@ returns c =
     let l = c .before .before in
     let a = l .before in
     let most = l .loop .inv .2 in
-    let ends = fitting-full (now (a .args .line)) (a .args .held) (now (a .args .chars)) (l .loop .i) most (l .loop .inv .0) (omega arith) in
+    let ends = fitting-full (now (a .args .line)) (a .args .held) (now (a .args .chars)) (l .loop .i) most
+    (l .loop .inv .0) (omega arith) in
     (l .loop .inv .1 ∙ ends .0, l .loop .inv .4 ∙ ends .1)
 
 shared-slice-read-line : tie.Need-shared-slice-read-line Inv-loop μ-loop
@@ -61,7 +63,8 @@ loop-again c =
       omega arith,
       omega arith,
       simp length-set size,
-      rw (place, l .loop .inv .4) (laid-next _ (a .args .held) (now (a .args .chars)) (l .loop .i) _ 0 _ refl some within refl),
+      rw (place, l .loop .inv .4) (laid-next _ (a .args .held) (now (a .args .chars)) (l .loop .i) _ 0 _ refl some
+          within refl),
     )
 
 same-length-2 : tie.Need-same-length-2 Inv-loop μ-loop
@@ -71,7 +74,8 @@ returns-2 : tie.Need-returns-2 Inv-loop μ-loop
 returns-2 c =
     let l = c .before in
     let a = l .before in
-    let ends = fitting-all (now (a .args .line)) (a .args .held) (now (a .args .chars)) (l .loop .i) (l .loop .inv .2) (omega arith) in
+    let ends = fitting-all (now (a .args .line)) (a .args .held) (now (a .args .chars)) (l .loop .i) (l .loop .inv .2)
+    (omega arith) in
     (l .loop .inv .1 ∙ ends .0, l .loop .inv .4 ∙ ends .1)
 
 pub hold-spec : {M : Type 1} → statement M

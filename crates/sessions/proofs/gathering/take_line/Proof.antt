@@ -28,7 +28,8 @@ part-hold-end c =
     let end = c .before in
     let a = end .before .before .before .before in
     let before : a .args .at ≤ length (now (a .args .piece)) = omega arith in
-    let within = line-by-end (now (a .args .piece)) (a .args .at) (end .line-end .result) before (end .line-end .ensures) .0 in
+    let within = line-by-end (now (a .args .piece)) (a .args .at) (end .line-end .result) before
+    (end .line-end .ensures) .0 in
     omega arith
 
 hold-requires : tie.Need-hold-requires
@@ -46,7 +47,9 @@ returns-2 c =
     let end = kept .before .before .before in
     let a = end .before .before .before .before in
     let before : a .args .at < length (now (a .args .piece)) = omega arith in
-    taken-fed (now (a .args .line)) (a .args .held) (now (a .args .piece)) (a .args .at) (end .line-end .result) (kept .hold .result) (kept .hold .last .0) before (end .line-end .ensures) (kept .hold .ensures .0) (kept .hold .ensures .1) (c .if2 .taken)
+    taken-fed (now (a .args .line)) (a .args .held) (now (a .args .piece)) (a .args .at) (end .line-end .result)
+    (kept .hold .result) (kept .hold .last .0) before (end .line-end .ensures) (kept .hold .ensures .0)
+    (kept .hold .ensures .1) (c .if2 .taken)
 
 same-length-2 : tie.Need-same-length-2
 same-length-2 c = search needs
@@ -57,7 +60,9 @@ returns-3 c =
     let end = kept .before .before .before in
     let a = end .before .before .before .before in
     let before : a .args .at < length (now (a .args .piece)) = omega arith in
-    taken-open (now (a .args .line)) (a .args .held) (now (a .args .piece)) (a .args .at) (end .line-end .result) (kept .hold .result) (kept .hold .last .0) before (end .line-end .ensures) (kept .hold .ensures .0) (kept .hold .ensures .1) (c .if2 .left)
+    taken-open (now (a .args .line)) (a .args .held) (now (a .args .piece)) (a .args .at) (end .line-end .result)
+    (kept .hold .result) (kept .hold .last .0) before (end .line-end .ensures) (kept .hold .ensures .0)
+    (kept .hold .ensures .1) (c .if2 .left)
 
 pub take-line-spec : {M : Type 1} → statement M
 take-line-spec =

@@ -12,7 +12,8 @@ use Rattle.text.proofs.laying.byte_at.Tie as tie
 
 -- the value at a place is below 16
 small : (c : tie.Start) (i : ℕ) → i < length (now (c .args .s)) → valueOf (getD (now (c .args .s)) i 0) < 16
-small c i h = ltb-true (valueOf (getD (now (c .args .s)) i 0)) 16 (all-at (isDigit 16) (now (c .args .s)) 0 i h (c .pre .1))
+small c i h = ltb-true (valueOf (getD (now (c .args .s)) i 0)) 16
+    (all-at (isDigit 16) (now (c .args .s)) 0 i h (c .pre .1))
 
 shared-slice-read-value : tie.Need-shared-slice-read-value
 shared-slice-read-value c = search needs

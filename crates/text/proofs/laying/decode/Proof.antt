@@ -1,4 +1,5 @@
--- The loop's invariant: the first `i` of the bytes that the digits stand for are laid from place 0. The measure is what is left.
+-- The loop's invariant: the first `i` of the bytes that the digits stand for are laid from place 0. The measure is what
+-- is left.
 use denote.Ref.{now}
 use lib.Seq.{take-all}
 use Rattle.basic_laws.specs.LaidLaws.{laid-next, laid-none}
@@ -52,7 +53,8 @@ loop-again c =
     let front : 0 + i ≡ i = omega arith in (
       omega arith,
       simp length-set (l .loop .inv .1),
-      rw (l .loop .inv .2) (laid-next (now (a .args .out)) 0 (bytesOf s) i i 0 (c .byte-at .result) front within place (c .byte-at .ensures ∙ bytes-at s i pair)),
+      rw (l .loop .inv .2) (laid-next (now (a .args .out)) 0 (bytesOf s) i i 0 (c .byte-at .result) front within place
+          (c .byte-at .ensures ∙ bytes-at s i pair)),
     )
 
 same-length : tie.Need-same-length Inv-loop μ-loop

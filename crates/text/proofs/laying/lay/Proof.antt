@@ -15,7 +15,8 @@ room-there : (c : tie.Else1) →
     a .args .at + length (now (a .args .text)) ≤ length (now (a .args .out))
 room-there c =
     let a = c .before .before .before .before .before in
-    leb-true (a .args .at + length (now (a .args .text))) (length (now (a .args .out))) (sym (c .before .has-room .ensures) ∙ not-false (c .before .has-room .result) (c .if1 .left))
+    leb-true (a .args .at + length (now (a .args .text))) (length (now (a .args .out)))
+    (sym (c .before .has-room .ensures) ∙ not-false (c .before .has-room .result) (c .if1 .left))
 
 has-room-requires : tie.Need-has-room-requires
 has-room-requires c κs = search needs
@@ -30,7 +31,8 @@ returns : tie.Need-returns
 returns c =
     let room = c .before .before in
     let a = room .before .before .before .before in
-    let short = lay-short (now (a .args .out)) (a .args .at) (now (a .args .text)) _ refl (sym (room .has-room .ensures) ∙ not-true (room .has-room .result) (c .before .if1 .taken)) in
+    let short = lay-short (now (a .args .out)) (a .args .at) (now (a .args .text)) _ refl (sym (room .has-room .ensures)
+    ∙ not-true (room .has-room .result) (c .before .if1 .taken)) in
     (c .refuse .ensures ∙ short .0, short .1)
 
 put-requires : tie.Need-put-requires
@@ -49,7 +51,8 @@ returns-2 c =
     let put = c .before .before in
     let room = put .before .before .before in
     let a = room .before .before .before .before in
-    let done = lay-done (now (a .args .out)) (a .args .at) (now (a .args .text)) _ refl (room-there (put .before .before)) in
+    let done = lay-done (now (a .args .out)) (a .args .at) (now (a .args .text)) _ refl
+    (room-there (put .before .before)) in
     (done .0, put .put .ensures ∙ done .1)
 
 pub lay-spec : {M : Type 1} → statement M

@@ -21,7 +21,8 @@ room-there : (c : tie.Else1) →
 room-there c =
     let room = c .before in
     let a = room .before .before .before .before in
-    leb-true (a .args .at + (room .before .before .decimal-length .result)) (length (now (a .args .out))) (sym (room .has-room .ensures) ∙ not-false (room .has-room .result) (c .if1 .left))
+    leb-true (a .args .at + (room .before .before .decimal-length .result)) (length (now (a .args .out)))
+    (sym (room .has-room .ensures) ∙ not-false (room .has-room .result) (c .if1 .left))
 
 decimal-length-requires : tie.Need-decimal-length-requires
 decimal-length-requires c κs = search needs
@@ -39,7 +40,10 @@ returns : tie.Need-returns
 returns c =
     let room = c .before .before in
     let a = room .before .before .before .before in
-    let short = lay-short (now (a .args .out)) (a .args .at) (decimal (a .args .number)) (room .before .before .decimal-length .result) (room .before .before .decimal-length .ensures ∙ sym (decimal-length (a .args .number))) (sym (room .has-room .ensures) ∙ not-true (room .has-room .result) (c .before .if1 .taken)) in
+    let short = lay-short (now (a .args .out)) (a .args .at) (decimal (a .args .number))
+    (room .before .before .decimal-length .result) (room .before .before .decimal-length .ensures
+    ∙ sym (decimal-length (a .args .number))) (sym (room .has-room .ensures)
+    ∙ not-true (room .has-room .result) (c .before .if1 .taken)) in
     (c .refuse .ensures ∙ short .0, short .1)
 
 put-digits-requires : tie.Need-put-digits-requires
@@ -58,8 +62,11 @@ returns-2 c =
     let put = c .before .before in
     let room = put .before .before .before in
     let a = room .before .before .before .before in
-    let done = lay-done (now (a .args .out)) (a .args .at) (decimal (a .args .number)) (room .before .before .decimal-length .result) (room .before .before .decimal-length .ensures ∙ sym (decimal-length (a .args .number))) (room-there (put .before .before)) in
-    let plain = decimal-digits (a .args .number) (room .before .before .decimal-length .result) (room .before .before .decimal-length .ensures) in
+    let done = lay-done (now (a .args .out)) (a .args .at) (decimal (a .args .number))
+    (room .before .before .decimal-length .result) (room .before .before .decimal-length .ensures
+    ∙ sym (decimal-length (a .args .number))) (room-there (put .before .before)) in
+    let plain = decimal-digits (a .args .number) (room .before .before .decimal-length .result)
+    (room .before .before .decimal-length .ensures) in
     (done .0, put .put-digits .ensures ∙ ap (laid (now (a .args .out)) (a .args .at)) plain ∙ done .1)
 
 pub lay-decimal-spec : {M : Type 1} → statement M

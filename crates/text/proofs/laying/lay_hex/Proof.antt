@@ -20,7 +20,8 @@ room-there : (c : tie.Else1) →
 room-there c =
     let room = c .before in
     let a = room .before .before .before in
-    leb-true (a .args .at + (a .args .count)) (length (now (a .args .out))) (sym (room .has-room .ensures) ∙ not-false (room .has-room .result) (c .if1 .left))
+    leb-true (a .args .at + (a .args .count)) (length (now (a .args .out))) (sym (room .has-room .ensures)
+    ∙ not-false (room .has-room .result) (c .if1 .left))
 
 has-room-requires : tie.Need-has-room-requires
 has-room-requires c κs = search needs
@@ -35,7 +36,9 @@ returns : tie.Need-returns
 returns c =
     let room = c .before .before in
     let a = room .before .before .before in
-    let short = lay-short (now (a .args .out)) (a .args .at) (hexDigits (a .args .count) (a .args .number)) (a .args .count) (sym (digits-length 16 (a .args .count) (a .args .number))) (sym (room .has-room .ensures) ∙ not-true (room .has-room .result) (c .before .if1 .taken)) in
+    let short = lay-short (now (a .args .out)) (a .args .at) (hexDigits (a .args .count) (a .args .number))
+    (a .args .count) (sym (digits-length 16 (a .args .count) (a .args .number))) (sym (room .has-room .ensures)
+    ∙ not-true (room .has-room .result) (c .before .if1 .taken)) in
     (c .refuse .ensures ∙ short .0, short .1)
 
 put-digits-requires : tie.Need-put-digits-requires
@@ -54,7 +57,9 @@ returns-2 c =
     let put = c .before .before in
     let room = put .before .before .before in
     let a = room .before .before .before in
-    let done = lay-done (now (a .args .out)) (a .args .at) (hexDigits (a .args .count) (a .args .number)) (a .args .count) (sym (digits-length 16 (a .args .count) (a .args .number))) (room-there (put .before .before)) in
+    let done = lay-done (now (a .args .out)) (a .args .at) (hexDigits (a .args .count) (a .args .number))
+    (a .args .count) (sym (digits-length 16 (a .args .count) (a .args .number)))
+    (room-there (put .before .before)) in
     (done .0, put .put-digits .ensures ∙ done .1)
 
 pub lay-hex-spec : {M : Type 1} → statement M

@@ -19,7 +19,8 @@ room-there : (c : tie.Else1) →
 room-there c =
     let room = c .before in
     let a = room .before .before .before .before in
-    leb-true (a .args .at + (2 * length (now (a .args .bytes)))) (length (now (a .args .out))) (sym (room .has-room .ensures) ∙ not-false (room .has-room .result) (c .if1 .left))
+    leb-true (a .args .at + (2 * length (now (a .args .bytes)))) (length (now (a .args .out)))
+    (sym (room .has-room .ensures) ∙ not-false (room .has-room .result) (c .if1 .left))
 
 mul-count : tie.Need-mul-count
 mul-count c = search needs
@@ -37,7 +38,9 @@ returns : tie.Need-returns
 returns c =
     let room = c .before .before in
     let a = room .before .before .before .before in
-    let short = lay-short (now (a .args .out)) (a .args .at) (hexOf (now (a .args .bytes))) (2 * length (now (a .args .bytes))) (sym (hex-length (now (a .args .bytes)))) (sym (room .has-room .ensures) ∙ not-true (room .has-room .result) (c .before .if1 .taken)) in
+    let short = lay-short (now (a .args .out)) (a .args .at) (hexOf (now (a .args .bytes)))
+    (2 * length (now (a .args .bytes))) (sym (hex-length (now (a .args .bytes)))) (sym (room .has-room .ensures)
+    ∙ not-true (room .has-room .result) (c .before .if1 .taken)) in
     (c .refuse .ensures ∙ short .0, short .1)
 
 put-hex-bytes-requires : tie.Need-put-hex-bytes-requires
@@ -56,7 +59,9 @@ returns-2 c =
     let put = c .before .before in
     let room = put .before .before .before in
     let a = room .before .before .before .before in
-    let done = lay-done (now (a .args .out)) (a .args .at) (hexOf (now (a .args .bytes))) (2 * length (now (a .args .bytes))) (sym (hex-length (now (a .args .bytes)))) (room-there (put .before .before)) in
+    let done = lay-done (now (a .args .out)) (a .args .at) (hexOf (now (a .args .bytes)))
+    (2 * length (now (a .args .bytes))) (sym (hex-length (now (a .args .bytes))))
+    (room-there (put .before .before)) in
     (done .0, put .put-hex-bytes .ensures ∙ done .1)
 
 pub lay-hex-bytes-spec : {M : Type 1} → statement M

@@ -26,8 +26,10 @@ returns c =
     let a = c .before .before .before .before .before .before .before in
     let size = test .before .size-of .ensures ∙ ap natAbs (toZ-ofZ w32 (a .args .number) (a .fits .number)) in
     let negative = rw (toZ-ofZ w32 (a .args .number) (a .fits .number)) at (test .if1 .taken) in
-    let text = signed-negative (a .args .number) (test .before .size-of .result) size negative in
-    (laid .0 ∙ ap (layAnswer (now (a .args .out)) (a .args .at)) text, laid .1 ∙ ap (layLeaves (now (a .args .out)) (a .args .at)) text)
+    let text = signed-negative (a .args .number) (test .before .size-of .result) size negative in (
+      laid .0 ∙ ap (layAnswer (now (a .args .out)) (a .args .at)) text,
+      laid .1 ∙ ap (layLeaves (now (a .args .out)) (a .args .at)) text,
+    )
 
 lay-decimal-requires : tie.Need-lay-decimal-requires
 lay-decimal-requires c κs = search needs
@@ -42,8 +44,10 @@ returns-2 c =
     let a = c .before .before .before .before .before .before .before in
     let size = test .before .size-of .ensures ∙ ap natAbs (toZ-ofZ w32 (a .args .number) (a .fits .number)) in
     let positive = rw (toZ-ofZ w32 (a .args .number) (a .fits .number)) at (test .if1 .left) in
-    let text = signed-positive (a .args .number) (test .before .size-of .result) size positive in
-    (laid .0 ∙ ap (layAnswer (now (a .args .out)) (a .args .at)) text, laid .1 ∙ ap (layLeaves (now (a .args .out)) (a .args .at)) text)
+    let text = signed-positive (a .args .number) (test .before .size-of .result) size positive in (
+      laid .0 ∙ ap (layAnswer (now (a .args .out)) (a .args .at)) text,
+      laid .1 ∙ ap (layLeaves (now (a .args .out)) (a .args .at)) text,
+    )
 
 pub lay-signed-spec : {M : Type 1} → statement M
 lay-signed-spec =

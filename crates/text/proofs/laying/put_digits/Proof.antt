@@ -1,4 +1,5 @@
--- The loop's invariant: with the digits that are left laid too, the slice is as it is to be. The measure is how many are left.
+-- The loop's invariant: with the digits that are left laid too, the slice is as it is to be. The measure is how many
+-- are left.
 use Prim.Native.Nat.{ℕ, suc, _+_, _-_, _%_, _<_, _≤_}
 use mathlib.Core.Path.{_≡_, refl, ap, _∙_}
 use native.Mathlib.Omega.{arith}
@@ -13,7 +14,9 @@ use Rattle.text.proofs.laying.put_digits.Statement.{statement}
 use Rattle.text.proofs.laying.put_digits.Tie as tie
 
 abbrev Inv-loop : tie.InvT-loop
-Inv-loop out₀ at base count number left₀ rest₀ out left rest = (left ≤ count) × (length out ≡ length out₀) × (laid out at (digits base left rest) ≡ laid out₀ at (digits base count number))
+Inv-loop out₀ at base count number left₀ rest₀ out left rest =
+    (left ≤ count) × (length out ≡ length out₀)
+    × (laid out at (digits base left rest) ≡ laid out₀ at (digits base count number))
 
 abbrev μ-loop : tie.MeasureT-loop
 μ-loop out₀ at base count number left₀ rest₀ out left rest = left
@@ -60,12 +63,15 @@ loop-again c =
     let few = a .pre .1 in
     let below = mod-lt (l .loop .rest) some in
     let small : l .loop .rest % base % 16 ≡ l .loop .rest % base = mod-eq-of-lt (omega arith) in
-    let place : a .args .at + m < length (l .loop .out) = let room = a .pre .2 in let size = l .loop .inv .1 in omega arith in
+    let place : a .args .at + m < length (l .loop .out) = let room = a .pre .2 in let size = l .loop .inv .1 in
+    omega arith in
     let one-more : suc m ≡ l .loop .left = omega arith in
-    let stored = digits-last (l .loop .out) (a .args .at) base m (l .loop .rest) (c .digit .result) (a .args .at + m) (c .digit .ensures ∙ ap digitOf small) refl place in (
+    let stored = digits-last (l .loop .out) (a .args .at) base m (l .loop .rest) (c .digit .result) (a .args .at + m)
+    (c .digit .ensures ∙ ap digitOf small) refl place in (
       omega arith,
       simp length-set (l .loop .inv .1),
-      stored ∙ ap (λ (k : ℕ). laid (l .loop .out) (a .args .at) (digits base k (l .loop .rest))) one-more ∙ l .loop .inv .2,
+      stored ∙ ap (λ (k : ℕ). laid (l .loop .out) (a .args .at) (digits base k (l .loop .rest))) one-more
+          ∙ l .loop .inv .2,
     )
 
 same-length : tie.Need-same-length Inv-loop μ-loop

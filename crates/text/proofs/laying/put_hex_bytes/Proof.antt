@@ -1,4 +1,5 @@
--- The loop's invariant: the digits of the first `i` bytes are laid, and the slice has its length. The measure is what is left.
+-- The loop's invariant: the digits of the first `i` bytes are laid, and the slice has its length. The measure is what
+-- is left.
 use Prim.Native.Nat.{_≤_, _<_, _-_}
 use mathlib.Core.Path.{_≡_, refl, _∙_}
 use native.Mathlib.Omega.{arith}
@@ -13,7 +14,8 @@ use Rattle.text.proofs.laying.put_hex_bytes.Statement.{statement}
 use Rattle.text.proofs.laying.put_hex_bytes.Tie as tie
 
 abbrev Inv-loop : tie.InvT-loop
-Inv-loop out₀ at bytes i₀ out i = (i ≤ length bytes) × (length out ≡ length out₀) × (out ≡ laid out₀ at (hexOf (take i bytes)))
+Inv-loop out₀ at bytes i₀ out i = (i ≤ length bytes) × (length out ≡ length out₀)
+    × (out ≡ laid out₀ at (hexOf (take i bytes)))
 
 abbrev μ-loop : tie.MeasureT-loop
 μ-loop out₀ at bytes i₀ out i = length bytes - i

@@ -22,7 +22,8 @@ room-there : (c : tie.Else2) →
     0 + length (now (a .args .s)) / 2 ≤ length (now (a .args .out))
 room-there c =
     let a = c .before .before .before .before .before .before .before in
-    leb-true (0 + length (now (a .args .s)) / 2) (length (now (a .args .out))) (sym (c .before .has-room .ensures) ∙ not-false (c .before .has-room .result) (c .if2 .left))
+    leb-true (0 + length (now (a .args .s)) / 2) (length (now (a .args .out))) (sym (c .before .has-room .ensures)
+    ∙ not-false (c .before .has-room .result) (c .if2 .left))
 
 all-digits-requires : tie.Need-all-digits-requires
 all-digits-requires c κs = search needs
@@ -34,7 +35,8 @@ returns : tie.Need-returns
 returns c =
     let spelt = c .before .before in
     let a = spelt .before .before .before in
-    let other = decode-other (now (a .args .out)) (now (a .args .s)) (sym (spelt .all-digits .ensures) ∙ not-true (spelt .all-digits .result) (c .before .if1 .taken)) in
+    let other = decode-other (now (a .args .out)) (now (a .args .s)) (sym (spelt .all-digits .ensures)
+    ∙ not-true (spelt .all-digits .result) (c .before .if1 .taken)) in
     (c .refuse .ensures ∙ other .0, other .1)
 
 has-room-requires : tie.Need-has-room-requires
@@ -52,7 +54,8 @@ returns-2 c =
     let head = room .before .before in
     let a = head .before .before .before .before in
     let s = now (a .args .s) in
-    let short = decode-short (now (a .args .out)) s (spelt-all head) (length s / 2) (sym (bytes-half s)) (sym (room .has-room .ensures) ∙ not-true (room .has-room .result) (c .before .if2 .taken)) in
+    let short = decode-short (now (a .args .out)) s (spelt-all head) (length s / 2) (sym (bytes-half s))
+    (sym (room .has-room .ensures) ∙ not-true (room .has-room .result) (c .before .if2 .taken)) in
     (c .refuse2 .ensures ∙ short .0, short .1)
 
 decode-requires : tie.Need-decode-requires
@@ -70,7 +73,8 @@ returns-3 c =
     let head = room .before .before .before in
     let a = head .before .before .before .before in
     let s = now (a .args .s) in
-    let done = decode-done (now (a .args .out)) s (spelt-all head) (length s / 2) (sym (bytes-half s)) (room-there room) in
+    let done = decode-done (now (a .args .out)) s (spelt-all head) (length s / 2) (sym (bytes-half s))
+    (room-there room) in
     (done .0, laid .decode .ensures ∙ done .1)
 
 pub read-bytes-spec : {M : Type 1} → statement M

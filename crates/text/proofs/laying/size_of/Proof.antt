@@ -59,7 +59,10 @@ cast-result-2 : tie.Need-cast-result-2
 cast-result-2 c =
     let z = c .before .args .number in
     let f = c .before .fits .number in
-    rw (wide z f, opposite z (rw (wide z f) at (c .if1 .left)), toZ-ofZ w64 (pos (natAbs z)) (size-fits z f .0)) (tt, size-fits z f .1)
+    rw (wide z f, opposite z (rw (wide z f) at (c .if1 .left)), toZ-ofZ w64 (pos (natAbs z)) (size-fits z f .0)) (
+      tt,
+      size-fits z f .1,
+    )
 
 returns-2 : tie.Need-returns-2
 returns-2 c =

@@ -11,7 +11,8 @@ use Rattle.text.proofs.lines.count_lines.Statement.{statement}
 use Rattle.text.proofs.lines.count_lines.Tie as tie
 
 abbrev Inv-loop : tie.InvT-loop
-Inv-loop s at₀ count₀ at count = (at ≤ length s) × (count ≤ at) × (count + length (linesOf (drop at s)) ≡ length (linesOf s))
+Inv-loop s at₀ count₀ at count = (at ≤ length s) × (count ≤ at)
+    × (count + length (linesOf (drop at s)) ≡ length (linesOf s))
 
 abbrev μ-loop : tie.MeasureT-loop
 μ-loop s at₀ count₀ at count = length s - at
@@ -42,11 +43,16 @@ loop-again c =
     let next = c .line-behind .ensures in
     let on = ends .0 in
     let most = ends .1 in
-    let few = l .loop .inv .1 in
-    (omega arith, omega arith, count-on s (l .loop .at) (c .line-behind .result) (l .loop .count) (c .before .loop-test .taken) next (l .loop .inv .2))
+    let few = l .loop .inv .1 in (
+      omega arith,
+      omega arith,
+      count-on s (l .loop .at) (c .line-behind .result) (l .loop .count)
+          (c .before .loop-test .taken) next (l .loop .inv .2),
+    )
 
 returns : tie.Need-returns Inv-loop μ-loop
-returns c = let l = c .before in count-end (now (l .before .before .args .s)) (l .loop .at) (l .loop .count) (c .loop-test .left) (l .loop .inv .2)
+returns c = let l = c .before in count-end (now (l .before .before .args .s)) (l .loop .at) (l .loop .count)
+    (c .loop-test .left) (l .loop .inv .2)
 
 pub count-lines-spec : {M : Type 1} → statement M
 count-lines-spec =

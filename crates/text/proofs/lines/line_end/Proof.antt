@@ -24,7 +24,8 @@ shared-slice-read-if1 c = search needs
 returns : tie.Need-returns Inv-loop μ-loop
 returns c =
     let l = c .before .before .before in
-    sym (at-here lineFeed (now (l .before .args .s)) (l .loop .i) (c .before .before .loop-test .taken) (c .if1 .taken)) ∙ l .loop .inv
+    sym (at-here lineFeed (now (l .before .args .s)) (l .loop .i) (c .before .before .loop-test .taken) (c .if1 .taken))
+    ∙ l .loop .inv
 
 add-i : tie.Need-add-i Inv-loop μ-loop
 add-i c = search needs
@@ -35,7 +36,8 @@ loop-less c = search needs
 loop-again : tie.Need-loop-again Inv-loop μ-loop
 loop-again c =
     let l = c .before .before .before in
-    sym (at-on lineFeed (now (l .before .args .s)) (l .loop .i) (c .before .before .loop-test .taken) (c .if1 .left)) ∙ l .loop .inv
+    sym (at-on lineFeed (now (l .before .args .s)) (l .loop .i) (c .before .before .loop-test .taken) (c .if1 .left))
+    ∙ l .loop .inv
 
 returns-2 : tie.Need-returns-2 Inv-loop μ-loop
 returns-2 c =

@@ -31,8 +31,13 @@ returns : tie.Need-returns Inv-loop μ-loop
 returns c =
     let l = c .before .before .before .before in
     let base = l .before .before .args .base in
-    let bad : isDigit base (getD (l .before .before .args .s .now) (l .loop .i) 0) ≡ false = ap (λ (v : ℕ). ltb v base) (sym (c .before .value .ensures)) ∙ le-ltb _ _ (c .if1 .taken) in
-    sym (sym (l .loop .inv .1) ∙ rw (all-from (isDigit base) (l .before .before .args .s .now) 0 (l .loop .i) (c .before .before .before .loop-test .taken), bad))
+    let bad : isDigit base (getD (l .before .before .args .s .now) (l .loop .i) 0) ≡ false =
+    ap (λ (v : ℕ). ltb v base) (sym (c .before .value .ensures)) ∙ le-ltb _ _ (c .if1 .taken) in
+    sym (sym (l .loop .inv .1) ∙ rw (
+      all-from (isDigit base) (l .before .before .args .s .now) 0 (l .loop .i)
+          (c .before .before .before .loop-test .taken),
+      bad,
+    ))
 
 add-i : tie.Need-add-i Inv-loop μ-loop
 add-i c = search needs
@@ -44,13 +49,19 @@ loop-again : tie.Need-loop-again Inv-loop μ-loop
 loop-again c =
     let l = c .before .before .before .before in
     let base = l .before .before .args .base in
-    let good : isDigit base (getD (l .before .before .args .s .now) (l .loop .i) 0) ≡ true = ap (λ (v : ℕ). ltb v base) (sym (c .before .value .ensures)) ∙ lt-ltb _ _ (c .if1 .left) in (
+    let good : isDigit base (getD (l .before .before .args .s .now) (l .loop .i) 0) ≡ true =
+    ap (λ (v : ℕ). ltb v base) (sym (c .before .value .ensures)) ∙ lt-ltb _ _ (c .if1 .left) in (
       omega arith,
-      sym (rw (all-from (isDigit base) (l .before .before .args .s .now) 0 (l .loop .i) (c .before .before .before .loop-test .taken), good)) ∙ l .loop .inv .1,
+      sym (rw (
+        all-from (isDigit base) (l .before .before .args .s .now) 0 (l .loop .i)
+            (c .before .before .before .loop-test .taken),
+        good,
+      )) ∙ l .loop .inv .1,
     )
 
 returns-2 : tie.Need-returns-2 Inv-loop μ-loop
-returns-2 c = sym (sym (c .before .loop .inv .1) ∙ all-past (isDigit (c .before .before .before .args .base)) _ _ (c .loop-test .left))
+returns-2 c = sym (sym (c .before .loop .inv .1)
+    ∙ all-past (isDigit (c .before .before .before .args .base)) _ _ (c .loop-test .left))
 
 pub all-digits-spec : {M : Type 1} → statement M
 all-digits-spec =

@@ -17,13 +17,15 @@ returns-2 : tie.Need-returns-2
 returns-2 c =
     let digits = c .before in
     let some = digits .before in
-    plain-other (now (some .before .before .args .s)) (some .if1 .left) (sym (digits .all-digits .ensures) ∙ not-true (digits .all-digits .result) (c .if2 .taken))
+    plain-other (now (some .before .before .args .s)) (some .if1 .left) (sym (digits .all-digits .ensures)
+    ∙ not-true (digits .all-digits .result) (c .if2 .taken))
 
 returns-3 : tie.Need-returns-3
 returns-3 c =
     let digits = c .before .before in
     let some = digits .before in
-    plain-single (now (some .before .before .args .s)) (some .if1 .left) (sym (digits .all-digits .ensures) ∙ not-false (digits .all-digits .result) (c .before .if2 .left)) (c .if3 .taken)
+    plain-single (now (some .before .before .args .s)) (some .if1 .left) (sym (digits .all-digits .ensures)
+    ∙ not-false (digits .all-digits .result) (c .before .if2 .left)) (c .if3 .taken)
 
 shared-slice-read-result : tie.Need-shared-slice-read-result
 shared-slice-read-result c = search needs
@@ -32,7 +34,8 @@ returns-4 : tie.Need-returns-4
 returns-4 c =
     let digits = c .before .before .before in
     let some = digits .before in
-    plain-several (now (some .before .before .args .s)) (some .if1 .left) (sym (digits .all-digits .ensures) ∙ not-false (digits .all-digits .result) (c .before .before .if2 .left)) (c .before .if3 .left)
+    plain-several (now (some .before .before .args .s)) (some .if1 .left) (sym (digits .all-digits .ensures)
+    ∙ not-false (digits .all-digits .result) (c .before .before .if2 .left)) (c .before .if3 .left)
 
 pub is-plain-spec : {M : Type 1} → statement M
 is-plain-spec =

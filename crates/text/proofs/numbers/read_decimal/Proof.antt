@@ -16,13 +16,19 @@ no-number-requires-2 : tie.Need-no-number-requires-2
 no-number-requires-2 c κs = search needs
 
 returns-2 : tie.Need-returns-2
-returns-2 c = c .no-number2 .ensures ∙ rw (le-leb _ _ (c .before .before .if1 .left), lt-leb _ _ (c .before .if2 .taken))
+returns-2 c = c .no-number2 .ensures ∙ rw (
+  le-leb _ _ (c .before .before .if1 .left),
+  lt-leb _ _ (c .before .if2 .taken),
+)
 
 read-number-requires : tie.Need-read-number-requires
 read-number-requires c κs = search needs
 
 returns-3 : tie.Need-returns-3
-returns-3 c = c .read-number .ensures ∙ rw (le-leb _ _ (c .before .before .if1 .left), le-leb _ _ (c .before .if2 .left))
+returns-3 c = c .read-number .ensures ∙ rw (
+  le-leb _ _ (c .before .before .if1 .left),
+  le-leb _ _ (c .before .if2 .left),
+)
 
 pub read-decimal-spec : {M : Type 1} → statement M
 read-decimal-spec =

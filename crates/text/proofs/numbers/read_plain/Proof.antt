@@ -18,7 +18,8 @@ returns : tie.Need-returns
 returns c =
     let plain = c .before .before in
     let a = plain .before .before .args in
-    c .no-number .ensures ∙ plain-none (a .bound) (now (a .s)) (sym (plain .is-plain .ensures) ∙ not-true (plain .is-plain .result) (c .before .if1 .taken))
+    c .no-number .ensures ∙ plain-none (a .bound) (now (a .s)) (sym (plain .is-plain .ensures)
+    ∙ not-true (plain .is-plain .result) (c .before .if1 .taken))
 
 read-number-requires : tie.Need-read-number-requires
 read-number-requires c κs = search needs

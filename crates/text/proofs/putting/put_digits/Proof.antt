@@ -22,7 +22,10 @@ returns c =
     let mark = c .before .before in
     let lay = mark .before .before .before .before in
     let a = lay .before .before .before .args in
-    let done = field-laid (now (a .out)) (a .at) (hexDigits (a .count) (a .number)) (a .mark) (lay .lay-hex .result .next) (lay .lay-hex .last .0) (mark .put-char .result) (mark .put-char .last .0) (ap (λ (w : Written). w .next) (lay .lay-hex .ensures .0)) (lay .lay-hex .ensures .1) (mark .put-char .ensures .0) (mark .put-char .ensures .1) in
+    let done = field-laid (now (a .out)) (a .at) (hexDigits (a .count) (a .number)) (a .mark)
+    (lay .lay-hex .result .next) (lay .lay-hex .last .0) (mark .put-char .result) (mark .put-char .last .0)
+    (ap (λ (w : Written). w .next) (lay .lay-hex .ensures .0)) (lay .lay-hex .ensures .1)
+    (mark .put-char .ensures .0) (mark .put-char .ensures .1) in
     (done .0, done .1)
 
 pub put-digits-spec : {M : Type 1} → statement M

@@ -27,8 +27,12 @@ returns c =
     let digit = mark .before .before .before .before in
     let a = digit .before .before .before .before .args in
     let x = digit .before .flag-digit .result ∷ [] in
-    let done = field-laid (now (a .out)) (a .at) x (a .mark) (digit .put-char .result) (digit .put-char .last .0) (mark .put-char2 .result) (mark .put-char2 .last .0) (digit .put-char .ensures .0) (digit .put-char .ensures .1) (mark .put-char2 .ensures .0) (mark .put-char2 .ensures .1) in
-    let both = subst (λ (y : List ℕ). (mark .put-char2 .result ≡ fieldNext (now (a .out)) (a .at) y (a .mark)) × (mark .put-char2 .last .0 ≡ fieldLeaves (now (a .out)) (a .at) y (a .mark))) (digit .before .flag-digit .ensures) done in
+    let done = field-laid (now (a .out)) (a .at) x (a .mark) (digit .put-char .result) (digit .put-char .last .0)
+    (mark .put-char2 .result) (mark .put-char2 .last .0) (digit .put-char .ensures .0) (digit .put-char .ensures .1)
+    (mark .put-char2 .ensures .0) (mark .put-char2 .ensures .1) in
+    let both = subst (λ (y : List ℕ). (mark .put-char2 .result ≡ fieldNext (now (a .out)) (a .at) y (a .mark))
+    × (mark .put-char2 .last .0 ≡ fieldLeaves (now (a .out)) (a .at) y (a .mark)))
+    (digit .before .flag-digit .ensures) done in
     (both .0, both .1)
 
 pub put-flag-spec : {M : Type 1} → statement M

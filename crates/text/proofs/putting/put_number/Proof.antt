@@ -22,7 +22,10 @@ returns c =
     let mark = c .before .before in
     let lay = mark .before .before .before .before in
     let a = lay .before .before .before .args in
-    let done = field-laid (now (a .out)) (a .at) (decimal (a .number)) (a .mark) (lay .lay-decimal .result .next) (lay .lay-decimal .last .0) (mark .put-char .result) (mark .put-char .last .0) (ap (λ (w : Written). w .next) (lay .lay-decimal .ensures .0)) (lay .lay-decimal .ensures .1) (mark .put-char .ensures .0) (mark .put-char .ensures .1) in
+    let done = field-laid (now (a .out)) (a .at) (decimal (a .number)) (a .mark) (lay .lay-decimal .result .next)
+    (lay .lay-decimal .last .0) (mark .put-char .result) (mark .put-char .last .0)
+    (ap (λ (w : Written). w .next) (lay .lay-decimal .ensures .0)) (lay .lay-decimal .ensures .1)
+    (mark .put-char .ensures .0) (mark .put-char .ensures .1) in
     (done .0, done .1)
 
 pub put-number-spec : {M : Type 1} → statement M

@@ -29,9 +29,13 @@ returns c =
     let lay = mark .before .before .before .before in
     let start = lay .before .before .before in
     let a = start .args in
-    let done = field-laid (now (a .out)) (a .at) (signedDecimal (toZ w32 (ofZ w32 (a .number)))) (a .mark) (lay .lay-signed .result .next) (lay .lay-signed .last .0) (mark .put-char .result) (mark .put-char .last .0) (ap (λ (w : Written). w .next) (lay .lay-signed .ensures .0)) (lay .lay-signed .ensures .1) (mark .put-char .ensures .0) (mark .put-char .ensures .1) in
+    let done = field-laid (now (a .out)) (a .at) (signedDecimal (toZ w32 (ofZ w32 (a .number)))) (a .mark)
+    (lay .lay-signed .result .next) (lay .lay-signed .last .0) (mark .put-char .result) (mark .put-char .last .0)
+    (ap (λ (w : Written). w .next) (lay .lay-signed .ensures .0)) (lay .lay-signed .ensures .1)
+    (mark .put-char .ensures .0) (mark .put-char .ensures .1) in
     let same = ap signedDecimal (toZ-ofZ w32 (a .number) (start .fits .number)) in
-    let both = subst (λ (x : List ℕ). (mark .put-char .result ≡ fieldNext (now (a .out)) (a .at) x (a .mark)) × (mark .put-char .last .0 ≡ fieldLeaves (now (a .out)) (a .at) x (a .mark))) same done in
+    let both = subst (λ (x : List ℕ). (mark .put-char .result ≡ fieldNext (now (a .out)) (a .at) x (a .mark))
+    × (mark .put-char .last .0 ≡ fieldLeaves (now (a .out)) (a .at) x (a .mark))) same done in
     (both .0, both .1)
 
 pub put-signed-spec : {M : Type 1} → statement M

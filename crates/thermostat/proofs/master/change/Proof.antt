@@ -1,4 +1,5 @@
--- Where the reset shows presence the command and the byte are sent; else the answer is 4. Either way the flags are as they were: `flags-left`.
+-- Where the reset shows presence the command and the byte are sent; else the answer is 4. Either way the flags are as
+-- they were: `flags-left`.
 use mathlib.Core.Path.{_≡_, ap, _∙_}
 use Rattle.refusals.specs.Refusals.{accepted, noPresence}
 use Rattle.thermostat.specs.Calls.{statusChanged}
@@ -23,10 +24,18 @@ send-requires-2 c κs = search needs
 returns : tie.Need-returns
 unfolding statusChanged
 returns c =
-    let byte = c .before in let sending = byte .before in let if1 = sending .before in let start = if1 .before .before in
+    let byte = c .before in let sending = byte .before in let if1 = sending .before in let start =
+    if1 .before .before in
     let a = start .before .args in
-    let answer : record { refusal = accepted; probe = c .send2 .result } ≡ statusChanged (a .probe) (a .status) (a .asked)
-    = simp (c .send2 .ensures, byte .changed-status .ensures, sending .send .ensures, ← start .reset .ensures, if1 .if1 .taken) in
+    let answer : record { refusal = accepted; probe = c .send2 .result }
+    ≡ statusChanged (a .probe) (a .status) (a .asked)
+    = simp (
+      c .send2 .ensures,
+      byte .changed-status .ensures,
+      sending .send .ensures,
+      ← start .reset .ensures,
+      if1 .if1 .taken,
+    ) in
     (answer, ap (λ (r : Changed). r .probe .flags) answer ∙ flags-left (a .probe) (a .status) (a .asked))
 
 returns-2 : tie.Need-returns-2
@@ -34,7 +43,8 @@ unfolding statusChanged
 returns-2 c =
     let start = c .before .before in
     let a = start .before .args in
-    let answer : record { refusal = noPresence; probe = start .reset .result .probe } ≡ statusChanged (a .probe) (a .status) (a .asked)
+    let answer : record { refusal = noPresence; probe = start .reset .result .probe }
+    ≡ statusChanged (a .probe) (a .status) (a .asked)
     = simp (← start .reset .ensures, c .if1 .left) in
     (answer, ap (λ (r : Changed). r .probe .flags) answer ∙ flags-left (a .probe) (a .status) (a .asked))
 

@@ -43,9 +43,24 @@ push-requires-8 c κs = search needs
 returns : tie.Need-returns
 unfolding changedStatus
 returns c =
-    let s7 = c .before in let p7 = s7 .before in let s6 = p7 .before in let p6 = s6 .before in let s5 = p6 .before in let p5 = s5 .before in let p4 = p5 .before in let p3 = p4 .before in let p2 = p3 .before in let a = p2 .before .before .args in
-    simp (c .push8 .ensures, s7 .byte-slot3 .ensures, p7 .push7 .ensures, s6 .byte-slot2 .ensures, p6 .push6 .ensures, s5 .byte-slot .ensures, p5 .push5 .ensures, p4 .push4 .ensures, p3 .push3 .ensures, p2 .push2 .ensures, p2 .before .push .ensures)
-    (eight-in (a .asked .oneshot) (a .asked .polarity) (a .asked .mode) true true (bitAt (a .status) 5) (bitAt (a .status) 6) (bitAt (a .status) 7))
+    let s7 = c .before in let p7 = s7 .before in let s6 = p7 .before in let p6 = s6 .before in let s5 = p6 .before in
+    let p5 = s5 .before in let p4 = p5 .before in let p3 = p4 .before in let p2 = p3 .before in let a =
+    p2 .before .before .args in
+    simp (
+      c .push8 .ensures,
+      s7 .byte-slot3 .ensures,
+      p7 .push7 .ensures,
+      s6 .byte-slot2 .ensures,
+      p6 .push6 .ensures,
+      s5 .byte-slot .ensures,
+      p5 .push5 .ensures,
+      p4 .push4 .ensures,
+      p3 .push3 .ensures,
+      p2 .push2 .ensures,
+      p2 .before .push .ensures,
+    )
+    (eight-in (a .asked .oneshot) (a .asked .polarity) (a .asked .mode) true true (bitAt (a .status) 5)
+    (bitAt (a .status) 6) (bitAt (a .status) 7))
 
 pub changed-status-spec : {M : Type 1} → statement M
 changed-status-spec =

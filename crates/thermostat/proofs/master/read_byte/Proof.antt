@@ -1,4 +1,5 @@
--- The loop's invariant: i read slots have been made, and the register holds the number that they showed in its upper i bits. `shifted-on` puts in the next bit.
+-- The loop's invariant: i read slots have been made, and the register holds the number that they showed in its upper i
+-- bits. `shifted-on` puts in the next bit.
 use Prim.Native.Nat.{ℕ, suc, _≤_, _+_, _-_, _*_, _^_}
 use mathlib.Core.Path.{_≡_, _∙_, refl, ap}
 use mathlib.Core.Bool.{true}
@@ -16,7 +17,8 @@ use Rattle.thermostat.proofs.master.read_byte.Statement.{statement}
 use Rattle.thermostat.proofs.master.read_byte.Tie as tie
 
 abbrev Inv-loop : tie.InvT-loop
-Inv-loop p₀ byte₀ i₀ p byte i = (i ≤ 8) × (p ≡ afterReads alone i p₀) × (byte ≡ numberOf (bitsShown alone i p₀) * 2 ^ (8 - i))
+Inv-loop p₀ byte₀ i₀ p byte i = (i ≤ 8) × (p ≡ afterReads alone i p₀)
+    × (byte ≡ numberOf (bitsShown alone i p₀) * 2 ^ (8 - i))
 
 abbrev μ-loop : tie.MeasureT-loop
 μ-loop p₀ byte₀ i₀ p byte i = 8 - i
@@ -47,7 +49,13 @@ loop-again c =
       omega arith,
       rw (slotted1 .slot .ensures, at-loop .loop .inv .1) (reads-more alone i p),
       c .push .ensures
-          ∙ rw (slotted1 .slot .ensures, at-loop .loop .inv .1, at-loop .loop .inv .2, left) (shifted-on i (8 - (i + 1)) (numberOf (bitsShown alone i p)) (probeSlotted (afterReads alone i p) true .line) seven)
+          ∙ rw (
+            slotted1 .slot .ensures,
+            at-loop .loop .inv .1,
+            at-loop .loop .inv .2,
+            left,
+          ) (shifted-on i (8 - (i + 1)) (numberOf (bitsShown alone i p))
+          (probeSlotted (afterReads alone i p) true .line) seven)
           ∙ ap (λ (n : ℕ). n * 2 ^ (8 - (i + 1))) (shown-more alone i p),
     )
 

@@ -16,7 +16,8 @@ read-byte-requires c κs = search needs
 returns : tie.Need-returns
 unfolding statusRead
 returns c =
-    let read = c .before in let sending = read .before in let if1 = sending .before in let start = if1 .before .before in
+    let read = c .before in let sending = read .before in let if1 = sending .before in let start =
+    if1 .before .before in
     simp (read .read-byte .ensures, sending .send .ensures, ← start .reset .ensures, if1 .if1 .taken)
 
 returns-2 : tie.Need-returns-2

@@ -1,4 +1,5 @@
--- The loop's invariant says what is still to come: the bits that are left, sent to the probe as it stands, give the answer.
+-- The loop's invariant says what is still to come: the bits that are left, sent to the probe as it stands, give the
+-- answer.
 use Prim.Native.Nat.{_≤_, _-_}
 use mathlib.Core.Path.{_≡_, _∙_, sym, refl}
 use native.Mathlib.Omega.{arith}
@@ -29,8 +30,13 @@ loop-less c = search needs
 
 loop-again : tie.Need-loop-again Inv-loop μ-loop
 loop-again c =
-    let test = c .before .before in let at-loop = test .before in
-    (omega arith, rw (c .before .slot .ensures, ← bits-turn alone 8 (at-loop .loop .i) _ _ (test .loop-test .taken)) (at-loop .loop .inv .1))
+    let test = c .before .before in let at-loop = test .before in (
+      omega arith,
+      rw (
+        c .before .slot .ensures,
+        ← bits-turn alone 8 (at-loop .loop .i) _ _ (test .loop-test .taken),
+      ) (at-loop .loop .inv .1),
+    )
 
 returns : tie.Need-returns Inv-loop μ-loop
 returns c = sym (bits-end alone 8 (c .before .loop .i) _ _ (c .loop-test .left)) ∙ c .before .loop .inv .1

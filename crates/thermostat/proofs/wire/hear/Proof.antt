@@ -37,13 +37,21 @@ enum-told : tie.Need-enum-told
 enum-told c = search needs
 
 returns-2 : tie.Need-returns-2
-returns-2 c = let shifted = c .before in let stage = shifted .before .before in simp (stage .before .before .if1 .left, stage .stage .given .1, c .hear-command .ensures, shifted .shift-in .ensures)
+returns-2 c = let shifted = c .before in let stage = shifted .before .before in
+    simp (
+      stage .before .before .if1 .left,
+      stage .stage .given .1,
+      c .hear-command .ensures,
+      shifted .shift-in .ensures,
+    )
 
 returns-3 : tie.Need-returns-3
-returns-3 c = let shifted = c .before in let stage = shifted .before .before in simp (stage .before .before .if1 .left, stage .stage2 .given .1, c .hear-byte .ensures, shifted .shift-in2 .ensures)
+returns-3 c = let shifted = c .before in let stage = shifted .before .before in
+    simp (stage .before .before .if1 .left, stage .stage2 .given .1, c .hear-byte .ensures, shifted .shift-in2 .ensures)
 
 returns-4 : tie.Need-returns-4
-returns-4 c = let next = c .before in let stage = next .before .before in simp (stage .before .before .if1 .left, stage .stage3 .given .1, c .with-stage .ensures, next .send-on .ensures)
+returns-4 c = let next = c .before in let stage = next .before .before in
+    simp (stage .before .before .if1 .left, stage .stage3 .given .1, c .with-stage .ensures, next .send-on .ensures)
 
 returns-5 : tie.Need-returns-5
 returns-5 c = simp (c .before .before .if1 .left, c .enum-told .given .1)

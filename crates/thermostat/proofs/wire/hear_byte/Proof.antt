@@ -28,7 +28,11 @@ returns : tie.Need-returns
 returns c = simp (c .before .before .taken .given .1, c .with-stage .ensures)
 
 returns-2 : tie.Need-returns-2
-returns-2 c = let kept = c .before in simp (kept .before .before .taken2 .given .1, kept .store .ensures, c .with-stage2 .ensures)
+returns-2 c = let kept = c .before in simp (
+  kept .before .before .taken2 .given .1,
+  kept .store .ensures,
+  c .with-stage2 .ensures,
+)
 
 returns-3 : tie.Need-returns-3
 returns-3 c = simp (c .before .enum-told .given .1, c .with-stage3 .ensures)

@@ -16,7 +16,13 @@ with-stage-requires : tie.Need-with-stage-requires
 with-stage-requires c κs = search needs
 
 returns : tie.Need-returns
-returns c = let stage = c .before in let running = stage .before in simp (c .with-stage .ensures, stage .stage-after .ensures, running .with-converting .ensures, running .before .runs-after .ensures)
+returns c = let stage = c .before in let running = stage .before in
+    simp (
+      c .with-stage .ensures,
+      stage .stage-after .ensures,
+      running .with-converting .ensures,
+      running .before .runs-after .ensures,
+    )
 
 pub obey-spec : {M : Type 1} → statement M
 obey-spec =

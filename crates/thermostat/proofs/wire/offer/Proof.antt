@@ -25,7 +25,13 @@ enum-told-3 : tie.Need-enum-told-3
 enum-told-3 c = search needs
 
 returns-2 : tie.Need-returns-2
-returns-2 c = let register = c .before in let stage = register .before .before in simp (stage .before .before .if1 .left, stage .stage .given .1, c .byte-slot .ensures, register .register-of .ensures)
+returns-2 c = let register = c .before in let stage = register .before .before in
+    simp (
+      stage .before .before .if1 .left,
+      stage .stage .given .1,
+      c .byte-slot .ensures,
+      register .register-of .ensures,
+    )
 
 returns-3 : tie.Need-returns-3
 returns-3 c = search needs

@@ -56,7 +56,16 @@ returns-7 c = simp (c .send4 .ensures, c .before .match .keys7)
 
 returns-8 : tie.Need-returns-8
 unfolding stageAfter
-returns-8 c = let other = c .match .rest in simp (ne-eqb _ _ (other .0 .0 .0 .0 .0 .0 .1), ne-eqb _ _ (other .0 .0 .0 .0 .0 .1), ne-eqb _ _ (other .0 .0 .0 .0 .1), ne-eqb _ _ (other .0 .0 .0 .1), ne-eqb _ _ (other .0 .0 .1), ne-eqb _ _ (other .0 .1), ne-eqb _ _ (other .1))
+returns-8 c = let other = c .match .rest in
+    simp (
+      ne-eqb _ _ (other .0 .0 .0 .0 .0 .0 .1),
+      ne-eqb _ _ (other .0 .0 .0 .0 .0 .1),
+      ne-eqb _ _ (other .0 .0 .0 .0 .1),
+      ne-eqb _ _ (other .0 .0 .0 .1),
+      ne-eqb _ _ (other .0 .0 .1),
+      ne-eqb _ _ (other .0 .1),
+      ne-eqb _ _ (other .1),
+    )
 
 pub stage-after-spec : {M : Type 1} → statement M
 stage-after-spec =

@@ -27,7 +27,8 @@ returns : tie.Need-returns
 returns c =
     let room = c .before .before in
     let a = room .before .before .before .args in
-    let none = line-refused (now (a .out)) (a .at) (probeLine (a .p)) (sym (room .has-room .ensures) ∙ not-true (room .has-room .result) (c .before .if1 .taken)) in
+    let none = line-refused (now (a .out)) (a .at) (probeLine (a .p)) (sym (room .has-room .ensures)
+    ∙ not-true (room .has-room .result) (c .before .if1 .taken)) in
     let answer = c .no-room .ensures in
     let next : c .no-room .result .next ≡ 0 = ap (λ (v : Written). v .next) answer in
     (answer ∙ none .0, (none .1, omega arith))
@@ -66,10 +67,20 @@ returns-2 c =
     let a = room .before .before .before .args in
     let has = sym (room .has-room .ensures) ∙ not-false (room .has-room .result) (test .if1 .left) in
     let t = held-back (temperature .limit-of .result .0) (record { sfits = told .struct-told .given .0 .1 }) in
-    let h = held-back (high .limit-of2 .result .0) (record { sfits = put .before .before .struct-told2 .given .0 .1 }) in
+    let h = held-back (high .limit-of2 .result .0)
+    (record { sfits = put .before .before .struct-told2 .given .0 .1 }) in
     let l = held-back (low .limit-of3 .result .0) (record { sfits = put .before .struct-told3 .given .0 .1 }) in
-    let laid : Puts (now (a .out)) (a .at) (probeLine (a .p)) (put .put-fields .last .0) (put .put-fields .result) × (length (probeLine (a .p)) ≤ lineRoom)
-    = rw (t, h, l, temperature .limit-of .ensures, high .limit-of2 .ensures, low .limit-of3 .ensures, status .status-of .ensures) at (put .put-fields .ensures) in
+    let laid : Puts (now (a .out)) (a .at) (probeLine (a .p)) (put .put-fields .last .0) (put .put-fields .result)
+    × (length (probeLine (a .p)) ≤ lineRoom)
+    = rw (
+      t,
+      h,
+      l,
+      temperature .limit-of .ensures,
+      high .limit-of2 .ensures,
+      low .limit-of3 .ensures,
+      status .status-of .ensures,
+    ) at (put .put-fields .ensures) in
     let done = line-done (now (a .out)) (a .at) (probeLine (a .p)) has (laid .1) _ _ (laid .0) in
     let behind = laid .0 .puts in
     let room-there = leb-true (a .at + lineRoom) (length (now (a .out))) has in

@@ -23,7 +23,8 @@ abbrev wide : ℤ → ℤ
 wide z = toZ w32 (ofZ w32 (read16 (held16 z)))
 
 -- what is put is the number given
-given : (z : ℤ) → Fits16 z → (d : List ℕ) (at : ℕ) (d' : List ℕ) (r : ℕ) → Puts d at (signedDecimal (wide z) ++ 0x20 ∷ []) d' r → Puts d at (signedDecimal z ++ 0x20 ∷ []) d' r
+given : (z : ℤ) → Fits16 z → (d : List ℕ) (at : ℕ) (d' : List ℕ) (r : ℕ)
+    → Puts d at (signedDecimal (wide z) ++ 0x20 ∷ []) d' r → Puts d at (signedDecimal z ++ 0x20 ∷ []) d' r
 given z f d at d' r p = subst (λ (y : ℤ). Puts d at (signedDecimal y ++ 0x20 ∷ []) d' r) (widened-back z f) p
 
 cast-put-signed : tie.Need-cast-put-signed
@@ -39,7 +40,8 @@ put-signed-requires-2 : tie.Need-put-signed-requires-2
 put-signed-requires-2 c κs = search needs
 
 cast-put-signed-3 : tie.Need-cast-put-signed-3
-cast-put-signed-3 c = widened _ (c .before .before .before .before .before .before .before .before .before .before .fits .low)
+cast-put-signed-3 c = widened
+    _ (c .before .before .before .before .before .before .before .before .before .before .fits .low)
 
 put-signed-requires-3 : tie.Need-put-signed-requires-3
 put-signed-requires-3 c κs = search needs
@@ -71,14 +73,41 @@ returns c =
     let temperature = high .before .before .before .before in
     let start = temperature .before .before .before in
     let a = start .args in (
-      puts-field (signedDecimal (a .temperature)) 0x20 (given (a .temperature) (start .fits .temperature) _ _ _ _ (field-puts (now (a .out)) (a .at) (signedDecimal (wide (a .temperature))) 0x20 (temperature .put-signed .last .0) (temperature .put-signed .result) (temperature .put-signed .ensures .0, temperature .put-signed .ensures .1)))
-          (puts-field (signedDecimal (a .high)) 0x20 (given (a .high) (start .fits .high) _ _ _ _ (field-puts (temperature .put-signed .last .0) (temperature .put-signed .result) (signedDecimal (wide (a .high))) 0x20 (high .put-signed2 .last .0) (high .put-signed2 .result) (high .put-signed2 .ensures .0, high .put-signed2 .ensures .1)))
-          (puts-field (signedDecimal (a .low)) 0x20 (given (a .low) (start .fits .low) _ _ _ _ (field-puts (high .put-signed2 .last .0) (high .put-signed2 .result) (signedDecimal (wide (a .low))) 0x20 (low .put-signed3 .last .0) (low .put-signed3 .result) (low .put-signed3 .ensures .0, low .put-signed3 .ensures .1)))
-          (puts-field (hexDigits 2 (a .status)) 0x20 (field-puts (low .put-signed3 .last .0) (low .put-signed3 .result) (hexDigits 2 (a .status)) 0x20 (status .put-digits .last .0) (status .put-digits .result) (status .put-digits .ensures .0, status .put-digits .ensures .1))
-          (puts-field (flag (a .output)) 0x20 (field-puts (status .put-digits .last .0) (status .put-digits .result) (flag (a .output)) 0x20 (output .put-flag .last .0) (output .put-flag .result) (output .put-flag .ensures .0, output .put-flag .ensures .1))
-          (puts-field (flag (a .converting)) 0x20 (field-puts (output .put-flag .last .0) (output .put-flag .result) (flag (a .converting)) 0x20 (converting .put-flag2 .last .0) (converting .put-flag2 .result) (converting .put-flag2 .ensures .0, converting .put-flag2 .ensures .1))
-          (field-puts (converting .put-flag2 .last .0) (converting .put-flag2 .result) (flag (a .thermostat)) 0x0A (thermostat .put-flag3 .last .0) (thermostat .put-flag3 .result) (thermostat .put-flag3 .ensures .0, thermostat .put-flag3 .ensures .1))))))),
-      fields-short (a .temperature) (a .high) (a .low) (a .status) (a .output) (a .converting) (a .thermostat) (start .fits .temperature) (start .fits .high) (start .fits .low),
+      puts-field (signedDecimal (a .temperature)) 0x20
+          (given (a .temperature) (start .fits .temperature)
+          _ _ _ _ (field-puts (now (a .out)) (a .at) (signedDecimal (wide (a .temperature))) 0x20
+          (temperature .put-signed .last .0) (temperature .put-signed .result)
+          (temperature .put-signed .ensures .0, temperature .put-signed .ensures .1)))
+          (puts-field (signedDecimal (a .high)) 0x20
+          (given (a .high) (start .fits .high) _ _ _ _ (field-puts (temperature .put-signed .last .0)
+          (temperature .put-signed .result) (signedDecimal (wide (a .high))) 0x20 (high .put-signed2 .last .0)
+          (high .put-signed2 .result) (high .put-signed2 .ensures .0, high .put-signed2 .ensures .1)))
+          (puts-field (signedDecimal (a .low)) 0x20
+          (given (a .low) (start .fits .low) _ _ _ _ (field-puts (high .put-signed2 .last .0)
+          (high .put-signed2 .result) (signedDecimal (wide (a .low))) 0x20 (low .put-signed3 .last .0)
+          (low .put-signed3 .result) (low .put-signed3 .ensures .0, low .put-signed3 .ensures .1)))
+          (puts-field (hexDigits 2 (a .status)) 0x20
+          (field-puts (low .put-signed3 .last .0) (low .put-signed3 .result) (hexDigits 2 (a .status)) 0x20
+          (status .put-digits .last .0) (status .put-digits .result) (
+            status .put-digits .ensures .0,
+            status .put-digits .ensures .1,
+          ))
+          (puts-field (flag (a .output)) 0x20 (field-puts (status .put-digits .last .0) (status .put-digits .result)
+          (flag (a .output)) 0x20 (output .put-flag .last .0) (output .put-flag .result)
+          (output .put-flag .ensures .0, output .put-flag .ensures .1))
+          (puts-field (flag (a .converting)) 0x20
+          (field-puts (output .put-flag .last .0) (output .put-flag .result) (flag (a .converting)) 0x20
+          (converting .put-flag2 .last .0) (converting .put-flag2 .result) (
+            converting .put-flag2 .ensures .0,
+            converting .put-flag2 .ensures .1,
+          ))
+          (field-puts (converting .put-flag2 .last .0) (converting .put-flag2 .result) (flag (a .thermostat)) 0x0A
+          (thermostat .put-flag3 .last .0) (thermostat .put-flag3 .result) (
+            thermostat .put-flag3 .ensures .0,
+            thermostat .put-flag3 .ensures .1,
+          ))))))),
+      fields-short (a .temperature) (a .high) (a .low) (a .status) (a .output) (a .converting) (a .thermostat)
+          (start .fits .temperature) (start .fits .high) (start .fits .low),
     )
 
 pub put-fields-spec : {M : Type 1} → statement M

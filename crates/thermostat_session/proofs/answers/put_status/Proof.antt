@@ -25,8 +25,16 @@ returns c =
     let refusal = status .before .before .before .before in
     let start = refusal .before .before .before in
     let a = start .args in (
-      puts-field (decimal (a .refusal)) 0x20 (field-puts (now (a .out)) (a .at) (decimal (a .refusal)) 0x20 (refusal .put-number .last .0) (refusal .put-number .result) (refusal .put-number .ensures .0, refusal .put-number .ensures .1))
-          (field-puts (refusal .put-number .last .0) (refusal .put-number .result) (hexDigits 2 (a .status)) 0x0A (status .put-digits .last .0) (status .put-digits .result) (status .put-digits .ensures .0, status .put-digits .ensures .1)),
+      puts-field (decimal (a .refusal)) 0x20 (field-puts (now (a .out)) (a .at) (decimal (a .refusal)) 0x20
+          (refusal .put-number .last .0) (refusal .put-number .result) (
+            refusal .put-number .ensures .0,
+            refusal .put-number .ensures .1,
+          ))
+          (field-puts (refusal .put-number .last .0) (refusal .put-number .result) (hexDigits 2 (a .status)) 0x0A
+          (status .put-digits .last .0) (status .put-digits .result) (
+            status .put-digits .ensures .0,
+            status .put-digits .ensures .1,
+          )),
       status-short (a .refusal) (a .status) (start .fits .refusal .fits),
     )
 

@@ -48,7 +48,14 @@ returns c =
     let told = arm .before .before .enum-told .given .1 in
     let a = arm .before .before .before .before .before .args in
     let laid = arm .bad-line .ensures in
-    rw told (laid .0, (laid .1, answer-short (now (a .out)) (a .at) badLine (arm .bad-line .result) (laid .0) bad-short))
+    rw told (
+      laid .0,
+      (
+        laid .1,
+        answer-short (now (a .out)) (a .at) badLine (arm .bad-line .result) (laid .0)
+            bad-short,
+      ),
+    )
 
 same-length-2 : tie.Need-same-length-2
 same-length-2 c = search needs
@@ -60,7 +67,14 @@ returns-2 c =
     let known = arm .before .before .before .reply .given in
     let a = arm .before .before .before .before .before .before .args in
     let laid = arm .refusal-line .ensures in
-    rw (known .1) (laid .0, (laid .1, answer-short (now (a .out)) (a .at) (refusalLine _) (arm .refusal-line .result) (laid .0) (refusal-short _ (search needs))))
+    rw (known .1) (
+      laid .0,
+      (
+        laid .1,
+        answer-short (now (a .out)) (a .at) (refusalLine _) (arm .refusal-line .result)
+            (laid .0) (refusal-short _ (search needs)),
+      ),
+    )
 
 same-length-3 : tie.Need-same-length-3
 same-length-3 c = search needs
@@ -72,7 +86,14 @@ returns-3 c =
     let known = arm .before .before .before .reply2 .given in
     let a = arm .before .before .before .before .before .before .args in
     let laid = arm .bit-line .ensures in
-    rw (known .1) (laid .0, (laid .1, answer-short (now (a .out)) (a .at) (bitLine 0 _) (arm .bit-line .result) (laid .0) (bit-short 0 _ (search needs))))
+    rw (known .1) (
+      laid .0,
+      (
+        laid .1,
+        answer-short (now (a .out)) (a .at) (bitLine 0 _) (arm .bit-line .result)
+            (laid .0) (bit-short 0 _ (search needs)),
+      ),
+    )
 
 same-length-4 : tie.Need-same-length-4
 same-length-4 c = search needs

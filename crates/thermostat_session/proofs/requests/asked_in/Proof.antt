@@ -24,7 +24,13 @@ unfolding askedIn
 returns c =
     let tests = c .before .before .before in
     let last = tests .before .before in
-    rw (tests .both2 .ensures, tests .before .both .ensures, last .before .before .bit-in .ensures, last .before .bit-in2 .ensures, last .bit-in3 .ensures)
+    rw (
+      tests .both2 .ensures,
+      tests .before .both .ensures,
+      last .before .before .bit-in .ensures,
+      last .before .bit-in2 .ensures,
+      last .bit-in3 .ensures,
+    )
 
 pub asked-in-spec : {M : Type 1} → statement M
 asked-in-spec =

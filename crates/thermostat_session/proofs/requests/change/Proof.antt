@@ -39,14 +39,30 @@ returns c =
     let a = test .before .before .before in
     let status = a .before .before .before .before in
     let status-is = status .read-fixed .ensures ∙ ap byteIn (status .before .word .ensures) in
-    rw (← status-is, ← a .before .word4 .ensures, ← a .before .before .word3 .ensures, ← a .before .before .before .word2 .ensures, ← a .asked-in .ensures, ← test .before .both .ensures, test .if1 .taken)
+    rw (
+      ← status-is,
+      ← a .before .word4 .ensures,
+      ← a .before .before .word3 .ensures,
+      ← a .before .before .before .word2 .ensures,
+      ← a .asked-in .ensures,
+      ← test .before .both .ensures,
+      test .if1 .taken,
+    )
 
 returns-2 : tie.Need-returns-2
 returns-2 c =
     let a = c .before .before .before in
     let status = a .before .before .before .before in
     let status-is = status .read-fixed .ensures ∙ ap byteIn (status .before .word .ensures) in
-    rw (← status-is, ← a .before .word4 .ensures, ← a .before .before .word3 .ensures, ← a .before .before .before .word2 .ensures, ← a .asked-in .ensures, ← c .before .both .ensures, c .if1 .left)
+    rw (
+      ← status-is,
+      ← a .before .word4 .ensures,
+      ← a .before .before .word3 .ensures,
+      ← a .before .before .before .word2 .ensures,
+      ← a .asked-in .ensures,
+      ← c .before .both .ensures,
+      c .if1 .left,
+    )
 
 pub change-spec : {M : Type 1} → statement M
 change-spec =

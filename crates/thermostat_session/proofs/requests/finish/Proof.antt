@@ -12,10 +12,12 @@ degrees-in-requires : tie.Need-degrees-in-requires
 degrees-in-requires c κs = search needs
 
 returns : tie.Need-returns
-returns c = let read = c .before .before .degrees-in .ensures ∙ ap degreesAsked (c .before .before .before .word .ensures) in rw (← read, c .if1 .taken)
+returns c = let read = c .before .before .degrees-in .ensures
+    ∙ ap degreesAsked (c .before .before .before .word .ensures) in rw (← read, c .if1 .taken)
 
 returns-2 : tie.Need-returns-2
-returns-2 c = let read = c .before .before .degrees-in .ensures ∙ ap degreesAsked (c .before .before .before .word .ensures) in rw (← read, c .if1 .left)
+returns-2 c = let read = c .before .before .degrees-in .ensures
+    ∙ ap degreesAsked (c .before .before .before .word .ensures) in rw (← read, c .if1 .left)
 
 pub finish-spec : {M : Type 1} → statement M
 finish-spec = tie.close (tie.spec word-requires degrees-in-requires returns returns-2)

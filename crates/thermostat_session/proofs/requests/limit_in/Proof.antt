@@ -15,7 +15,11 @@ both-requires c κs = search needs
 
 returns : tie.Need-returns
 unfolding limitIn
-returns c = rw (c .both .ensures, c .before .before .limit-byte-of .ensures, c .before .before .before .before .degrees-in .ensures)
+returns c = rw (
+  c .both .ensures,
+  c .before .before .limit-byte-of .ensures,
+  c .before .before .before .before .degrees-in .ensures,
+)
 
 pub limit-in-spec : {M : Type 1} → statement M
 limit-in-spec =

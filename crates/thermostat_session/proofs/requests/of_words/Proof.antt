@@ -1,6 +1,7 @@
 -- Row by row: where a row asks, its own request is given; behind the last, none has asked.
 use mathlib.Core.Path.{sym, _∙_}
-use Rattle.thermostat_session.specs.ProbeRequestsLaws.{row-start, row-reset, row-slot, row-finish, row-cycle, row-status, row-change, row-show, no-row}
+use Rattle.thermostat_session.specs.ProbeRequestsLaws.{row-start, row-reset, row-slot, row-finish, row-cycle}
+use Rattle.thermostat_session.specs.ProbeRequestsLaws.{row-status, row-change, row-show, no-row}
 use borrow.Author.Needs.{needs}
 use Rattle.thermostat_session.proofs.requests.of_words.Statement.{statement}
 use Rattle.thermostat_session.proofs.requests.of_words.Tie as tie

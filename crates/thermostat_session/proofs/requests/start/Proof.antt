@@ -42,7 +42,17 @@ returns c =
     let high = low .before .before in
     let high-is = high .limit-in .ensures ∙ ap limitIn (high .before .word .ensures) in
     let low-is = low .limit-in2 .ensures ∙ ap limitIn (low .before .word2 .ensures) in
-    rw (← high-is, ← low-is, ← a .before .word5 .ensures, ← a .before .before .word4 .ensures, ← a .before .before .before .word3 .ensures, ← a .asked-in .ensures, ← c .before .before .both .ensures, ← c .before .both2 .ensures, c .if1 .taken)
+    rw (
+      ← high-is,
+      ← low-is,
+      ← a .before .word5 .ensures,
+      ← a .before .before .word4 .ensures,
+      ← a .before .before .before .word3 .ensures,
+      ← a .asked-in .ensures,
+      ← c .before .before .both .ensures,
+      ← c .before .both2 .ensures,
+      c .if1 .taken,
+    )
 
 returns-2 : tie.Need-returns-2
 returns-2 c =
@@ -51,7 +61,17 @@ returns-2 c =
     let high = low .before .before in
     let high-is = high .limit-in .ensures ∙ ap limitIn (high .before .word .ensures) in
     let low-is = low .limit-in2 .ensures ∙ ap limitIn (low .before .word2 .ensures) in
-    rw (← high-is, ← low-is, ← a .before .word5 .ensures, ← a .before .before .word4 .ensures, ← a .before .before .before .word3 .ensures, ← a .asked-in .ensures, ← c .before .before .both .ensures, ← c .before .both2 .ensures, c .if1 .left)
+    rw (
+      ← high-is,
+      ← low-is,
+      ← a .before .word5 .ensures,
+      ← a .before .before .word4 .ensures,
+      ← a .before .before .before .word3 .ensures,
+      ← a .asked-in .ensures,
+      ← c .before .before .both .ensures,
+      ← c .before .both2 .ensures,
+      c .if1 .left,
+    )
 
 pub start-spec : {M : Type 1} → statement M
 start-spec =

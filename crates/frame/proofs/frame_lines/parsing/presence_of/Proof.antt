@@ -29,7 +29,8 @@ returns c =
     let a = c .before .before .before in
     let cs = now (a .args .line) in
     let size : length (take 2 cs) ≡ 2 = let l = a .pre .0 in length-take-le 2 cs (omega arith) in
-    ap (λ (r : NumberRead). r .number) (c .read-fixed .ensures ∙ fixed-hex 2 (take 2 cs) size (omega arith) (all-take (isDigit 16) 2 cs (a .pre .1)))
+    ap (λ (r : NumberRead). r .number) (c .read-fixed .ensures
+    ∙ fixed-hex 2 (take 2 cs) size (omega arith) (all-take (isDigit 16) 2 cs (a .pre .1)))
 
 pub presence-of-spec : {M : Type 1} → statement M
 presence-of-spec =

@@ -26,20 +26,24 @@ shown c = c .presence-of .ensures
 -- what the test of the count says of the digits
 allowed : (c : tie.After-count-allowed)
     → c .count-allowed .result
-    ≡ countAllowed (eqb (presenceIn (now (c .before .before .before .before .before .before .args .line))) 1) (slotCountIn (now (c .before .before .before .before .before .before .args .line)))
+    ≡ countAllowed (eqb (presenceIn (now (c .before .before .before .before .before .before .args .line))) 1)
+    (slotCountIn (now (c .before .before .before .before .before .before .args .line)))
 allowed c = rw (← shown (c .before .before .before), ← c .before .count-of .ensures) (c .count-allowed .ensures)
 
 -- an allowed count is at most 512
-small : (c : tie.Else3) → slotCountIn (now (c .before .before .before .before .before .before .before .args .line)) ≤ 512
+small : (c : tie.Else3) → slotCountIn
+    (now (c .before .before .before .before .before .before .before .args .line)) ≤ 512
 small c =
     let cs = now (c .before .before .before .before .before .before .before .args .line) in
     let e = sym (allowed (c .before)) ∙ not-false (c .before .count-allowed .result) (c .if3 .left) in
-    leb-true (slotCountIn cs) 512 (and-left (leb (slotCountIn cs) 512) (eqb (presenceIn cs) 1 || eqb (slotCountIn cs) 0) e)
+    leb-true (slotCountIn cs) 512 (and-left (leb (slotCountIn cs) 512) (eqb (presenceIn cs) 1
+    || eqb (slotCountIn cs) 0) e)
 
 -- the length is that of the count
 long : (c : tie.Else4)
     → length (now (c .before .before .before .before .before .before .before .before .before .args .line))
-    ≡ 6 + 2 * bytesFor (slotCountIn (now (c .before .before .before .before .before .before .before .before .before .args .line)))
+    ≡ 6 + 2 * bytesFor (slotCountIn
+    (now (c .before .before .before .before .before .before .before .before .before .args .line)))
 long c = rw (← c .before .before .before .before .count-of .ensures, ← c .before .bytes-for .ensures) (c .if4 .left)
 
 -- all that stands behind the head
@@ -52,7 +56,8 @@ refuse-requires c κs = search needs
 returns : tie.Need-returns
 returns c =
     let a = c .before .before .before .args in
-    c .refuse .ensures ∙ ap (λ (r : LineContent). lineAnswerOf (found r (a .next))) (sym (wrong-length (now (a .line)) (λ e. let h = c .before .if1 .taken in omega arith)))
+    c .refuse .ensures ∙ ap (λ (r : LineContent). lineAnswerOf (found r (a .next)))
+    (sym (wrong-length (now (a .line)) (λ e. let h = c .before .if1 .taken in omega arith)))
 
 presence-of-requires : tie.Need-presence-of-requires
 presence-of-requires c κs = search needs
@@ -65,7 +70,8 @@ returns-2 c =
     let a = c .before .before .before .before .before .args in
     let h = c .before .if2 .taken in
     let e = shown (c .before .before) in
-    c .refuse2 .ensures ∙ ap (λ (r : LineContent). lineAnswerOf (found r (a .next))) (sym (wrong-presence (now (a .line)) (rw (← e) h)))
+    c .refuse2 .ensures ∙ ap (λ (r : LineContent). lineAnswerOf (found r (a .next)))
+    (sym (wrong-presence (now (a .line)) (rw (← e) h)))
 
 count-of-requires : tie.Need-count-of-requires
 count-of-requires c κs = search needs
@@ -81,7 +87,8 @@ returns-3 c =
     let k = c .before .before in
     let a = k .before .before .before .before .before .before .args in
     let e = sym (allowed k) ∙ not-true (k .count-allowed .result) (c .before .if3 .taken) in
-    c .refuse3 .ensures ∙ ap (λ (r : LineContent). lineAnswerOf (found r (a .next))) (sym (wrong-count (now (a .line)) e))
+    c .refuse3 .ensures ∙ ap (λ (r : LineContent). lineAnswerOf (found r (a .next)))
+    (sym (wrong-count (now (a .line)) e))
 
 bytes-for-requires : tie.Need-bytes-for-requires
 bytes-for-requires c κs = search needs
@@ -101,7 +108,8 @@ returns-4 c =
     let a = k .before .before .before .before .before .before .args in
     let e = c .before .before .bytes-for .ensures in
     let f = k .before .count-of .ensures in
-    c .refuse4 .ensures ∙ ap (λ (r : LineContent). lineAnswerOf (found r (a .next))) (sym (wrong-length (now (a .line)) (rw (← f, ← e) (c .before .if4 .taken))))
+    c .refuse4 .ensures ∙ ap (λ (r : LineContent). lineAnswerOf (found r (a .next)))
+    (sym (wrong-length (now (a .line)) (rw (← f, ← e) (c .before .if4 .taken))))
 
 sub-read-slots : tie.Need-sub-read-slots
 sub-read-slots c = search needs
@@ -133,7 +141,9 @@ returns-5 c =
     let one : presenceIn cs ≤ 1 = rw (← shown b) (k .before .before .if2 .left) in
     let fine = sym (allowed k) ∙ not-false (k .count-allowed .result) (c .before .before .before .before .if3 .left) in
     c .read-slots .ensures
-    ∙ rw (rest cs, shown b, k .before .count-of .ensures) (ap (λ (r : LineContent). lineAnswerOf (found r (a .args .next))) (sym (right-head cs one fine (long (c .before .before)))))
+    ∙ rw (rest cs, shown b, k .before .count-of .ensures)
+    (ap (λ (r : LineContent). lineAnswerOf (found r (a .args .next)))
+    (sym (right-head cs one fine (long (c .before .before)))))
 
 pub read-digits-spec : {M : Type 1} → statement M
 read-digits-spec =

@@ -25,7 +25,8 @@ few : (c : tie.Start) → length (bytesOf (now (c .args .body))) ≤ 64
 few c = let m = many c in let p = c .pre .0 in omega arith
 
 -- what the array holds once the digits are decoded
-filled : (c : tie.After-read-bytes) → c .read-bytes .last .0 ≡ laid noBits 0 (bytesOf (now (c .before .before .before .before .args .body)))
+filled : (c : tie.After-read-bytes) → c .read-bytes .last .0
+    ≡ laid noBits 0 (bytesOf (now (c .before .before .before .before .args .body)))
 unfolding noBits
 filled c =
     let a = c .before .before .before .before in
@@ -68,7 +69,8 @@ part-clear-from-end c =
     let bytes = c .before .before in
     let a = bytes .before .before .before .before in
     let within : bytes .before .before .bytes-for .result ≤ length (bytes .read-bytes .last .0) =
-    let size : length (bytes .read-bytes .last .0) ≡ 64 = ap length (filled bytes) ∙ pad-length (bytesOf (now (a .args .body))) (few a) in
+    let size : length (bytes .read-bytes .last .0) ≡ 64 =
+    ap length (filled bytes) ∙ pad-length (bytesOf (now (a .args .body))) (few a) in
     let m = many a in let f = few a in let e = bytes .before .before .bytes-for .ensures in omega arith in
     within
 
@@ -82,7 +84,8 @@ returns : tie.Need-returns
 returns c =
     let test = c .before .before in
     let a = test .before .before .before .before .before .before .before .before .args in
-    let spare = slots-spare (a .presence) (a .count) (now (a .body)) (sym (seen test) ∙ not-true (test .clear-from .result) (c .before .if1 .taken)) in
+    let spare = slots-spare (a .presence) (a .count) (now (a .body)) (sym (seen test)
+    ∙ not-true (test .clear-from .result) (c .before .if1 .taken)) in
     c .refuse .ensures ∙ ap (λ (r : LineContent). lineAnswerOf (found r (a .next))) (sym spare)
 
 returns-2 : tie.Need-returns-2
@@ -90,7 +93,11 @@ returns-2 c =
     let test = c .before in
     let bytes = test .before .before .before .before in
     let a = bytes .before .before .before .before .args in
-    rw (slots-clear (a .presence) (a .count) (now (a .body)) (sym (seen test) ∙ not-false (test .clear-from .result) (c .if1 .left)), ← filled bytes)
+    rw (
+      slots-clear (a .presence) (a .count) (now (a .body)) (sym (seen test)
+          ∙ not-false (test .clear-from .result) (c .if1 .left)),
+      ← filled bytes,
+    )
 
 pub read-slots-spec : {M : Type 1} → statement M
 read-slots-spec =
