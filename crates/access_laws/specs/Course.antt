@@ -31,6 +31,7 @@ use Rattle.device.specs.Offer.{offerOf}
 use Rattle.device.specs.Outcomes.{hear-outcome}
 use Rattle.device.specs.Power.{resetOf}
 use Rattle.device.specs.Record.{withStage, rowOf, busy}
+use Rattle.device.specs.Stages.{awaitsFunction}
 use Rattle.device.specs.declared.Device.{Device}
 use Rattle.device.specs.declared.Stage.{Stage}
 use Rattle.device.specs.declared.Stage.the-variants.{AwaitRom, SendRom, Match, Search, AwaitFunction, TakeSettings}
@@ -62,18 +63,6 @@ hears-end E [] d h = h
 hears-end E (x ∷ bits) d h = hears-end E bits (hearOf d x) (h .2)
 
 -- ## Calm
-
-abbrev awaitsFunction : Stage → Bool
-awaitsFunction (AwaitRom s n) = false
-awaitsFunction (SendRom i) = false
-awaitsFunction (Match i) = false
-awaitsFunction (Search i p) = false
-awaitsFunction (AwaitFunction s n) = true
-awaitsFunction (TakeSettings k s n) = false
-awaitsFunction (SendScratchpad k j) = false
-awaitsFunction SendStatus = false
-awaitsFunction SendPower = false
-awaitsFunction Quiet = false
 
 -- away from function commands every bit is heard calmly
 pub calm : (x : Bool) (d : Device) (s : Stage) → d .stage ≡ s → awaitsFunction s ≡ false → Calm x d

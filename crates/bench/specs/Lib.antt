@@ -4,8 +4,6 @@ pub mod Bench
 pub mod BenchLaws
 pub mod Slot
 pub mod Calls
-pub mod Still
-pub mod StillLaws
 pub mod Laws
 pub mod Everywhere
 pub mod Sound

@@ -9,7 +9,6 @@ ghost use mathlib.Core.Path.{_≡_};
 ghost use Rattle.device.specs.Offer.{offerOf};
 ghost use Rattle.bench.specs.Bench.{vacant, emptyBench, placeOf, free};
 ghost use Rattle.bench.specs.Slot.{slotted, resetDone};
-ghost use Rattle.bench.specs.Still.{stillAt};
 ghost use Rattle.bench.specs.Calls.{putLast, addedTo, deviceAt, putBack, conversionFinished, copyFinished};
 ghost use Rattle.bench.specs.Calls.{powerCycled, looked};
 use crate::wire::Devices;
@@ -17,10 +16,10 @@ use device::Device;
 use device::Ended;
 use device::Joining;
 use device::Power;
-use device::Stage;
 use device::hearing;
 use device::offer;
 use device::power_and_finishes;
+use device::stages;
 use temperature::Sixteenths;
 
 pub struct Bench {
@@ -111,28 +110,6 @@ pub fn is_free(bench: Bench) -> bool
     wire::is_free(devices, bench.count)
 }
 
-// Whether a slot leaves a device in this stage as it is.
-fn is_still(stage: Stage) -> bool
-    ensures answer { λ r. ⌜ r ≡ stillAt stage ⌝ }
-{
-    match stage {
-        Stage::AwaitRom { shift: _, count: _ } => false,
-        Stage::SendRom(_) => false,
-        Stage::Match(_) => false,
-        Stage::Search { bit: _, phase: _ } => false,
-        Stage::AwaitFunction { shift: _, count: _ } => false,
-        Stage::TakeSettings {
-            place: _,
-            shift: _,
-            count: _,
-        } => false,
-        Stage::SendScratchpad { byte: _, bit: _ } => false,
-        Stage::SendStatus => true,
-        Stage::SendPower => true,
-        Stage::Quiet => true,
-    }
-}
-
 // The line with one device more on it. A line that shows 0 stays at 0.
 fn line_with(line: bool, d: Device) -> bool
     ensures answer { λ r. ⌜ r ≡ (line && offerOf d) ⌝ }
@@ -168,7 +145,7 @@ pub fn slot(bench: Bench, bit: bool) -> Slotted
     while j < taken {
         let d = next[j];
         let stage = d.stage;
-        if !is_still(stage) {
+        if !stages::is_still(stage) {
             next[j] = hearing::hear(d, line);
         }
         j += 1;

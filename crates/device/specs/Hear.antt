@@ -8,7 +8,8 @@
 --     functionCommand d c        the device after function command c
 --     storeSetting d k b         the device with byte b stored as its setting k, and what follows
 --     hearRom, hearFunction, hearSettings d taken
---                                the device that awaits a ROM command, a function command or a byte of 4Eh, by what it holds of the byte
+--                                the device that awaits a ROM command, a function command or a byte of 4Eh, by what
+--                                it holds of the byte
 --     hearOf d l                 the device after a slot in which the line showed l
 use Prim.Native.Nat.{ℕ, _+_}
 use mathlib.Core.Bool.{Bool, not, Bool·beq, _&&_}

@@ -4,6 +4,8 @@ pub mod SettingsLaws
 pub mod Offer
 pub mod OfferLaws
 pub mod Hear
+pub mod Stages
+pub mod StillLaws
 pub mod Power
 pub mod Finish
 pub mod Outcomes

@@ -5,6 +5,7 @@ pub mod hearing;
 pub mod offer;
 pub mod power_and_finishes;
 pub mod rom_commands;
+pub mod stages;
 
 ghost use mathlib.Core.Path.{_≡_};
 ghost use Rattle.device.specs.Record.{withStage, withActivity, withScratchpad, withEeprom, withAlarm, withPage};

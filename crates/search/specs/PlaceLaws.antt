@@ -30,7 +30,8 @@ use Rattle.bench.specs.declared.Bench.{Bench}
 use Rattle.bench.specs.declared.Slotted.{Slotted}
 use Rattle.bench.specs.Laws.{heard-live}
 use Rattle.search.specs.Place.{chosen, placed}
-use Rattle.search.specs.Standing.{quietAt, firstOf, startsAt, fits, oneAt, zeroSentAt, settledOf, surveyStart}
+use Rattle.device.specs.Stages.{quietAt, firstOf, startsAt}
+use Rattle.search.specs.Standing.{fits, oneAt, zeroSentAt, settledOf, surveyStart}
 use Rattle.search.specs.Standing.{surveyedWith}
 use Rattle.search.specs.declared.place.Placed.{Placed}
 use Rattle.search.specs.declared.place.Survey.{Survey}

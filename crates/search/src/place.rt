@@ -6,16 +6,14 @@ ghost use lib.ListN.{take};
 ghost use Rattle.basic_laws.specs.Fold.{fold};
 ghost use Rattle.basic_laws.specs.Front.{mapFront};
 ghost use Rattle.search.specs.Place.{chosen, placed};
-ghost use Rattle.search.specs.Standing.{quietAt, firstOf, startsAt, surveyStart, surveyedWith, settledOf};
+ghost use Rattle.search.specs.Standing.{surveyStart, surveyedWith, settledOf};
 use bench::Bench;
 use bench::wire;
 use bench::wire::Devices;
 use device::Device;
 use device::Phase;
-use device::Stage;
 use device::rom_commands;
-
-const CODE_BITS: u8 = 64;
+use device::stages;
 
 // What the slots gave: what the two reads showed, the bit taken, what the line showed then, and the bench
 // after them. Where both reads showed 1 nobody answers, and there is no third slot.
@@ -41,68 +39,13 @@ fn both(a: bool, b: bool) -> bool
     a && b
 }
 
-fn is_quiet(stage: Stage) -> bool
-    ensures answer { λ r. ⌜ r ≡ quietAt stage ⌝ }
-{
-    match stage {
-        Stage::AwaitRom { shift: _, count: _ } => false,
-        Stage::SendRom(_) => false,
-        Stage::Match(_) => false,
-        Stage::Search { bit: _, phase: _ } => false,
-        Stage::AwaitFunction { shift: _, count: _ } => false,
-        Stage::TakeSettings {
-            place: _,
-            shift: _,
-            count: _,
-        } => false,
-        Stage::SendScratchpad { byte: _, bit: _ } => false,
-        Stage::SendStatus => false,
-        Stage::SendPower => false,
-        Stage::Quiet => true,
-    }
-}
-
-fn is_first(phase: Phase) -> bool
-    ensures answer { λ r. ⌜ r ≡ firstOf phase ⌝ }
-{
-    match phase {
-        Phase::SendBit => true,
-        Phase::SendComplement => false,
-        Phase::TakeBit => false,
-    }
-}
-
-fn starts_at(stage: Stage, place: u8) -> bool
-    ensures answer { λ r. ⌜ r ≡ startsAt place stage ⌝ }
-{
-    match stage {
-        Stage::AwaitRom { shift: _, count: _ } => false,
-        Stage::SendRom(_) => false,
-        Stage::Match(_) => false,
-        Stage::Search { bit, phase } => both(
-            is_first(phase),
-            both(bit == place, place < CODE_BITS),
-        ),
-        Stage::AwaitFunction { shift: _, count: _ } => false,
-        Stage::TakeSettings {
-            place: _,
-            shift: _,
-            count: _,
-        } => false,
-        Stage::SendScratchpad { byte: _, bit: _ } => false,
-        Stage::SendStatus => false,
-        Stage::SendPower => false,
-        Stage::Quiet => false,
-    }
-}
-
 // The survey with one device more.
 fn survey_with(s: Survey, d: Device, place: u8) -> Survey
     ensures answer { λ r. ⌜ r ≡ surveyedWith place s d ⌝ }
 {
     let stage = d.stage;
     let held = device::holds_wire(d);
-    if is_quiet(stage) {
+    if stages::is_quiet(stage) {
         return Survey {
             fits: both(s.fits, !held),
             ones: s.ones,
@@ -111,7 +54,7 @@ fn survey_with(s: Survey, d: Device, place: u8) -> Survey
     }
     let own = rom::bit_of(d.code, place);
     Survey {
-        fits: both(s.fits, both(!held, starts_at(stage, place))),
+        fits: both(s.fits, both(!held, stages::starts_at(stage, place))),
         ones: both(s.ones, own),
         zeros: both(s.zeros, !own),
     }
@@ -139,7 +82,7 @@ fn settled(d: Device, place: u8, bit: bool) -> Device
     ensures answer { λ r. ⌜ r ≡ settledOf place bit d ⌝ }
 {
     let stage = d.stage;
-    if is_quiet(stage) {
+    if stages::is_quiet(stage) {
         return d;
     }
     device::with_stage(
@@ -158,7 +101,7 @@ fn settle(devices: Devices, count: u8, place: u8, bit: bool) -> Devices
     while i < taken {
         let d = next[i];
         let stage = d.stage;
-        if !is_quiet(stage) {
+        if !stages::is_quiet(stage) {
             next[i] = settled(d, place, bit);
         }
         i += 1;

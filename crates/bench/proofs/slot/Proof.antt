@@ -19,7 +19,7 @@ use Rattle.device.specs.Record.{holdsWire}
 use Rattle.bench.specs.Taken.{taken-most, front-most, front-kept}
 use Rattle.bench.specs.Bench.{free}
 use Rattle.bench.specs.Slot.{lineBit, heard, slotted}
-use Rattle.bench.specs.StillLaws.{still-stays}
+use Rattle.device.specs.StillLaws.{still-stays}
 use Rattle.bench.proofs.slot.Statement.{statement}
 use Rattle.bench.proofs.slot.Tie as tie
 

@@ -1,12 +1,12 @@
 -- A device in a still stage stays as it is, stage by stage.
 use mathlib.Core.Path.{_≡_, refl}
 use mathlib.Core.Bool.{Bool, false, not, true≢false}
 use Rattle.device.specs.Hear.{hearAt, hearOf}
 use Rattle.device.specs.declared.Device.{Device}
 use Rattle.device.specs.declared.Stage.{Stage}
 use Rattle.device.specs.declared.Stage.the-variants.{AwaitRom, SendRom, Match, Search, AwaitFunction, TakeSettings}
 use Rattle.device.specs.declared.Stage.the-variants.{SendScratchpad, SendStatus, SendPower, Quiet}
-use Rattle.bench.specs.Still.{stillAt}
+use Rattle.device.specs.Stages.{stillAt}
 
 pub still-stays : (l : Bool) (d : Device) → not (stillAt (d .stage)) ≡ false → hearOf d l ≡ d
 unfolding hearOf

@@ -1,7 +1,7 @@
 -- Each stage by itself; of a search, its place and its phase.
 use borrow.Author.Needs.{needs}
-use Rattle.search.proofs.place.starts_at.Statement.{statement}
-use Rattle.search.proofs.place.starts_at.Tie as tie
+use Rattle.device.proofs.stages.starts_at.Statement.{statement}
+use Rattle.device.proofs.stages.starts_at.Tie as tie
 
 enum-told : tie.Need-enum-told
 enum-told c = search needs
