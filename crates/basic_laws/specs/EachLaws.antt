@@ -10,8 +10,9 @@ use mathlib.Core.Bool.{Bool, true, false}
 use mathlib.Core.Path.{_≡_, refl, ap, _∙_}
 use mathlib.Core.Logic.{_≢_}
 use native.Mathlib.Omega.{arith}
-use Prim.Native.Nat.{ℕ, zero, suc, _<_}
-use lib.ListN.{length, getD, set}
+use native.Mathlib.Numerals.{add-one}
+use Prim.Native.Nat.{ℕ, zero, suc, _+_, _<_}
+use lib.ListN.{length, getD, set, take}
 
 pub each-implies : {A : Type 0} {P Q : A → Type 0} → ((x : A) → P x → Q x) → (l : List A) → Each P l → Each Q l
 each-implies f [] h = tt
@@ -59,6 +60,23 @@ pub each-at : {A : Type 0} (P : A → Type 0) (l : List A) (i : ℕ) (z : A) →
 each-at P [] i z h e = absurd (omega arith)
 each-at P (x ∷ l) zero z h e = e .0
 each-at P (x ∷ l) (suc i) z h e = each-at P l i z (omega arith) (e .1)
+
+-- One element more.
+each-next : {A : Type 0} (P : A → Type 0) (l : List A) (i : ℕ) (z : A) → (i < length l → P (getD l i z))
+    → Each P (take i l) → Each P (take (suc i) l)
+each-next P [] i z h e = tt
+each-next P (x ∷ l) zero z h e = (h (omega arith), tt)
+each-next P (x ∷ l) (suc i) z h e = (e .0, each-next P l i z (λ k. h (omega arith)) (e .1))
+
+pub each-more : {A : Type 0} (P : A → Type 0) (l : List A) (i : ℕ) (z : A) → (i < length l → P (getD l i z))
+    → Each P (take i l) → Each P (take (i + 1) l)
+each-more P l i z h e = rw (add-one i) (each-next P l i z h e)
+
+-- A test that all pass picks all.
+pub those-all : {A : Type 0} (p : A → Bool) → ((x : A) → p x ≡ true) → (l : List A) → those p l ≡ l
+unfolding those
+those-all p h [] = refl
+those-all p h (x ∷ l) = let i = those-all p h l in rw (h x, i)
 
 -- Two tests that agree on each element pick the same.
 pub those-same : {A : Type 0} (p q : A → Bool) (l : List A) → Each (λ x. p x ≡ q x) l → those p l ≡ those q l

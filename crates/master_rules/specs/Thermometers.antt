@@ -20,7 +20,8 @@ use Rattle.basic_laws.specs.BitsLaws.{bits-at}
 use Rattle.commands.specs.Commands.{searchRom, alarmSearch}
 use Rattle.search_laws.specs.Codes.{Code}
 use Rattle.search_laws.specs.Searchers.{Model, Takes, Searchers, participants}
-use Rattle.search_laws.specs.SearchersLaws.{participants-those, those-all}
+use Rattle.basic_laws.specs.EachLaws.{those-all}
+use Rattle.search_laws.specs.SearchersLaws.{participants-those}
 use Rattle.basic_laws.specs.Each.{those}
 use Rattle.search_laws.specs.Keeps.{Keeps}
 use Rattle.device.specs.Hear.{awaitFunction, afterBit, hearOf}

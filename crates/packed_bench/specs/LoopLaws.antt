@@ -1,6 +1,5 @@
 -- Turns of the loops over entries, on plain values.
 --     copy-more                      a copy of the front of a list, one element longer
---     each-more                      what holds of the front of a list, one element further
 --     entry-there, entry-none        the entry of one place
 --     table-turn, table-end          writing, entry by entry
 --     read-turn, read-stop, read-end, vacant-turn, bench-read      reading, entry by entry
@@ -28,16 +27,6 @@ use Rattle.packed_bench.specs.TableLaws.{entry-length, table-length}
 pub copy-more : (e s : List ℕ) (i : ℕ) → i < length e → i < length s → take i e ≡ take i s
     → take (i + 1) (set e i (getD s i 0)) ≡ take (i + 1) s
 copy-more e s i h k p = rw (add-one i, take-suc-set e i (getD s i 0) h, take-suc s i 0 k, p)
-
-each-next : {A : Type 0} (P : A → Type 0) (l : List A) (i : ℕ) (z : A) → (i < length l → P (getD l i z))
-    → Each P (take i l) → Each P (take (suc i) l)
-each-next P [] i z h e = tt
-each-next P (x ∷ l) zero z h e = (h (omega arith), tt)
-each-next P (x ∷ l) (suc i) z h e = (e .0, each-next P l i z (λ k. h (omega arith)) (e .1))
-
-pub each-more : {A : Type 0} (P : A → Type 0) (l : List A) (i : ℕ) (z : A) → (i < length l → P (getD l i z))
-    → Each P (take i l) → Each P (take (i + 1) l)
-each-more P l i z h e = rw (add-one i) (each-next P l i z h e)
 
 -- ## The entry of one place
 

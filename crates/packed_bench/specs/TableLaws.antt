@@ -14,7 +14,7 @@ use lib.Dec.{eqb, ltb, lit<}
 use lib.ListN.{length, getD, take, drop, replicate, length-append, length-replicate, take-append-drop}
 use lib.Seq.{take-at, drop-at, length-take-le, getD-drop}
 use Rattle.basic_laws.specs.Choice.{if_then_else_}
-use Rattle.basic_laws.specs.ChoiceLaws.{and-left, and-right}
+use Rattle.basic_laws.specs.ChoiceLaws.{either-way, and-left, and-right}
 use Rattle.basic_laws.specs.Each.{Each, Distinct}
 use Rattle.basic_laws.specs.Fold.{all, fold}
 use Rattle.basic_laws.specs.Laid.{laid}
@@ -35,11 +35,6 @@ use Rattle.packed_bench.specs.declared.table.Unpacked.{Unpacked}
 use Rattle.packed_bench.specs.Table.{tableBytes, entryBytes, tableOf, inUse, devicesIn, absent, codesFit, isTable}
 use Rattle.packed_bench.specs.Table.{benchOf, notUnpacked, held, unpacked, packedInto}
 use Rattle.packed_bench.specs.Tabled.{Tabled}
-
--- what holds of both ways of a choice holds of the choice
-either-way : {A : Type 0} (P : A → Type 0) (u : Bool) (x y : A) → P x → P y → P (if u then x else y)
-either-way P true x y p q = p
-either-way P false x y p q = q
 
 -- ## An unused entry: nothing is read from it on
 

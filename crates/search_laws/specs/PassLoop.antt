@@ -15,6 +15,7 @@ use native.Mathlib.Nat.{pow-suc, add-mul, mul-assoc, mul-comm}
 use native.Mathlib.Numerals.{add-one}
 use lib.ListN.{getD, drop}
 use Rattle.basic_laws.specs.Choice.{if_then_else_}
+use Rattle.basic_laws.specs.ChoiceLaws.{choice-then, choice-else}
 use Rattle.basic_laws.specs.Bits.{bitNumber, numberOf}
 use Rattle.search_laws.specs.Codes.{otherBits}
 use Rattle.search_laws.specs.Pass.{Triple, triple, Plan, choice, onSome, found, tookZero}
@@ -44,14 +45,6 @@ walkOn j w t l ds =
 abbrev pub walkEnds : {D : Type 0} → Walk D → List Bool → D → Walk D
 walkEnds w l ds = walk false (w .code) (w .last) (w .lines ++ l) ds
 
-pub if-false : {A : Type 0} (t : Bool) (x y : A) → t ≡ false → (if t then x else y) ≡ y
-if-false true x y e = absurd (true≢false e)
-if-false false x y e = refl
-
-pub if-true : {A : Type 0} (t : Bool) (x y : A) → t ≡ true → (if t then x else y) ≡ x
-if-true true x y e = refl
-if-true false x y e = absurd (false≢true e)
-
 module _ (B : Bus) (prev D : ℕ) where
   -- The three slots of a place, or the two reads where nobody answers.
   abbrev pub onward : ℕ → Walk (B .Devices) → Walk (B .Devices)
@@ -69,7 +62,7 @@ module _ (B : Bus) (prev D : ℕ) where
   -- A turn at which somebody has answered so far.
   pub bit-step : (j : ℕ) (w : Walk (B .Devices)) → w .answered ≡ true → bitStep j w ≡ onward j w
   unfolding bitStep
-  bit-step j w h = if-true (w .answered) _ w h
+  bit-step j w h = sym (choice-then (w .answered) _ w h)
 
   unfoldable pub steps : ℕ → ℕ → Walk (B .Devices) → Walk (B .Devices)
   steps zero j w = w
@@ -91,7 +84,7 @@ module _ (B : Bus) (prev D : ℕ) where
   pub steps-over : (m j : ℕ) (w : Walk (B .Devices)) → w .answered ≡ false → steps m j w ≡ w
   unfolding steps bitStep
   steps-over zero j w h = refl
-  steps-over (suc m) j w h = ap (steps m (suc j)) (if-false (w .answered) _ w h) ∙ steps-over m (suc j) w h
+  steps-over (suc m) j w h = ap (steps m (suc j)) (sym (choice-else (w .answered) _ w h)) ∙ steps-over m (suc j) w h
 
 -- A pass on devices that its reset has restarted.
 abbrev pub startedPass : (B : Bus) → List Bool → ℕ → ℕ → ℕ → B .Devices → Walk (B .Devices)

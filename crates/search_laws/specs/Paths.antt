@@ -8,6 +8,7 @@ use mathlib.Core.List.{List, [], _∷_, _++_}
 use Prim.Native.Nat.{ℕ, zero, suc}
 use lib.ListN.{length, getD, drop}
 use Rattle.basic_laws.specs.Choice.{if_then_else_}
+use Rattle.basic_laws.specs.ChoiceLaws.{if-and}
 use Rattle.basic_laws.specs.Fold.{all}
 use Rattle.search_laws.specs.Codes.{Code, first, otherBits, lineOfCodes, coLine, follow}
 
@@ -49,10 +50,6 @@ agrees-snoc [] d c = simp (getD-first, and-true)
 agrees-snoc (b ∷ p) d c = let i = agrees-snoc p d (otherBits c) in simp (getD-rest, i, and-assoc)
 
 -- ## What the line shows after a path
-
-pub if-and : {A : Type 0} (x y : Bool) (s t : A) → (if x && y then s else t) ≡ (if x then (if y then s else t) else t)
-if-and true y s t = refl
-if-and false y s t = refl
 
 pub all-if : (f : Code → Bool) (b : Bool) (c : Code) (S : List Code)
     → all f (if b then c ∷ S else S) ≡ ((if b then f c else true) && all f S)

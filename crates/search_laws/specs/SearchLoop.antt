@@ -15,6 +15,7 @@ use borrow.Author.Tests.{ltb-true}
 use lib.Dec.{ltb}
 use lib.ListN.{length, getD, take}
 use Rattle.basic_laws.specs.Choice.{if_then_else_}
+use Rattle.basic_laws.specs.ChoiceLaws.{choice-then, choice-else}
 use Rattle.basic_laws.specs.Bits.{numberOf}
 use Rattle.search_laws.specs.Codes.{first, otherBits}
 use Rattle.search_laws.specs.Pass.{Triple, triple, Plan, choice, onSome, found, next}
@@ -24,7 +25,7 @@ use Rattle.search_laws.specs.Wire.{triplets, wirePass, searchFrom, wireS
 use Rattle.search_laws.specs.Issued.{longer-option}
 use Rattle.search_laws.specs.Departure.{takes, lastFrom, planOf}
 use Rattle.search_laws.specs.DepartureLaws.{takes-plan, takes-first, next-plan}
-use Rattle.search_laws.specs.PassLoop.{Walk, if-true, if-false, answers, loopPass, SamePass, loop-pass}
+use Rattle.search_laws.specs.PassLoop.{Walk, answers, loopPass, SamePass, loop-pass}
 
 pub record Sweep (D : Type 0) : Type 0 where
   pub going : Bool  -- a pass is still to be made
@@ -64,12 +65,12 @@ module _ (B : Bus) (command : List Bool) (n : ℕ) where
   pub turns-over : (k : ℕ) (s : Sweep (B .Devices)) → s .going ≡ false → turns k s ≡ s
   unfolding turns turn
   turns-over zero s h = refl
-  turns-over (suc k) s h = ap (turns k) (if-false (s .going) _ s h) ∙ turns-over k s h
+  turns-over (suc k) s h = ap (turns k) (sym (choice-else (s .going) _ s h)) ∙ turns-over k s h
 
   pub turn-pass : (s : Sweep (B .Devices)) → s .going ≡ true
       → turn s ≡ withPass s (loopPass B command n (s .previous) (s .departure) (s .devices))
   unfolding turn
-  turn-pass s h = if-true (s .going) _ s h
+  turn-pass s h = sym (choice-then (s .going) _ s h)
 
 abbrev pub loopSearch : (B : Bus) → List Bool → ℕ → ℕ → B .Devices → Sweep (B .Devices)
 loopSearch B command fuel n ds = turns B command n fuel (sweep true 0 n [] [] ds)

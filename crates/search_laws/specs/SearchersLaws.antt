@@ -7,11 +7,6 @@ use Rattle.basic_laws.specs.Choice.{if_then_else_}
 use Rattle.basic_laws.specs.Each.{those}
 use Rattle.search_laws.specs.Searchers.{Model, Searchers, participants}
 
-pub those-all : {A : Type 0} (p : A → Bool) → ((x : A) → p x ≡ true) → (l : List A) → those p l ≡ l
-unfolding those
-those-all p h [] = refl
-those-all p h (x ∷ l) = let i = those-all p h l in rw (h x, i)
-
 pub participants-those : {M : Model} {command : List Bool} {n : ℕ} (Z : Searchers M command n) (ds : List (M .Dev))
     → participants Z ds ≡ map (Z .code) (those (Z .joins) ds)
 unfolding participants those

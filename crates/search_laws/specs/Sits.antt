@@ -9,10 +9,11 @@ use mathlib.Core.List.{List, [], _∷_, _++_, map}
 use Prim.Native.Nat.{ℕ, suc, _<_}
 use lib.ListN.{length, getD}
 use Rattle.basic_laws.specs.Choice.{if_then_else_}
+use Rattle.basic_laws.specs.ChoiceLaws.{if-and}
 use Rattle.basic_laws.specs.Fold.{all}
 use Rattle.search_laws.specs.Codes.{Code, lineOfCodes, coLine}
 use Rattle.basic_laws.specs.Each.{Each}
-use Rattle.search_laws.specs.Paths.{agrees, onPath, agrees-snoc, if-and, all-if, line-path, co-line-path}
+use Rattle.search_laws.specs.Paths.{agrees, onPath, agrees-snoc, all-if, line-path, co-line-path}
 use Rattle.search_laws.specs.Wire.{Bus}
 use Rattle.search_laws.specs.Searchers.{Model, Carries, Takes, Searchers, participants}
 

@@ -14,7 +14,8 @@ use Rattle.packed_bench.specs.Types.{InTypes}
 use Rattle.bench.specs.Bench.{live, vacant}
 use Rattle.packed_bench.specs.Table.{entryBytes, tableOf}
 use Rattle.packed_bench.specs.TableLaws.{entry-length}
-use Rattle.packed_bench.specs.LoopLaws.{each-more, table-turn, table-end}
+use Rattle.basic_laws.specs.EachLaws.{each-more}
+use Rattle.packed_bench.specs.LoopLaws.{table-turn, table-end}
 use Rattle.packed_bench.proofs.table.write.Statement.{statement}
 use Rattle.packed_bench.proofs.table.write.Tie as tie
 
