@@ -17,6 +17,7 @@ use Rattle.basic_laws.specs.Choice.{if_then_else_}
 use Rattle.basic_laws.specs.Laid.{laid}
 use Rattle.refusals.specs.Refusals.{accepted, noRoom}
 use Rattle.text.specs.Lines.{Line, firstLine, width}
+use Rattle.naming.specs.Streaming.{mostHeldOfRecording}
 use Rattle.naming.specs.Naming.{nameNumber, refusedName, lineNamed}
 use Rattle.naming.specs.declared.Named.{Named}
 use Rattle.host.specs.declared.Answer.{Answer}
@@ -37,17 +38,13 @@ numberTold n = if eqb (n .refusal) accepted then nameNumber (n .name) else 100 +
 
 -- ## The line in hand
 
--- one character more than a line may have
-abbrev pub mostHeldByHost : ℕ
-mostHeldByHost = 135
-
 -- the characters that are held, whatever they are, and those behind them up to the first feed of the bytes or their end
 abbrev pub lineInHand : List ℕ → List ℕ → Line
 lineInHand u b = record { chars = u ++ firstLine b .chars; fed = firstLine b .fed }
 
 -- what is held of such characters: so many as tell that a line is over-long
 abbrev pub heldFrom : List ℕ → List ℕ → List ℕ
-heldFrom u more = take mostHeldByHost (u ++ more)
+heldFrom u more = take mostHeldOfRecording (u ++ more)
 
 -- ## What it comes to
 
@@ -62,7 +59,7 @@ openTold cs ended next =
     if not ended then record {
       code = 0;
       next = next;
-      held = length (take mostHeldByHost cs);
+      held = length (take mostHeldOfRecording cs);
       kind = moreWanted;
       raw = 0;
     }
@@ -89,11 +86,11 @@ module _ (line : List ℕ) (held : ℕ) (bytes : List ℕ) (at : ℕ) where
   -- a line that stands whole in the piece leaves the buffer as it was; of any other what is held of it stands at the
   -- front
   abbrev pub nextLeaves : List ℕ
-  nextLeaves = if eqb held 0 && givenLine .fed then line else laid line 0 (take mostHeldByHost (givenLine .chars))
+  nextLeaves = if eqb held 0 && givenLine .fed then line else laid line 0 (take mostHeldOfRecording (givenLine .chars))
 
   -- the buffer may be too short, which is refused with 1
   abbrev pub lentAnswer : Bool → Answer
-  lentAnswer ended = if leb mostHeldByHost (length line) then nextAnswer ended else toldName (refusedName noRoom) 0
+  lentAnswer ended = if leb mostHeldOfRecording (length line) then nextAnswer ended else toldName (refusedName noRoom) 0
 
   abbrev pub lentLeaves : List ℕ
-  lentLeaves = if leb mostHeldByHost (length line) then nextLeaves else line
+  lentLeaves = if leb mostHeldOfRecording (length line) then nextLeaves else line

@@ -18,7 +18,8 @@ use Rattle.pieces.specs.Pieces.{said, together}
 use Rattle.naming.specs.Naming.{lineNamed}
 use Rattle.naming.specs.declared.Named.{Named}
 use Rattle.host.specs.declared.Answer.{Answer}
-use Rattle.host.specs.HostNaming.{done, moreWanted, numberTold, mostHeldByHost, nextAnswer, nextLeaves}
+use Rattle.naming.specs.Streaming.{mostHeldOfRecording}
+use Rattle.host.specs.HostNaming.{done, moreWanted, numberTold, nextAnswer, nextLeaves}
 
 -- what is told of a line
 abbrev pub nameNumbers : Named → List ℕ
@@ -50,6 +51,6 @@ hears (suc n) line held bytes at (c ∷ cs) =
 -- and the host pieces
 abbrev pub HostClaim : Type 0
 HostClaim =
-    (line : List ℕ) → mostHeldByHost ≤ length line → (c : List ℕ) (cs : List (List ℕ)) (n : ℕ)
+    (line : List ℕ) → mostHeldOfRecording ≤ length line → (c : List ℕ) (cs : List (List ℕ)) (n : ℕ)
     → length (together (c ∷ cs)) + length cs < n
     → hears n line 0 c 0 cs ≡ said lineNumbers (together (c ∷ cs))

@@ -28,7 +28,8 @@ use Rattle.naming.specs.declared.Name.{Name}
 use Rattle.naming.specs.declared.Name.the-variants.{Empty, Search, Alarm, Nobody, Pad, Other}
 use Rattle.naming.specs.declared.Named.{Named}
 use Rattle.host.specs.declared.Answer.{Answer}
-use Rattle.host.specs.HostNaming.{done, moreWanted, numberTold, mostHeldByHost, lineInHand, toldName, openTold}
+use Rattle.naming.specs.Streaming.{mostHeldOfRecording}
+use Rattle.host.specs.HostNaming.{done, moreWanted, numberTold, lineInHand, toldName, openTold}
 use Rattle.host.specs.HostNaming.{placeBehind, nextAnswer, nextLeaves}
 use Rattle.host.specs.Hosts.{lineNumbers, hearing, hears, HostClaim}
 
@@ -57,10 +58,10 @@ hearing-name n place next same =
 
 -- ## What 135 characters tell
 
-long-told : (l : Line) → mostHeldByHost ≤ length (l .chars) → lineNumbers l ≡ 103 ∷ 0 ∷ 0 ∷ []
+long-told : (l : Line) → mostHeldOfRecording ≤ length (l .chars) → lineNumbers l ≡ 103 ∷ 0 ∷ 0 ∷ []
 long-told l h = rw (read-long l (omega arith))
 
-pub host-held-tells : Enough lineNumbers mostHeldByHost
+pub host-held-tells : Enough lineNumbers mostHeldOfRecording
 host-held-tells = record { some = lit< tt; same = λ l m a b agree fed. long-told l a ∙ sym (long-told m b) }
 
 -- ## The line in hand, and the lines behind it
@@ -117,13 +118,13 @@ said-none (c ∷ s) h = absurd (omega arith)
 -- what a host hears in so many calls, where they are enough
 abbrev Hears : ℕ → Type 0
 Hears n =
-    (line : List ℕ) (held : ℕ) (bytes : List ℕ) (at : ℕ) (cs : List (List ℕ)) → mostHeldByHost ≤ length line
+    (line : List ℕ) (held : ℕ) (bytes : List ℕ) (at : ℕ) (cs : List (List ℕ)) → mostHeldOfRecording ≤ length line
     → all notFeed (take held line) ≡ true
     → length (take held line) + length (drop at bytes) + length (together cs) + length cs < n
     → hears n line held bytes at cs ≡ said lineNumbers ((take held line ++ drop at bytes) ++ together cs)
 
 module _ (n : ℕ) (ih : Hears n) (line : List ℕ) (held : ℕ) (bytes : List ℕ) (at : ℕ)
-    (room : mostHeldByHost ≤ length line) (plain : all notFeed (take held line) ≡ true) where
+    (room : mostHeldOfRecording ≤ length line) (plain : all notFeed (take held line) ≡ true) where
   abbrev u : List ℕ
   u = take held line
 
@@ -136,15 +137,15 @@ module _ (n : ℕ) (ih : Hears n) (line : List ℕ) (held : ℕ) (bytes : List �
   abbrev after : List ℕ
   after = nextLeaves line held bytes at
 
-  after-long : mostHeldByHost ≤ length after
+  after-long : mostHeldOfRecording ≤ length after
   after-long = by-test (eqb held 0 && lineInHand u b .fed)
     where
-      by-test : (t : Bool) → mostHeldByHost ≤ length (if t then line
-          else laid line 0 (take mostHeldByHost (lineInHand u b .chars)))
+      by-test : (t : Bool) → mostHeldOfRecording ≤ length (if t then line
+          else laid line 0 (take mostHeldOfRecording (lineInHand u b .chars)))
       by-test true = room
       by-test false =
-          let x = take mostHeldByHost (lineInHand u b .chars) in
-          let few = length-take mostHeldByHost (lineInHand u b .chars) in
+          let x = take mostHeldOfRecording (lineInHand u b .chars) in
+          let few = length-take mostHeldOfRecording (lineInHand u b .chars) in
           let l = laid-length line 0 x (omega arith) in
           omega arith
 
@@ -194,13 +195,13 @@ module _ (n : ℕ) (ih : Hears n) (line : List ℕ) (held : ℕ) (bytes : List �
         else openTold (lineInHand u b .chars) ended place) unfed
         ∙ ap (λ (cs : List ℕ). openTold cs ended place) chars-open
 
-    after-open : after ≡ laid line 0 (take mostHeldByHost (u ++ b))
+    after-open : after ≡ laid line 0 (take mostHeldOfRecording (u ++ b))
     after-open =
         ap (λ (t : Bool). if eqb held 0 && t then line
-        else laid line 0 (take mostHeldByHost (lineInHand u b .chars))) unfed
-        ∙ by-held (eqb held 0) ∙ ap (λ (cs : List ℕ). laid line 0 (take mostHeldByHost cs)) chars-open
+        else laid line 0 (take mostHeldOfRecording (lineInHand u b .chars))) unfed
+        ∙ by-held (eqb held 0) ∙ ap (λ (cs : List ℕ). laid line 0 (take mostHeldOfRecording cs)) chars-open
       where
-        by-held : (t : Bool) → let x = laid line 0 (take mostHeldByHost (lineInHand u b .chars)) in
+        by-held : (t : Bool) → let x = laid line 0 (take mostHeldOfRecording (lineInHand u b .chars)) in
             (if t && false then line else x) ≡ x
         by-held true = refl
         by-held false = refl
@@ -212,19 +213,19 @@ module _ (n : ℕ) (ih : Hears n) (line : List ℕ) (held : ℕ) (bytes : List �
         hearing a (hears n after (a .held) c 0 cs) (same a) ≡ said lineNumbers ((u ++ b) ++ together (c ∷ cs))
     unfolding together
     hears-more c cs same enough =
-        let v = take mostHeldByHost (u ++ b) in
+        let v = take mostHeldOfRecording (u ++ b) in
         let front : take (length v) after ≡ v = ap (take (length v)) after-open ∙ laid-read line 0 v (omega arith) in
-        let few = length-take mostHeldByHost (u ++ b) in
+        let few = length-take mostHeldOfRecording (u ++ b) in
         let ub = length-append u b in
         let size : length (take (length v) after) ≡ length v = ap length front in
         let ct = length-append c (together cs) in
         let clean : all notFeed (take (length v) after) ≡ true =
-        ap (all notFeed) front ∙ all-take notFeed mostHeldByHost (u ++ b) (plain-open u b plain unfed) in
+        ap (all notFeed) front ∙ all-take notFeed mostHeldOfRecording (u ++ b) (plain-open u b plain unfed) in
         ap (λ (a : Answer). hearing a (hears n after (a .held) c 0 cs) (same a)) (next-open false)
         ∙ ih after (length v) c 0 cs after-long clean (omega arith)
         ∙ ap (λ (w : List ℕ). said lineNumbers ((w ++ c) ++ together cs)) front
         ∙ ap (said lineNumbers) (append-assoc v c (together cs))
-        ∙ cut-same lineNumbers mostHeldByHost host-held-tells (u ++ b) (c ++ together cs) (plain-open u b plain unfed)
+        ∙ cut-same lineNumbers mostHeldOfRecording host-held-tells (u ++ b) (c ++ together cs) (plain-open u b plain unfed)
 
     none-past : drop place bytes ≡ []
     none-past =

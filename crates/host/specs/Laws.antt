@@ -19,42 +19,43 @@ use Rattle.frame.specs.ReadLineLaws.{read-long}
 use Rattle.naming.specs.Naming.{refusedName, readNamed, lineNamed}
 use Rattle.naming.specs.declared.Named.{Named}
 use Rattle.host.specs.declared.Answer.{Answer}
-use Rattle.host.specs.HostNaming.{mostHeldByHost, lineInHand, heldFrom, toldName, openTold, lineTold, placeBehind}
+use Rattle.naming.specs.Streaming.{mostHeldOfRecording}
+use Rattle.host.specs.HostNaming.{lineInHand, heldFrom, toldName, openTold, lineTold, placeBehind}
 use Rattle.host.specs.HostNaming.{nextAnswer, nextLeaves, lentAnswer, lentLeaves}
 
 -- ## What is held of a line tells what it comes to
 
-pub cut-named : (cs : List ℕ) (fed : Bool) → lineNamed record { chars = take mostHeldByHost cs; fed = fed }
+pub cut-named : (cs : List ℕ) (fed : Bool) → lineNamed record { chars = take mostHeldOfRecording cs; fed = fed }
     ≡ lineNamed record { chars = cs; fed = fed }
-cut-named cs fed = by-test (leb (length cs) mostHeldByHost) refl
+cut-named cs fed = by-test (leb (length cs) mostHeldOfRecording) refl
   where
-    by-test : (t : Bool) → leb (length cs) mostHeldByHost ≡ t
-        → lineNamed record { chars = take mostHeldByHost cs; fed = fed } ≡ lineNamed record { chars = cs; fed = fed }
-    by-test true e = rw (take-all mostHeldByHost cs (leb-true (length cs) mostHeldByHost e))
+    by-test : (t : Bool) → leb (length cs) mostHeldOfRecording ≡ t
+        → lineNamed record { chars = take mostHeldOfRecording cs; fed = fed } ≡ lineNamed record { chars = cs; fed = fed }
+    by-test true e = rw (take-all mostHeldOfRecording cs (leb-true (length cs) mostHeldOfRecording e))
     by-test false e =
-        let k = leb-false (length cs) mostHeldByHost e in
-        let l : length (take mostHeldByHost cs) ≡ mostHeldByHost = length-take-le mostHeldByHost cs (omega arith) in
-        ap readNamed (read-long record { chars = take mostHeldByHost cs; fed = fed } (omega arith)
+        let k = leb-false (length cs) mostHeldOfRecording e in
+        let l : length (take mostHeldOfRecording cs) ≡ mostHeldOfRecording = length-take-le mostHeldOfRecording cs (omega arith) in
+        ap readNamed (read-long record { chars = take mostHeldOfRecording cs; fed = fed } (omega arith)
         ∙ sym (read-long record { chars = cs; fed = fed } (omega arith)))
 
 pub open-cut : (cs : List ℕ) (ended : Bool) (next : ℕ)
-    → openTold (take mostHeldByHost cs) ended next ≡ openTold cs ended next
-open-cut cs false next = rw (take-take mostHeldByHost mostHeldByHost cs (omega arith))
+    → openTold (take mostHeldOfRecording cs) ended next ≡ openTold cs ended next
+open-cut cs false next = rw (take-take mostHeldOfRecording mostHeldOfRecording cs (omega arith))
 open-cut cs true next = by-test (eqb (length cs) 0) refl
   where
-    size : length (take mostHeldByHost cs) ≡ min mostHeldByHost (length cs)
-    size = length-take mostHeldByHost cs
+    size : length (take mostHeldOfRecording cs) ≡ min mostHeldOfRecording (length cs)
+    size = length-take mostHeldOfRecording cs
 
-    by-test : (t : Bool) → eqb (length cs) 0 ≡ t → openTold (take mostHeldByHost cs) true next ≡ openTold cs true next
+    by-test : (t : Bool) → eqb (length cs) 0 ≡ t → openTold (take mostHeldOfRecording cs) true next ≡ openTold cs true next
     by-test true e =
         let none = eqb-true (length cs) 0 e in
         let l = size in
-        rw (e, eq-eqb (length (take mostHeldByHost cs)) 0 (omega arith))
+        rw (e, eq-eqb (length (take mostHeldOfRecording cs)) 0 (omega arith))
     by-test false e =
         let some = eqb-false (length cs) 0 e in
         let l = size in
-        let k : length (take mostHeldByHost cs) ≡ 0 → ⊥ = λ z. some (omega arith) in
-        rw (e, ne-eqb (length (take mostHeldByHost cs)) 0 k, cut-named cs false)
+        let k : length (take mostHeldOfRecording cs) ≡ 0 → ⊥ = λ z. some (omega arith) in
+        rw (e, ne-eqb (length (take mostHeldOfRecording cs)) 0 k, cut-named cs false)
 
 -- ## Characters laid behind those that are held
 
@@ -69,31 +70,31 @@ take-least k l = by-test (leb (length l) k) refl
     by-test false e = let h = leb-false (length l) k e in let m : min (length l) k ≡ k = omega arith in rw m
 
 module _ (line : List ℕ) (held : ℕ) (more : List ℕ) (start count : ℕ) (begins : start
-    ≡ min held mostHeldByHost) (counts : count ≡ min (length more) (mostHeldByHost - start))
-    (room : mostHeldByHost ≤ length line) where
+    ≡ min held mostHeldOfRecording) (counts : count ≡ min (length more) (mostHeldOfRecording - start))
+    (room : mostHeldOfRecording ≤ length line) where
   held-parts : heldFrom (take held line) more ≡ take start line ++ take count more
-  held-parts = by-test (leb held mostHeldByHost) refl
+  held-parts = by-test (leb held mostHeldOfRecording) refl
     where
-      by-test : (t : Bool) → leb held mostHeldByHost ≡ t
+      by-test : (t : Bool) → leb held mostHeldOfRecording ≡ t
           → heldFrom (take held line) more ≡ take start line ++ take count more
       by-test true e =
-          let h = leb-true held mostHeldByHost e in
+          let h = leb-true held mostHeldOfRecording e in
           let u = take held line in
           let same : start ≡ held = omega arith in
           let size : length u ≡ held = length-take-le held line (omega arith) in
-          let sum : mostHeldByHost ≡ length u + (mostHeldByHost - start) = omega arith in
-          ap (λ (n : ℕ). take n (u ++ more)) sum ∙ take-append-add u more (mostHeldByHost - start)
-          ∙ ap (λ (x : List ℕ). u ++ x) (sym (take-least (mostHeldByHost - start) more)
+          let sum : mostHeldOfRecording ≡ length u + (mostHeldOfRecording - start) = omega arith in
+          ap (λ (n : ℕ). take n (u ++ more)) sum ∙ take-append-add u more (mostHeldOfRecording - start)
+          ∙ ap (λ (x : List ℕ). u ++ x) (sym (take-least (mostHeldOfRecording - start) more)
           ∙ ap (λ (n : ℕ). take n more) (sym counts))
           ∙ ap (λ (n : ℕ). take n line ++ take count more) (sym same)
       by-test false e =
-          let h = leb-false held mostHeldByHost e in
-          let same : start ≡ mostHeldByHost = omega arith in
+          let h = leb-false held mostHeldOfRecording e in
+          let same : start ≡ mostHeldOfRecording = omega arith in
           let none : count ≡ 0 = omega arith in
           let size = length-take held line in
           rw (same, none)
-          (take-append-le mostHeldByHost (take held line) more (omega arith)
-          ∙ take-take mostHeldByHost held line (omega arith) ∙ sym (append-nil (take mostHeldByHost line)))
+          (take-append-le mostHeldOfRecording (take held line) more (omega arith)
+          ∙ take-take mostHeldOfRecording held line (omega arith) ∙ sym (append-nil (take mostHeldOfRecording line)))
 
   part-size : length (take count more) ≡ count
   part-size = length-take-le count more (omega arith)
@@ -120,11 +121,11 @@ module _ (line : List ℕ) (held : ℕ) (more : List ℕ) (start count : ℕ) (b
 -- ## The ends of a call
 
 module _ (line : List ℕ) (held : ℕ) (bytes : List ℕ) (at : ℕ) (ended : Bool) where
-  pub lent-short : length line < mostHeldByHost
+  pub lent-short : length line < mostHeldOfRecording
       → (toldName (refusedName noRoom) 0 ≡ lentAnswer line held bytes at ended) × (line ≡ lentLeaves line held bytes at)
-  lent-short h = rw (lt-leb mostHeldByHost (length line) h) (refl, refl)
+  lent-short h = rw (lt-leb mostHeldOfRecording (length line) h) (refl, refl)
 
-  module _ (room : mostHeldByHost ≤ length line) (from e : ℕ) (clip : from ≡ min at (length bytes)) (ends : e
+  module _ (room : mostHeldOfRecording ≤ length line) (from e : ℕ) (clip : from ≡ min at (length bytes)) (ends : e
       ≡ from + feedAt (drop from bytes)) where
     -- the characters of the first line, where they stand
     abbrev part : List ℕ
@@ -160,7 +161,7 @@ module _ (line : List ℕ) (held : ℕ) (bytes : List ℕ) (at : ℕ) (ended : B
     answered : (fed : Bool) (next : ℕ) → ltb e (length bytes) ≡ fed → next ≡ placeBehind bytes at
         → lineTold record { chars = take held line ++ part; fed = fed } ended next ≡ lentAnswer line held bytes at ended
     answered fed next h k =
-        rw (le-leb mostHeldByHost (length line) room)
+        rw (le-leb mostHeldOfRecording (length line) room)
         (ap (lineTold record { chars = take held line ++ part; fed = fed } ended) k
         ∙ ap (λ (t : Bool). lineTold record { chars = take held line ++ part; fed = t } ended (placeBehind bytes at))
         (sym h)
@@ -169,11 +170,11 @@ module _ (line : List ℕ) (held : ℕ) (bytes : List ℕ) (at : ℕ) (ended : B
     left : (none fed : Bool) → eqb held 0 ≡ none → ltb e (length bytes) ≡ fed
         → (if none && fed then line else laid line 0 (heldFrom (take held line) part)) ≡ lentLeaves line held bytes at
     left none fed n h =
-        rw (le-leb mostHeldByHost (length line) room)
+        rw (le-leb mostHeldOfRecording (length line) room)
         (ap (λ (t : Bool). if t && fed then line else laid line 0 (heldFrom (take held line) part)) (sym n)
         ∙ ap (λ (t : Bool). if eqb held 0 && t then line else laid line 0 (heldFrom (take held line) part)) (sym h)
         ∙ ap (λ (l : Line). if eqb held 0 && l .fed then line
-        else laid line 0 (take mostHeldByHost (l .chars))) (sym given))
+        else laid line 0 (take mostHeldOfRecording (l .chars))) (sym given))
 
     module _ (fed : e < length bytes) where
       abbrev has-feed : ltb e (length bytes) ≡ true
@@ -219,10 +220,10 @@ module _ (line : List ℕ) (held : ℕ) (bytes : List ℕ) (at : ℕ) (ended : B
 
 -- ## What is held stands at the front of the buffer
 
-module _ (line u more : List ℕ) (room : mostHeldByHost ≤ length line) (n : ℕ) (after : List ℕ) (size : n
+module _ (line u more : List ℕ) (room : mostHeldOfRecording ≤ length line) (n : ℕ) (after : List ℕ) (size : n
     ≡ length (heldFrom u more)) (lies : after ≡ laid line 0 (heldFrom u more)) where
-  few : length (heldFrom u more) ≤ mostHeldByHost
-  few = let l = length-take mostHeldByHost (u ++ more) in omega arith
+  few : length (heldFrom u more) ≤ mostHeldOfRecording
+  few = let l = length-take mostHeldOfRecording (u ++ more) in omega arith
 
   pub held-front : take (n - 0) (drop 0 after) ≡ heldFrom u more
   held-front =
@@ -235,14 +236,14 @@ module _ (line u more : List ℕ) (room : mostHeldByHost ≤ length line) (n : �
       let l = laid-length line 0 (heldFrom u more) (omega arith) in
       rw lies (omega arith)
 
-  pub held-few : length (take (n - 0) (drop 0 after)) ≤ mostHeldByHost
+  pub held-few : length (take (n - 0) (drop 0 after)) ≤ mostHeldOfRecording
   held-few = rw held-front few
 
 -- ## A buffer that is long enough
 
-pub lent-room : (line : List ℕ) (held : ℕ) (bytes : List ℕ) (at : ℕ) (ended : Bool) → mostHeldByHost ≤ length line
+pub lent-room : (line : List ℕ) (held : ℕ) (bytes : List ℕ) (at : ℕ) (ended : Bool) → mostHeldOfRecording ≤ length line
     → (a : Answer) (after : List ℕ)
     → a ≡ lentAnswer line held bytes at ended → after ≡ lentLeaves line held bytes at
     → (a ≡ nextAnswer line held bytes at ended) × (after ≡ nextLeaves line held bytes at)
-lent-room line held bytes at ended room a after h k = let long = le-leb mostHeldByHost (length line) room in
+lent-room line held bytes at ended room a after h k = let long = le-leb mostHeldOfRecording (length line) room in
     (rw long at h, rw long at k)

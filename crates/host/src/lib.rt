@@ -6,7 +6,8 @@ ghost use mathlib.Core.Path.{_≡_};
 ghost use Prim.Native.Nat.{_≤_, min};
 ghost use lib.ListN.{length, take};
 ghost use Rattle.basic_laws.specs.Laid.{laid};
-ghost use Rattle.host.specs.HostNaming.{mostHeldByHost, numberTold, toldName, openTold, heldFrom, lentAnswer};
+ghost use Rattle.naming.specs.Streaming.{mostHeldOfRecording};
+ghost use Rattle.host.specs.HostNaming.{numberTold, toldName, openTold, heldFrom, lentAnswer};
 ghost use Rattle.host.specs.HostNaming.{lentLeaves};
 use naming::Named;
 use text::laying;
@@ -83,7 +84,7 @@ fn tell_none(kind: u32, held: usize, next: usize) -> Answer
 
 // A line that has no feed: it goes on in the next piece, or it is the last of the recording.
 fn tell_open(line: &[u8], ended: bool, next: usize) -> Answer
-    requires { ⌜ length (now line) ≤ mostHeldByHost ⌝ }
+    requires { ⌜ length (now line) ≤ mostHeldOfRecording ⌝ }
     ensures { λ r. ⌜ r ≡ openTold (now (line .entry)) ended next ⌝ }
 {
     if !ended {
@@ -98,7 +99,7 @@ fn tell_open(line: &[u8], ended: bool, next: usize) -> Answer
 // Characters behind those that are held, as many as tell that a line is over-long; the answer is how
 // many are held then.
 fn hold(line: &mut [u8], held: usize, more: &[u8]) -> usize
-    requires { ⌜ mostHeldByHost ≤ length (now line) ⌝ }
+    requires { ⌜ mostHeldOfRecording ≤ length (now line) ⌝ }
     ensures answer { λ r. ⌜ r ≡ length (heldFrom (take held (now (line .entry))) (now (more .entry))) ⌝ }
     ensures written { λ r. ⌜ now (line .exit)
         ≡ laid (now (line .entry)) 0 (heldFrom (take held (now (line .entry))) (now (more .entry))) ⌝ }

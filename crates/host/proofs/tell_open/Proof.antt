@@ -2,7 +2,7 @@
 use borrow.Author.Tests.{eq-eqb, ne-eqb}
 use denote.Ref.{now}
 use lib.Seq.{take-all}
-use Rattle.host.specs.HostNaming.{mostHeldByHost}
+use Rattle.naming.specs.Streaming.{mostHeldOfRecording}
 use borrow.Author.Needs.{needs}
 use Rattle.host.proofs.tell_open.Statement.{statement}
 use Rattle.host.proofs.tell_open.Tie as tie
@@ -13,7 +13,7 @@ tell-none-requires c κs = search needs
 returns : tie.Need-returns
 returns c =
     let a = c .before .before .before in
-    rw (c .before .if1 .taken, take-all mostHeldByHost (now (a .args .line)) (a .pre)) (c .tell-none .ensures)
+    rw (c .before .if1 .taken, take-all mostHeldOfRecording (now (a .args .line)) (a .pre)) (c .tell-none .ensures)
 
 tell-none-requires-2 : tie.Need-tell-none-requires-2
 tell-none-requires-2 c κs = search needs

@@ -4,7 +4,7 @@ use mathlib.Core.Path.{_≡_}
 use native.Mathlib.Omega.{arith}
 use denote.Ref.{now}
 use lib.ListN.{length}
-use Rattle.host.specs.HostNaming.{mostHeldByHost}
+use Rattle.naming.specs.Streaming.{mostHeldOfRecording}
 use Rattle.host.specs.Laws.{lent-room}
 use borrow.Author.Needs.{needs}
 use Rattle.host.proofs.exports.skiffle_next.Statement.{statement}
@@ -16,8 +16,8 @@ next-requires c κs = search needs
 returns : tie.Need-returns
 returns c =
     let a = c .before .before .before in
-    let long : length (now (a .args .line)) ≡ mostHeldByHost = search (needs, a .good .0) in
-    let room : mostHeldByHost ≤ length (now (a .args .line)) = omega arith in
+    let long : length (now (a .args .line)) ≡ mostHeldOfRecording = search (needs, a .good .0) in
+    let room : mostHeldOfRecording ≤ length (now (a .args .line)) = omega arith in
     lent-room (now (a .args .line)) (a .args .held) (now (a .args .bytes)) (a .args .at) (a .args .ended) room
     (c .next .result) (c .next .last .0) (c .next .ensures .0) (c .next .ensures .1)
 
