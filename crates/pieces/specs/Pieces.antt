@@ -68,7 +68,7 @@ pub record Enough (say : Line → List ℕ) (most : ℕ) : Type 0 where
   pub same : (l m : Line) → most ≤ length (l .chars) → most ≤ length (m .chars)
       → take most (l .chars) ≡ take most (m .chars) → l .fed ≡ m .fed → say l ≡ say m
 
--- ## What the two calls answer and leave, with so many bytes of room for each byte of the piece, or refusal 1 and all as it was
+-- ## What the two calls answer and leave, with so many bytes of room for each byte of the piece; else refusal 1
 
 abbrev pub roomFor : ℕ → List ℕ → List ℕ → Bool
 roomFor each s out = leb (length s) (length out / each)
