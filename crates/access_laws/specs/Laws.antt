@@ -167,7 +167,7 @@ module _ (code : ℕ) (b : Bench) where
       ap (λ r. r .devices) (slots-append calls (addressBits code command) bits b)
       ∙ ap (λ c. slots calls bits c .devices) (addressed-run command)
 
-  settings-run : (row : Properties) (s : Settings)
+  pub settings-run : (row : Properties) (s : Settings)
       → slots calls (writeBits row code s) b .devices ≡ settingsSent row code s b
   unfolding settingsSent slots
   settings-run row s =

@@ -4,11 +4,14 @@ pub mod Laws
 pub mod Picked
 pub mod Reply
 pub mod Shown
+pub mod Written
+pub mod Taken
 pub mod ShownLaws
 pub mod Lasting
 pub mod Bytewise
 pub mod ReadLaws
 pub mod NeverLaws
+pub mod WriteLaws
 pub mod FinishedLaws
 pub mod Pinning
 pub mod PinningLaws

@@ -39,11 +39,11 @@ use Rattle.access_laws.specs.Shown.{damage, NeverDamaged}
 
 -- ## The tests before anything is sent
 
-admitted-code : (b : Bench) (code : ℕ) → codeRefusal code ≡ accepted → free b ≡ true → admission b code ≡ accepted
+pub admitted-code : (b : Bench) (code : ℕ) → codeRefusal code ≡ accepted → free b ≡ true → admission b code ≡ accepted
 unfolding admission
 admitted-code b code e f = rw (e, f)
 
-admitted-sound : (b : Bench) (code : ℕ) → admission b code ≡ accepted → codeRefusal code ≡ accepted
+pub admitted-sound : (b : Bench) (code : ℕ) → admission b code ≡ accepted → codeRefusal code ≡ accepted
 unfolding admission
 admitted-sound b code = by-test (eqb (codeRefusal code) accepted) refl
   where
@@ -53,11 +53,11 @@ admitted-sound b code = by-test (eqb (codeRefusal code) accepted) refl
     by-test true e a = eqb-true (codeRefusal code) accepted e
     by-test false e a = a
 
-read-admitted : (b : Bench) (code : ℕ) → admission b code ≡ accepted → readAt b code ≡ readBack code b
+pub read-admitted : (b : Bench) (code : ℕ) → admission b code ≡ accepted → readAt b code ≡ readBack code b
 unfolding readAt
 read-admitted b code a = rw a
 
-write-admitted : (b : Bench) (code : ℕ) (s : Settings) → admission b code ≡ accepted
+pub write-admitted : (b : Bench) (code : ℕ) (s : Settings) → admission b code ≡ accepted
     → writeAt b code s ≡ onPresence (resetDone b) (writtenAndRead code s)
 unfolding writeAt
 write-admitted b code s a = rw a

@@ -3,6 +3,8 @@
 -- the code; any other differs from it in one of the 64, since different numbers below 2^64 have different bits, and is
 -- quiet from there on.
 --     picked code d     d about to send its scratchpad, if it has the code, and quiet if not
+--     address-picks     a reset, 55h, the code and a function command: the device with the code is what the command
+--                       makes of it, every other one is quiet
 --     read-picks        so a reset, 55h, the code and BEh leave every device
 use Prim.Native.Nat.{ℕ, zero, suc, _+_, _/_, _^_, _<_}
 use mathlib.Core.Bool.{Bool, true, false, Bool·beq}
@@ -138,40 +140,52 @@ module _ (d : Device) where
 whole : (x : ℕ) → x / 2 ^ 0 ≡ x
 whole x = omega arith
 
--- 55h and the code, after which E holds, and then BEh
-then-hears : (E F : Device → Type 0) (code : ℕ) (d : Device) → Hears E (codeBits code) (withStage d (matchStage 0))
-    → ((e : Device) → E e → Hears F (bitsOf 8 readScratchpad) e) → Hears F (addressBits code readScratchpad) (resetOf d)
-then-hears E F code d h go =
-    hears-append F (bitsOf 8 matchRom) (codeBits code ++ bitsOf 8 readScratchpad) (resetOf d)
-    (hears-then (λ e. e ≡ withStage d (matchStage 0)) (Hears F (codeBits code ++ bitsOf 8 readScratchpad)) code-then
+-- 55h and the code, after which E holds, and then the function command
+then-hears : (E F : Device → Type 0) (code command : ℕ) (d : Device)
+    → Hears E (codeBits code) (withStage d (matchStage 0))
+    → ((e : Device) → E e → Hears F (bitsOf 8 command) e) → Hears F (addressBits code command) (resetOf d)
+then-hears E F code command d h go =
+    hears-append F (bitsOf 8 matchRom) (codeBits code ++ bitsOf 8 command) (resetOf d)
+    (hears-then (λ e. e ≡ withStage d (matchStage 0)) (Hears F (codeBits code ++ bitsOf 8 command)) code-then
     (bitsOf 8 matchRom) (resetOf d) (rom-heard d))
   where
-    code-then : (e : Device) → e ≡ withStage d (matchStage 0) → Hears F (codeBits code ++ bitsOf 8 readScratchpad) e
-    code-then e q = rw q (hears-append F (codeBits code) (bitsOf 8 readScratchpad) (withStage d (matchStage 0))
-        (hears-then E (Hears F (bitsOf 8 readScratchpad)) go (codeBits code) (withStage d (matchStage 0)) h))
+    code-then : (e : Device) → e ≡ withStage d (matchStage 0) → Hears F (codeBits code ++ bitsOf 8 command) e
+    code-then e q = rw q (hears-append F (codeBits code) (bitsOf 8 command) (withStage d (matchStage 0))
+        (hears-then E (Hears F (bitsOf 8 command)) go (codeBits code) (withStage d (matchStage 0)) h))
 
-pub read-picks : (code : ℕ) (d : Device) → code < 2 ^ 64 → d .code < 2 ^ 64
-    → Hears (λ e. e ≡ picked code d) (addressBits code readScratchpad) (resetOf d)
-read-picks code d a b = by-test (eqb (d .code) code) refl
+-- what the function command makes of the device with the code
+pub address-picks : (code command : ℕ) (d own : Device) → code < 2 ^ 64 → d .code < 2 ^ 64
+    → Hears (λ e. e ≡ own) (bitsOf 8 command) (withStage d awaitFunction)
+    → Hears (λ e. e ≡ (if eqb (d .code) code then own else withStage d Quiet)) (addressBits code command) (resetOf d)
+address-picks code command d own a b taken = by-test (eqb (d .code) code) refl
   where
-    own : d .code ≡ code → Hears (λ e. e ≡ withStage d (SendScratchpad 0 0)) (addressBits code readScratchpad)
-        (resetOf d)
-    own f =
+    here : d .code ≡ code → Hears (λ e. e ≡ own) (addressBits code command) (resetOf d)
+    here f =
         let c : Hears (λ e. e ≡ withStage d awaitFunction) (codeBits code) (withStage d (matchStage 0)) =
         rw (← f) (rw (whole (d .code)) at (own-hears d 64 0 refl)) in
-        then-hears (λ e. e ≡ withStage d awaitFunction) (λ e. e
-        ≡ withStage d (SendScratchpad 0 0)) code d c (λ e q. rw q (read-taken d))
+        then-hears (λ e. e ≡ withStage d awaitFunction) (λ e. e ≡ own) code command d c (λ e q. rw q taken)
 
-    other : d .code ≢ code → Hears (λ e. e ≡ withStage d Quiet) (addressBits code readScratchpad) (resetOf d)
-    other n =
+    elsewhere : d .code ≢ code → Hears (λ e. e ≡ withStage d Quiet) (addressBits code command) (resetOf d)
+    elsewhere n =
         let c : Hears (λ e. e ≡ withStage d Quiet) (codeBits code) (withStage d (matchStage 0)) =
         rw (whole code) at (other-hears d code 64 0 refl
         (λ e. bits-differ 64 (d .code) code b a n (rw (whole (d .code), whole code) at e))) in
-        then-hears (λ e. e ≡ withStage d Quiet) (λ e. e ≡ withStage d Quiet) code d c (λ e q.
-        rw q (quiet-hears (λ e. e ≡ withStage d Quiet) (bitsOf 8 readScratchpad) (withStage d Quiet) refl refl))
+        then-hears (λ e. e ≡ withStage d Quiet) (λ e. e ≡ withStage d Quiet) code command d c (λ e q.
+        rw q (quiet-hears (λ e. e ≡ withStage d Quiet) (bitsOf 8 command) (withStage d Quiet) refl refl))
 
     by-test : (t : Bool) → eqb (d .code) code ≡ t
-        → Hears (λ e. e ≡ withStage d (if t then SendScratchpad 0 0 else Quiet)) (addressBits code readScratchpad)
-        (resetOf d)
-    by-test true e = own (eqb-true (d .code) code e)
-    by-test false e = other (eqb-false (d .code) code e)
+        → Hears (λ e. e ≡ (if t then own else withStage d Quiet)) (addressBits code command) (resetOf d)
+    by-test true e = here (eqb-true (d .code) code e)
+    by-test false e = elsewhere (eqb-false (d .code) code e)
+
+pub read-picks : (code : ℕ) (d : Device) → code < 2 ^ 64 → d .code < 2 ^ 64
+    → Hears (λ e. e ≡ picked code d) (addressBits code readScratchpad) (resetOf d)
+read-picks code d a b =
+    hears-then _ (λ e. e ≡ picked code d) (λ e q. q
+    ∙ by-test (eqb (d .code) code)) (addressBits code readScratchpad) (resetOf d)
+    (address-picks code readScratchpad d (withStage d (SendScratchpad 0 0)) a b (read-taken d))
+  where
+    by-test : (t : Bool) → (if t then withStage d (SendScratchpad 0 0) else withStage d Quiet)
+        ≡ withStage d (if t then SendScratchpad 0 0 else Quiet)
+    by-test true = refl
+    by-test false = refl

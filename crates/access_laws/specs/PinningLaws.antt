@@ -16,7 +16,6 @@ use lib.ListN.{getD, List·getD-map}
 use Rattle.basic_laws.specs.Choice.{if_then_else_}
 use Rattle.basic_laws.specs.Each.{Each, those}
 use Rattle.basic_laws.specs.EachLaws.{each-implies, each-perm, each-at}
-use Rattle.basic_laws.specs.First.{firstWith}
 use Rattle.basic_laws.specs.Fold.{fold, all}
 use Rattle.commands.specs.Commands.{searchRom}
 use Rattle.refusals.specs.Refusals.{accepted}
@@ -59,8 +58,10 @@ use Rattle.history_laws.specs.Theorem.{demand-3}
 use Rattle.access_laws.specs.Bytewise.{Readable, readable-after, readable-slot, readable-reset}
 use Rattle.access_laws.specs.Lasting.{lasts-after}
 use Rattle.access_laws.specs.Pinning.{pinsAtPlace, pinsAt, readOn, LeastShared, PinsClaim}
-use Rattle.access_laws.specs.ReadLaws.{pad-sound, answered, read-answered}
+use Rattle.access_laws.specs.ReadLaws.{pad-sound, read-answered}
+use Rattle.access_laws.specs.Shown.{answeredWith}
 use Rattle.access_laws.specs.ShownLaws.{code-at, read-kept}
+use Rattle.access_laws.specs.WriteLaws.{place-by-codes}
 
 -- ## Pins over 15 never join
 
@@ -125,19 +126,9 @@ placed-each b = each-implies (λ code f. placed b code (λ h. f (codes-each code
 
 -- ## The same devices but for their stages
 
-first-unstaged : (code k : ℕ) (ds : List Device)
-    → firstWith (λ d. eqb (d .code) code) At Nowhere k (map unstaged ds)
-    ≡ firstWith (λ d. eqb (d .code) code) At Nowhere k ds
-unfolding firstWith
-first-unstaged code k [] = refl
-first-unstaged code k (d ∷ ds) = let i = first-unstaged code (suc k) ds in rw i
-
 module _ (b c : Bench) (e : map unstaged (live c) ≡ map unstaged (live b)) (code : ℕ) where
   same-place : placeOf c code ≡ placeOf b code
-  unfolding placeOf
-  same-place =
-      sym (first-unstaged code 0 (live c)) ∙ ap (firstWith (λ d. eqb (d .code) code) At Nowhere 0) e
-      ∙ first-unstaged code 0 (live b)
+  same-place = place-by-codes b c code (same-but-stage (λ d. d .code) (λ d. refl) (live c) (live b) e)
 
   same-pins : (i : ℕ) → placeOf b code ≡ At i → deviceAt c i .pins ≡ deviceAt b i .pins
   same-pins i at =
@@ -182,8 +173,7 @@ module _ (b : Bench) (few : Each PinsFew (live b)) (f : free b ≡ true) where
     at-c : placeOf c code ≡ At (p .place)
     at-c = same-place b c (s .kept) code ∙ p .at
 
-    read-is : readAt c code ≡ answered c (s .readable) code (p .place) (same-free c b (s .kept)
-        ∙ f) at-c (readOn c code)
+    read-is : readAt c code ≡ answeredWith code (deviceAt c (p .place) .scratchpad) (readOn c code)
     read-is = read-answered c (s .readable) code (p .place) (same-free c b (s .kept) ∙ f) at-c
 
     pin-few : isPinned code ≡ true → pinsAt b code < 16

@@ -30,7 +30,7 @@ use Rattle.scratchpad.specs.Stored.{readingIn, fineIn}
 use Rattle.scratchpad.specs.StoredLaws.{raw-range}
 use Rattle.device.specs.Offer.{nineBytes}
 use Rattle.device.specs.OfferLaws.{nine-length, nine-byte, nine-crc}
-use Rattle.device.specs.Record.{familyRow, rowOf}
+use Rattle.device.specs.Record.{rowOf}
 use Rattle.device.specs.Sound.{PadSound, Sound}
 use Rattle.bench.specs.Bench.{live, vacant, placeOf, free}
 use Rattle.bench.specs.Calls.{deviceAt}
@@ -38,13 +38,12 @@ use Rattle.bench.specs.Slot.{presenceOf, restarted}
 use Rattle.bench.specs.declared.Bench.{Bench}
 use Rattle.bench.specs.declared.Place.the-variants.{At}
 use Rattle.bench.specs.Laws.{reset-accepted, place-live, place-found, device-live}
-use Rattle.master_rules.specs.declared.Access.{Access}
 use Rattle.master_rules.specs.Access.{addressed, afterSlots, judgedReply, fetched, readBack, admission, readAt}
 use Rattle.master_rules.specs.Issued.{issued}
 use Rattle.history_laws.specs.History.{after}
 use Rattle.access_laws.specs.Unrefused.{readBits}
 use Rattle.access_laws.specs.Laws.{admitted-free, read-unrefused}
-use Rattle.access_laws.specs.Shown.{shownAt, AbsentRefused, ReadAnswer}
+use Rattle.access_laws.specs.Shown.{answeredWith, shownAt, AbsentRefused, ReadAnswer}
 use Rattle.access_laws.specs.ShownLaws.{code-at, shows-scratchpad, shows-ones}
 use Rattle.access_laws.specs.Bytewise.{Bytewise, Readable, readable-after}
 
@@ -137,7 +136,7 @@ module _ (b : Bench) (r : Readable b) (code i : ℕ) (f : free b ≡ true) (at :
   place-lt : i < length (live b)
   place-lt = place-live b code i at
 
-  has : deviceAt b i .code ≡ code
+  pub has : deviceAt b i .code ≡ code
   has = rw (device-live b code i at) at (place-found b code i at)
 
   code-sound : codeRefusal code ≡ accepted
@@ -145,11 +144,11 @@ module _ (b : Bench) (r : Readable b) (code i : ℕ) (f : free b ≡ true) (at :
       eqb-true (codeRefusal code) accepted
       (rw (place-found b code i at) at (code-at (λ c. sound c ≡ true) (live b) i place-lt (r .sound .codes-sound)))
 
-  admitted : admission b code ≡ accepted
+  pub admitted : admission b code ≡ accepted
   unfolding admission
   admitted = rw (code-sound, f)
 
-  present : presenceOf b ≡ true
+  pub present : presenceOf b ≡ true
   present = let l = place-lt in let k = length-take (b .count) (b .devices) in lt-ltb 0 (b .count) (omega arith)
 
   pub pad-sound : PadSound (withPins (propertiesOf (familyOf code)) (deviceAt b i .pins)) (deviceAt b i .scratchpad)
@@ -172,17 +171,8 @@ module _ (b : Bench) (r : Readable b) (code i : ℕ) (f : free b ≡ true) (at :
       shows-scratchpad b code i (r .codes-fit) (r .sound .codes-distinct) f at (pad-sound .eight)
       (bytewise .stored .pad-bytes)
 
-  -- the answer, with the bench after its slots
-  abbrev pub answered : Bench → Access
-  answered c = record {
-    refusal = accepted;
-    pad = nineBytes (deviceAt b i .scratchpad);
-    reading = readingIn (familyRow code) (deviceAt b i .scratchpad);
-    fine = fineIn (familyRow code) (deviceAt b i .scratchpad);
-    bench = c;
-  }
-
-  read-is : readAt b code ≡ answered (afterSlots 72 (addressed code readScratchpad (restarted b)))
+  read-is : readAt b code ≡ answeredWith code (deviceAt b i .scratchpad)
+      (afterSlots 72 (addressed code readScratchpad (restarted b)))
   unfolding rowOf
   read-is =
       read-judged b code admitted present
@@ -195,8 +185,10 @@ module _ (b : Bench) (r : Readable b) (code i : ℕ) (f : free b ≡ true) (at :
   bench-is : readAt b code .bench ≡ issued (readBits code ∷ []) b .bench
   bench-is = rw present at (read-unrefused b code admitted .bench-is)
 
-  pub read-answered : readAt b code ≡ answered (issued (readBits code ∷ []) b .bench)
-  read-answered = read-is ∙ ap answered (sym (ap (λ a. a .bench) read-is) ∙ bench-is)
+  pub read-answered : readAt b code ≡ answeredWith code (deviceAt b i .scratchpad)
+      (issued (readBits code ∷ []) b .bench)
+  read-answered = read-is ∙ ap (answeredWith code (deviceAt b i .scratchpad)) (sym (ap (λ a. a .bench) read-is)
+      ∙ bench-is)
 
 -- ## The claims
 

@@ -1,6 +1,8 @@
 -- What a read at a code shows (the scope, "The master"), and that no read and no write of a bench that calls reach is
 -- refused with 6, 11 or 20.
 --     shownAt b code        the nine bytes that the line shows in the 72 read slots of a read at the code
+--     answeredWith          the answer of an accepted read: the eight bytes of a scratchpad with their CRC, and the
+--                           reading in them with the fine one
 --     ShowsScratchpad       where a device has the code, they are its scratchpad and the CRC of that
 --     ShowsOnes             where no device has it, they are all FFh
 --     AbsentRefused         and then the read is refused with 5
@@ -37,10 +39,20 @@ use Rattle.bench.specs.declared.Bench.{Bench}
 use Rattle.bench.specs.declared.Place.the-variants.{At, Nowhere}
 use Rattle.bench.specs.Sound.{codesOf}
 use Rattle.master_rules.specs.Thermometers.{unstaged}
+use Rattle.master_rules.specs.declared.Access.{Access}
 use Rattle.master_rules.specs.Access.{addressed, bytesShown, admission, readAt, writeAt}
 use Rattle.master_rules.specs.Issued.{issued}
 use Rattle.history_laws.specs.History.{Call, finishConversion, Typed, Code64, after}
 use Rattle.access_laws.specs.Unrefused.{readBits}
+
+abbrev pub answeredWith : ℕ → List ℕ → Bench → Access
+answeredWith code pad b = record {
+  refusal = accepted;
+  pad = nineBytes pad;
+  reading = readingIn (familyRow code) pad;
+  fine = fineIn (familyRow code) pad;
+  bench = b;
+}
 
 abbrev pub shownAt : Bench → ℕ → List ℕ
 shownAt b code = bytesShown 9 (addressed code readScratchpad (restarted b))
@@ -75,14 +87,8 @@ ReadKeeps = (b : Bench) (code : ℕ) → Code64 code → Below 64 (codesOf b)
 -- the device at place i has the code, and no device holds the wire
 abbrev pub ReadAnswer : Type 0
 ReadAnswer = (h : List Call) → Each Typed h → (code i : ℕ) → free (after h) ≡ true → placeOf (after h) code ≡ At i
-    → readAt (after h) code
-    ≡ record {
-      refusal = accepted;
-      pad = nineBytes (deviceAt (after h) i .scratchpad);
-      reading = readingIn (familyRow code) (deviceAt (after h) i .scratchpad);
-      fine = fineIn (familyRow code) (deviceAt (after h) i .scratchpad);
-      bench = issued (readBits code ∷ []) (after h) .bench;
-    }
+    → readAt (after h) code ≡ answeredWith code (deviceAt (after h) i .scratchpad)
+    (issued (readBits code ∷ []) (after h) .bench)
 
 -- s sixteenths are 4 s over 64 degrees
 abbrev pub FineIsCount : Type 0

@@ -158,22 +158,25 @@ module _ (b : Bench) (code : ℕ) (fit : Below 64 (codesOf b)) (fits : code < 2 
 
 -- ## Who has the code
 
+-- a code that none of some devices has is not that of the device at any place
+pub differs-at : (code : ℕ) (ds : List Device) (i : ℕ) → i < length ds → Each (λ c. code ≢ c) (map (λ d. d .code) ds)
+    → code ≢ getD ds i vacant .code
+differs-at code [] i h n = absurd (omega arith)
+differs-at code (d ∷ ds) zero h n = n .0
+differs-at code (d ∷ ds) (suc i) h n = differs-at code ds i (omega arith) (n .1)
+
+pub others-differ : (code : ℕ) (ds : List Device) → Each (λ c. code ≢ c) (map (λ d. d .code) ds)
+    → Each (λ d. d .code ≢ code) ds
+others-differ code [] n = tt
+others-differ code (d ∷ ds) n = ((λ z. n .0 (sym z)), others-differ code ds (n .1))
+
 -- of different codes one is that of place i
 one-at : (ds : List Device) (i : ℕ) → i < length ds → Distinct (map (λ d. d .code) ds)
     → OneAmong (λ d. d ≡ getD ds i vacant) (λ d. d .code ≢ getD ds i vacant .code) ds
 one-at [] i h k = absurd (omega arith)
-one-at (d ∷ ds) zero h k = inl (refl, others ds (k .0))
-  where
-    others : (es : List Device) → Each (λ c. d .code ≢ c) (map (λ e. e .code) es) → Each (λ e. e .code ≢ d .code) es
-    others [] n = tt
-    others (e ∷ es) n = ((λ z. n .0 (sym z)), others es (n .1))
-one-at (d ∷ ds) (suc i) h k = let l : i < length ds = omega arith in inr (differs ds i l (k .0), one-at ds i l (k .1))
-  where
-    differs : (es : List Device) (j : ℕ) → j < length es → Each (λ c. d .code ≢ c) (map (λ e. e .code) es)
-        → d .code ≢ getD es j vacant .code
-    differs [] j l n = absurd (omega arith)
-    differs (e ∷ es) zero l n = n .0
-    differs (e ∷ es) (suc j) l n = differs es j (omega arith) (n .1)
+one-at (d ∷ ds) zero h k = inl (refl, others-differ (d .code) ds (k .0))
+one-at (d ∷ ds) (suc i) h k = let l : i < length ds = omega arith in
+    inr (differs-at (d .code) ds i l (k .0), one-at ds i l (k .1))
 
 -- ## The claims
 

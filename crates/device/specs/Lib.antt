@@ -1,11 +1,11 @@
 pub mod Record
 pub mod Settings
-pub mod SettingsLaws
 pub mod Offer
 pub mod OfferLaws
 pub mod Hear
 pub mod Stages
 pub mod StillLaws
+pub mod SettingsLaws
 pub mod Power
 pub mod Finish
 pub mod Outcomes
