@@ -43,7 +43,7 @@ use Rattle.master_rules.specs.Issued.{issued}
 use Rattle.history_laws.specs.History.{after}
 use Rattle.access_laws.specs.Unrefused.{readBits}
 use Rattle.access_laws.specs.Laws.{admitted-free, read-unrefused}
-use Rattle.access_laws.specs.Shown.{answeredWith, shownAt, AbsentRefused, ReadAnswer}
+use Rattle.access_laws.specs.Shown.{answeredWith, shownAt, AbsentRefused, ReadAnswer, ReadPromise}
 use Rattle.access_laws.specs.ShownLaws.{code-at, shows-scratchpad, shows-ones}
 use Rattle.access_laws.specs.Bytewise.{Bytewise, Readable, readable-after}
 
@@ -194,3 +194,6 @@ module _ (b : Bench) (r : Readable b) (code i : ℕ) (f : free b ≡ true) (at :
 
 pub read-answer : ReadAnswer
 read-answer h t code i f at = read-answered (after h) (readable-after h t) code i f at
+
+pub read-promised : (b : Bench) (code : ℕ) → ReadPromise b code
+read-promised b code h t e i f at = read-answered b (rw e at (readable-after h t)) code i f at

@@ -10,6 +10,7 @@
 --     ReadAnswer            after every history a read at the code of a device, where none holds the wire, is accepted
 --                           and answers that device's own nine bytes and the reading in them, with the fine one, and
 --                           the bench is where the slot rule leaves it
+--     ReadPromise           so it is on a bench to which any history leads
 --     FineIsCount           after every history that ends with an accepted finish of a device in half degrees, the fine
 --                           reading that a read at its code answers is the count of that finish
 --     NeverDamaged          after every history no read and no write is refused with 6, 11 or 20
@@ -89,6 +90,10 @@ abbrev pub ReadAnswer : Type 0
 ReadAnswer = (h : List Call) → Each Typed h → (code i : ℕ) → free (after h) ≡ true → placeOf (after h) code ≡ At i
     → readAt (after h) code ≡ answeredWith code (deviceAt (after h) i .scratchpad)
     (issued (readBits code ∷ []) (after h) .bench)
+
+abbrev pub ReadPromise : Bench → ℕ → Type 0
+ReadPromise b code = (h : List Call) → Each Typed h → after h ≡ b → (i : ℕ) → free b ≡ true → placeOf b code ≡ At i
+    → readAt b code ≡ answeredWith code (deviceAt b i .scratchpad) (issued (readBits code ∷ []) b .bench)
 
 -- s sixteenths are 4 s over 64 degrees
 abbrev pub FineIsCount : Type 0

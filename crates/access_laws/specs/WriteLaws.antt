@@ -54,8 +54,7 @@ use Rattle.access_laws.specs.Shown.{answeredWith}
 use Rattle.access_laws.specs.ShownLaws.{differs-at, others-differ, read-kept}
 use Rattle.access_laws.specs.Taken.{settledBy, SettingBytes, write-picks}
 use Rattle.access_laws.specs.Unrefused.{readBits, writeBits}
-use Rattle.access_laws.specs.Written.{withAsked, padWritten, writtenAt, benchWritten, WriteAnswer}
-use Rattle.access_laws.specs.Written.{BusyWriteAnswer, WriteLeaves, WriteMisses, WriteNeighbours}
+use Rattle.access_laws.specs.Written.{withAsked, padWritten, writtenAt, benchWritten, WriteAnswer, WritePromise}
 
 -- ## Lists of devices
 
@@ -248,15 +247,15 @@ module _ (b : Bench) (r : Readable b) (code i : ℕ) (s : Settings) (bytes : Set
           (settings-long row (device .scratchpad) s eight)
           (settings-twice row (device .scratchpad) s eight))
 
-  busy-accepted : busy device ≡ true → withAsked device s ≡ device .scratchpad
+  busy-answered : busy device ≡ true → withAsked device s ≡ device .scratchpad
       → writeAt b code s ≡ answeredWith code (device .scratchpad) (benchWritten b code s)
-  busy-accepted busy-now e =
+  busy-answered busy-now e =
       write-accepted (device .scratchpad) (rw busy-now)
       (held-as-asked (familyRow code) (device .pins) (device .scratchpad) s eight (rw own at e))
 
-  busy-refused : busy device ≡ true → withAsked device s ≢ device .scratchpad
+  busy-mismatched : busy device ≡ true → withAsked device s ≢ device .scratchpad
       → writeAt b code s ≡ refusedAt mismatch (benchWritten b code s)
-  busy-refused busy-now n = by-test (asAsked (familyRow code) s (nineBytes (device .scratchpad))) refl
+  busy-mismatched busy-now n = by-test (asAsked (familyRow code) s (nineBytes (device .scratchpad))) refl
     where
       by-test : (t : Bool) → asAsked (familyRow code) s (nineBytes (device .scratchpad)) ≡ t
           → writeAt b code s ≡ refusedAt mismatch (benchWritten b code s)
@@ -264,8 +263,8 @@ module _ (b : Bench) (r : Readable b) (code i : ℕ) (s : Settings) (bytes : Set
           (pad-sound b r code i f at .as-kept) a)))
       by-test false a = write-refused (device .scratchpad) (rw busy-now) a
 
-  leaves : map unstaged (live (writeAt b code s .bench)) ≡ writtenAt b i s
-  leaves =
+  written-there : map unstaged (live (writeAt b code s .bench)) ≡ writtenAt b i s
+  written-there =
       touched b code s bytes fits (r .codes-fit) f (admitted b r code i f at) (present b r code i f at)
       ∙ one-settled code s (live b) i (place-live b code i at) (r .sound .codes-distinct) (place-found b code i at)
       ∙ ap (λ (d : Device). set (map unstaged (live b)) i (unstaged (withScratchpad d (padWritten d s))))
@@ -295,72 +294,61 @@ write-benches b code s bytes fits fit P same written = by-admission (eqb (admiss
     by-admission true e = by-presence (eqb-true (admission b code) accepted e) (presenceOf b) refl
     by-admission false e = rw (write-unsent b code s (eqb-false (admission b code) accepted e)) same
 
--- ## The claims
-
-pub write-answer : WriteAnswer
-write-answer h t code i s typed f at idle =
-    idle-answered (after h) (readable-after h t) code i s (typed .1, typed .2, typed .3) (typed .0) f at idle
-
-pub busy-write-answer : BusyWriteAnswer
-busy-write-answer h t code i s typed f at busy-now =
-    let r = readable-after h t in
-    let bytes : SettingBytes s = (typed .1, typed .2, typed .3) in (
-      busy-accepted (after h) r code i s bytes (typed .0) f at busy-now,
-      busy-refused (after h) r code i s bytes (typed .0) f at busy-now,
-    )
-
-pub write-leaves : WriteLeaves
-write-leaves h t code i s typed f at = leaves (after h) (readable-after h t) code i s (
-  typed .1,
-  typed .2,
-  typed .3,
-) (typed .0) f at
-
-pub write-misses : WriteMisses
-write-misses h t code s typed nowhere =
-    write-benches (after h) code s (
-      typed .1,
-      typed .2,
-      typed .3,
-    ) (typed .0) (readable-after h t .codes-fit) (λ ds. ds ≡ map unstaged (live (after h))) refl
-    (others-settled code s (live (after h)) (place-nowhere (after h) code nowhere))
-
 codes-unstaged : (ds : List Device) → map (λ d. d .code) (map unstaged ds) ≡ map (λ d. d .code) ds
 codes-unstaged [] = refl
 codes-unstaged (d ∷ ds) = let i = codes-unstaged ds in rw i
 
-pub write-neighbours : WriteNeighbours
-write-neighbours h t code other i s typed n at =
-    ap unstaged (sym (device-live after-it other i at-after)) ∙ same-there
-    ∙ ap unstaged (device-live (after h) other i at)
+neighbour-kept : (b : Bench) (code : ℕ) (s : Settings) → SettingBytes s → code < 2 ^ 64 → Below 64 (codesOf b)
+    → (other i : ℕ) → other ≢ code → placeOf b other ≡ At i
+    → unstaged (deviceAt (writeAt b code s .bench) i) ≡ unstaged (deviceAt b i)
+neighbour-kept b code s bytes fits fit other i n at =
+    ap unstaged (sym (device-live after-it other i at-after)) ∙ same-there ∙ ap unstaged (device-live b other i at)
   where
     before : List Device
-    before = live (after h)
+    before = live b
 
     after-it : Bench
-    after-it = writeAt (after h) code s .bench
-
-    bytes : SettingBytes s
-    bytes = (typed .1, typed .2, typed .3)
+    after-it = writeAt b code s .bench
 
     at-after : placeOf after-it other ≡ At i
     at-after =
-        place-by-codes (after h) after-it other
+        place-by-codes b after-it other
         (sym (codes-unstaged (live after-it))
-        ∙ write-benches (after h) code s bytes (typed .0) (readable-after h t .codes-fit) (λ ds. map (λ d. d .code) ds
-        ≡ codesOf (after h)) (codes-unstaged before)
+        ∙ write-benches b code s bytes fits fit (λ ds. map (λ d. d .code) ds ≡ codesOf b) (codes-unstaged before)
         (codes-unstaged (map (settledBy code s) before) ∙ settled-codes code s before))
         ∙ at
 
     settled-there : unstaged (getD (map (settledBy code s) before) i vacant) ≡ unstaged (getD before i vacant)
     settled-there =
-        ap unstaged (map-at (settledBy code s) before i vacant vacant (place-live (after h) other i at))
-        ∙ rw (ne-eqb (getD before i vacant .code) code (λ e. n (sym (place-found (after h) other i at) ∙ e)))
+        ap unstaged (map-at (settledBy code s) before i vacant vacant (place-live b other i at))
+        ∙ rw (ne-eqb (getD before i vacant .code) code (λ e. n (sym (place-found b other i at) ∙ e)))
 
     same-there : unstaged (getD (live after-it) i vacant) ≡ unstaged (getD before i vacant)
     same-there =
         sym (List·getD-map unstaged (live after-it) i vacant)
-        ∙ write-benches (after h) code s bytes (typed .0) (readable-after h t .codes-fit)
-        (λ ds. getD ds i (unstaged vacant) ≡ unstaged (getD before i vacant))
-        (List·getD-map unstaged before i vacant)
+        ∙ write-benches b code s bytes fits fit (λ ds. getD ds i (unstaged vacant)
+        ≡ unstaged (getD before i vacant)) (List·getD-map unstaged before i vacant)
         (List·getD-map unstaged (map (settledBy code s) before) i vacant ∙ settled-there)
+
+-- ## The claims
+
+pub write-answer : WriteAnswer
+write-answer h t code s typed = record {
+  idle-answer = λ i f at. idle-answered (after h) r code i s bytes (typed .0) f at;
+  busy-accepted = λ i f at. busy-answered (after h) r code i s bytes (typed .0) f at;
+  busy-refused = λ i f at. busy-mismatched (after h) r code i s bytes (typed .0) f at;
+  leaves = λ i f at. written-there (after h) r code i s bytes (typed .0) f at;
+  misses = λ nowhere.
+      write-benches (after h) code s bytes (typed .0) (r .codes-fit) (λ ds. ds ≡ map unstaged (live (after h))) refl
+      (others-settled code s (live (after h)) (place-nowhere (after h) code nowhere));
+  neighbours = neighbour-kept (after h) code s bytes (typed .0) (r .codes-fit);
+}
+  where
+    r : Readable (after h)
+    r = readable-after h t
+
+    bytes : SettingBytes s
+    bytes = (typed .1, typed .2, typed .3)
+
+pub write-promised : (b : Bench) (code : ℕ) (s : Settings) → WritePromise b code s
+write-promised b code s h t typed e = rw (← e) (write-answer h t code s typed)

@@ -5,15 +5,9 @@
 --     padWritten d s      the scratchpad of d after a write of s at its code: a busy device ignores 4Eh, and keeps it
 --     writtenAt b i s     the devices of b without their stages, and with this scratchpad in the one at place i
 --     benchWritten        the bench after the resets and slots of a write and of the read that follows it
---     WriteAnswer         at the code of an idle device a write is accepted and answers the device's bytes with all of
---                         the settings as asked, their CRC and the reading in them
---     BusyWriteAnswer     at that of a busy one, which has a supply of its own, it is accepted just where the device
---                         holds what was asked, and else refused with 13
---     WriteLeaves         the device then holds these bytes, and nothing else on the bench has changed but stages
---     WriteMisses         where no device has the code nothing changes but stages
---     WriteNeighbours     whatever the answer, a device with another code changes in its stage alone
--- Each is a claim on the bench after every history; the first three are where no device holds the wire and the one at
--- place i has the code.
+--     Writes b code s     what a write of s at the code comes to on the bench b, whoever is there
+--     WriteAnswer         so it is on the bench after every history
+--     WritePromise        and on a bench to which any history leads
 use Prim.Native.Nat.{ℕ}
 use mathlib.Core.Bool.{true, false}
 use mathlib.Core.List.{List, [], _∷_, map}
@@ -53,31 +47,32 @@ benchWritten b code s = issued (writeBits (familyRow code) code s ∷ readBits c
 
 -- ## The claims
 
+-- `At i` and `free`: the device at place i has the code, and no device holds the wire
+pub record Writes (b : Bench) (code : ℕ) (s : Settings) : Type 0 where
+  -- at an idle device it is accepted, and answers the device's bytes with all of the settings as asked, their CRC and
+  -- the reading in them
+  pub idle-answer : (i : ℕ) → free b ≡ true → placeOf b code ≡ At i → busy (deviceAt b i) ≡ false
+      → writeAt b code s ≡ answeredWith code (withAsked (deviceAt b i) s) (benchWritten b code s)
+  -- at a busy one, which has a supply of its own, it is accepted where the device holds what was asked already
+  pub busy-accepted : (i : ℕ) → free b ≡ true → placeOf b code ≡ At i → busy (deviceAt b i) ≡ true
+      → withAsked (deviceAt b i) s ≡ deviceAt b i .scratchpad
+      → writeAt b code s ≡ answeredWith code (deviceAt b i .scratchpad) (benchWritten b code s)
+  -- and else refused with 13
+  pub busy-refused : (i : ℕ) → free b ≡ true → placeOf b code ≡ At i → busy (deviceAt b i) ≡ true
+      → withAsked (deviceAt b i) s ≢ deviceAt b i .scratchpad
+      → writeAt b code s ≡ refusedAt mismatch (benchWritten b code s)
+  -- the device then holds these bytes, and nothing else on the bench has changed but stages
+  pub leaves : (i : ℕ) → free b ≡ true → placeOf b code ≡ At i
+      → map unstaged (live (writeAt b code s .bench)) ≡ writtenAt b i s
+  -- where no device has the code nothing changes but stages
+  pub misses : placeOf b code ≡ Nowhere → map unstaged (live (writeAt b code s .bench)) ≡ map unstaged (live b)
+  -- whatever the answer, a device with another code changes in its stage alone
+  pub neighbours : (other i : ℕ) → other ≢ code → placeOf b other ≡ At i
+      → unstaged (deviceAt (writeAt b code s .bench) i) ≡ unstaged (deviceAt b i)
+
 abbrev pub WriteAnswer : Type 0
-WriteAnswer = (h : List Call) → Each Typed h → (code i : ℕ) (s : Settings) → Typed (write code s)
-    → free (after h) ≡ true → placeOf (after h) code ≡ At i → busy (deviceAt (after h) i) ≡ false
-    → writeAt (after h) code s ≡ answeredWith code (withAsked (deviceAt (after h) i) s) (benchWritten (after h) code s)
+WriteAnswer = (h : List Call) → Each Typed h → (code : ℕ) (s : Settings) → Typed (write code s)
+    → Writes (after h) code s
 
--- the device holds what was asked where the settings asked leave its bytes as they are
-abbrev pub BusyWriteAnswer : Type 0
-BusyWriteAnswer = (h : List Call) → Each Typed h → (code i : ℕ) (s : Settings) → Typed (write code s)
-    → free (after h) ≡ true → placeOf (after h) code ≡ At i → busy (deviceAt (after h) i) ≡ true
-    → let held = deviceAt (after h) i .scratchpad in
-    let asked = withAsked (deviceAt (after h) i) s in
-    (asked ≡ held → writeAt (after h) code s ≡ answeredWith code held (benchWritten (after h) code s))
-    × (asked ≢ held → writeAt (after h) code s ≡ refusedAt mismatch (benchWritten (after h) code s))
-
-abbrev pub WriteLeaves : Type 0
-WriteLeaves = (h : List Call) → Each Typed h → (code i : ℕ) (s : Settings) → Typed (write code s)
-    → free (after h) ≡ true → placeOf (after h) code ≡ At i
-    → map unstaged (live (writeAt (after h) code s .bench)) ≡ writtenAt (after h) i s
-
-abbrev pub WriteMisses : Type 0
-WriteMisses = (h : List Call) → Each Typed h → (code : ℕ) (s : Settings) → Typed (write code s)
-    → placeOf (after h) code ≡ Nowhere
-    → map unstaged (live (writeAt (after h) code s .bench)) ≡ map unstaged (live (after h))
-
-abbrev pub WriteNeighbours : Type 0
-WriteNeighbours = (h : List Call) → Each Typed h → (code other i : ℕ) (s : Settings) → Typed (write code s)
-    → other ≢ code → placeOf (after h) other ≡ At i
-    → unstaged (deviceAt (writeAt (after h) code s .bench) i) ≡ unstaged (deviceAt (after h) i)
+abbrev pub WritePromise : Bench → ℕ → Settings → Type 0
+WritePromise b code s = (h : List Call) → Each Typed h → Typed (write code s) → after h ≡ b → Writes b code s

@@ -3,6 +3,8 @@ ghost use mathlib.Core.Path.{_≡_};
 ghost use Rattle.master_rules.specs.Wire.{sent};
 ghost use Rattle.master_rules.specs.Access.{refusedAt, addressed, fetched, readBack, admission, readAt, settingsSent};
 ghost use Rattle.master_rules.specs.Access.{asAsked, writtenAndRead, writeAt};
+ghost use Rattle.access_laws.specs.Shown.{ReadPromise};
+ghost use Rattle.access_laws.specs.Written.{WritePromise};
 ghost use Rattle.at_code.specs.Replies.{byteReadOf, replied};
 use bench::Bench;
 use device::Settings;
@@ -150,6 +152,7 @@ fn admit(bench: Bench, code: u64) -> u8
 // Reads the scratchpad of the device with this code: reset, 55h, the code, BEh and 72 read slots.
 pub fn read_at(bench: Bench, code: u64) -> Access
     ensures answer { λ r. ⌜ r ≡ readAt bench code ⌝ }
+    ensures history { λ r. ⌜ ReadPromise bench code ⌝ }
 {
     let refusal = admit(bench, code);
     if refusal != refusals::ACCEPTED {
@@ -200,10 +203,12 @@ fn write_and_compare(bench: Bench, code: u64, s: Settings) -> Access
     back
 }
 
-// Writes the settings of the device with this code, and reads them back: reset, 55h, the code, 4Eh and
-// the bytes, then a read at the code. A family without a configuration ignores that byte.
+// Writes the settings of the device with this code, all of them and nothing else, and reads them back:
+// reset, 55h, the code, 4Eh and the bytes, then a read at the code. A family without a configuration
+// ignores that byte.
 pub fn write_at(bench: Bench, code: u64, s: Settings) -> Access
     ensures answer { λ r. ⌜ r ≡ writeAt bench code s ⌝ }
+    ensures history { λ r. ⌜ WritePromise bench code s ⌝ }
 {
     let refusal = admit(bench, code);
     if refusal != refusals::ACCEPTED {

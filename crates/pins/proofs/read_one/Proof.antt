@@ -26,10 +26,10 @@ returns-2 c =
     let read = c .before .before .before .before in
     let test = read .before .before in
     let some = sym (test .before .is-pinned .ensures) ∙ not-false _ (test .if1 .left) in
-    let refused = rw (read .read-at .ensures) at (c .if2 .taken) in
+    let refused = rw (read .read-at .ensures .0) at (c .if2 .taken) in
     let a = test .before .before .before .args in (
       omega arith,
-      λ list0 f h. rw (read .read-at .ensures)
+      λ list0 f h. rw (read .read-at .ensures .0)
           (holds-refused list0 (now (a .list)) (a .r) f (a .code) h some refused),
     )
 
@@ -63,11 +63,11 @@ returns-3 c =
     let read = else .before .before .before .before in
     let test = read .before .before in
     let some = sym (test .before .is-pinned .ensures) ∙ not-false _ (test .if1 .left) in
-    let done = rw (read .read-at .ensures) at (else .if2 .left) in
+    let done = rw (read .read-at .ensures .0) at (else .if2 .left) in
     let start = test .before .before .before in
     let a = start .args in (
       omega arith,
-      λ list0 f h. rw (read .read-at .ensures)
+      λ list0 f h. rw (read .read-at .ensures .0)
           (holds-read list0 (now (a .list)) (a .r) f (a .code) h some done (start .pre .0)),
     )
 

@@ -274,7 +274,7 @@ returns-10 c =
     (arm .access .last .1 .0) (arm .access .result) (arm .access .ensures .0) (arm .access .ensures .1 .0)
     (arm .access .ensures .1 .1) in
     rw told (subst (λ (r : Access). Says (now (start .args .out)) (ofAccess r) (arm .access .last .1 .0)
-    (arm .access .result)) (call .read-at .ensures) said)
+    (arm .access .result)) (call .read-at .ensures .0) said)
 
 same-length-11 : tie.Need-same-length-11
 same-length-11 c = search needs
@@ -290,7 +290,7 @@ returns-11 c =
     (arm .access2 .last .1 .0) (arm .access2 .result) (arm .access2 .ensures .0) (arm .access2 .ensures .1 .0)
     (arm .access2 .ensures .1 .1) in
     rw told (subst (λ (r : Access). Says (now (start .args .out)) (ofAccess r) (arm .access2 .last .1 .0)
-    (arm .access2 .result)) (call .write-at .ensures) said)
+    (arm .access2 .result)) (call .write-at .ensures .0) said)
 
 same-length-12 : tie.Need-same-length-12
 same-length-12 c = search needs

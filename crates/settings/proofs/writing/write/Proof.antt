@@ -24,7 +24,7 @@ returns-2 : tie.Need-returns-2
 unfolding settingsWritten
 returns-2 c =
     let test = c .before .before in
-    simp (← test .before .before .read .ensures, eq-eqb _ _ (test .if1 .left), c .write-at .ensures)
+    simp (← test .before .before .read .ensures, eq-eqb _ _ (test .if1 .left), c .write-at .ensures .0)
 
 pub write-spec : {M : Type 1} → statement M
 write-spec = tie.close (tie.spec read-requires refuse-requires returns write-at-requires returns-2)
