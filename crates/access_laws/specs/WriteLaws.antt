@@ -13,6 +13,7 @@ use lib.ListN.{length, getD, set, List·getD-map}
 use Rattle.basic_laws.specs.Choice.{if_then_else_}
 use Rattle.basic_laws.specs.Each.{Each, Distinct}
 use Rattle.basic_laws.specs.First.{firstWith}
+use Rattle.basic_laws.specs.FirstLaws.{first-mapped}
 use Rattle.basic_laws.specs.Fold.{fold}
 use Rattle.refusals.specs.Refusals.{accepted, noPresence, mismatch}
 use Rattle.family.specs.Families.{withPins}
@@ -65,17 +66,12 @@ map-at f (x ∷ l) zero y z h = refl
 map-at f (x ∷ l) (suc i) y z h = map-at f l i y z (omega arith)
 
 -- a place goes by the codes alone
-first-codes : (code k : ℕ) (ds : List Device)
-    → firstWith (λ d. eqb (d .code) code) At Nowhere k ds
-    ≡ firstWith (λ c. eqb c code) At Nowhere k (map (λ d. d .code) ds)
-unfolding firstWith
-first-codes code k [] = refl
-first-codes code k (d ∷ ds) = let i = first-codes code (suc k) ds in rw i
-
 pub place-by-codes : (b c : Bench) (code : ℕ) → codesOf c ≡ codesOf b → placeOf c code ≡ placeOf b code
 unfolding placeOf
 place-by-codes b c code e =
-    first-codes code 0 (live c) ∙ ap (firstWith (λ k. eqb k code) At Nowhere 0) e ∙ sym (first-codes code 0 (live b))
+    first-mapped (λ (d : Device). d .code) (λ k. eqb k code) At Nowhere 0 (live c)
+    ∙ ap (firstWith (λ k. eqb k code) At Nowhere 0) e
+    ∙ sym (first-mapped (λ (d : Device). d .code) (λ k. eqb k code) At Nowhere 0 (live b))
 
 settled-codes : (code : ℕ) (s : Settings) (ds : List Device)
     → map (λ d. d .code) (map (settledBy code s) ds) ≡ map (λ d. d .code) ds

@@ -6,26 +6,39 @@
 --     afterCalls h          that store
 --     settled a             the first settings of an account under its changes, in turn
 --     shownOf code a        what a read of the code shows, by its account
+--     addingRefusal, changeRefusal
+--                           what an adding and a change are refused with, in order; a removal is refused as a read is
+--     writtenOf code a b    a write of the settings to the bench b
 --     InTurn n changes      the changes named n, n + 1 and so on
---     RunsRight             after every run each read shows its account, each accepted change named how many there were
---                           before it, and a code has one place for ever
+--     RunsRight             after every run each call is answered by the account of its code, each accepted change
+--                           named how many there were before it and answers the version that a read then shows, and a
+--                           code has one place for ever
 --     SameVersion           equal versions of a code mean equal settings
 --     NothingUndone         an accepted change alters just what its caller had read
+--     Neighbours            what an accepted change leaves is as its caller had read it, and what it sets is as asked,
+--                           of a configuration bits 6 and 5
 use Prim.Native.Nat.{ℕ, _+_, _≤_}
-use mathlib.Core.Bool.{Bool, true, false, not, _&&_}
+use mathlib.Core.Bool.{Bool, true, false, not, _&&_, _||_}
 use mathlib.Core.List.{List, [], _∷_, _++_}
 use mathlib.Core.Path.{_≡_}
-use lib.Dec.{eqb}
+use lib.Bits.{bitAnd}
+use lib.Dec.{eqb, ltb}
 use lib.ListN.{length}
 use Rattle.basic_laws.specs.Choice.{if_then_else_}
 use Rattle.basic_laws.specs.Each.{Distinct}
 use Rattle.basic_laws.specs.Fold.{fold}
-use Rattle.refusals.specs.Refusals.{accepted, notFound}
+use Rattle.refusals.specs.Refusals.{accepted, duplicate, benchFull, notFound, staleVersion, versionsSpent}
 use Rattle.rom.specs.Code.{codeRefusal}
 use Rattle.device.specs.declared.Settings.{Settings}
+use Rattle.bench.specs.declared.Bench.{Bench}
+use Rattle.master_rules.specs.declared.Access.{Access}
+use Rattle.master_rules.specs.Access.{refusedAt, writeAt}
 use Rattle.settings.specs.Store.{emptyStore}
 use Rattle.settings.specs.Calls.{keptForm, settingsAdded, settingsRemoved, settingsRead, settingsAltered}
 use Rattle.settings.specs.Calls.{settingsChanged}
+use Rattle.settings.specs.Written.{settingsWritten}
+use Rattle.settings.specs.declared.Alter.{Alter}
+use Rattle.settings.specs.declared.Alter.the-variants.{Leave, To}
 use Rattle.settings.specs.declared.Alterations.{Alterations}
 use Rattle.settings.specs.declared.Current.{Current}
 use Rattle.settings.specs.declared.Store.{Store}
@@ -133,6 +146,35 @@ shownOf code a =
     else if a .present then record { refusal = accepted; settings = settled a; version = length (a .changes) }
     else noneShown notFound
 
+-- how many codes a store takes, and how many changes of one code
+abbrev pub mostCodes : ℕ
+mostCodes = 32
+
+abbrev pub mostChanges : ℕ
+mostChanges = 65535
+
+-- 5 or 7, then 8, then 9 where it would be one code too many
+abbrev pub addingRefusal : ℕ → Account → ℕ → ℕ
+addingRefusal code a ever =
+    if not (eqb (codeRefusal code) accepted) then codeRefusal code
+    else if a .present then duplicate
+    else if a .known || ltb ever mostCodes then accepted
+    else benchFull
+
+-- 5, 7 or 12, then 18, then 19
+abbrev pub changeRefusal : ℕ → Account → ℕ → ℕ
+changeRefusal code a named =
+    let shown = shownOf code a in
+    if not (eqb (shown .refusal) accepted) then shown .refusal
+    else if not (eqb named (length (a .changes))) then staleVersion
+    else if eqb (length (a .changes)) mostChanges then versionsSpent
+    else accepted
+
+abbrev pub writtenOf : ℕ → Account → Bench → Access
+writtenOf code a b =
+    let shown = shownOf code a in
+    if not (eqb (shown .refusal) accepted) then refusedAt (shown .refusal) b else writeAt b code (shown .settings)
+
 abbrev pub InTurn : ℕ → List AcceptedChange → Type 0
 InTurn n [] = Unit
 InTurn n (c ∷ changes) = (c .named ≡ n) × InTurn (n + 1) changes
@@ -141,6 +183,16 @@ InTurn n (c ∷ changes) = (c .named ≡ n) × InTurn (n + 1) changes
 
 pub record Right (b : Book) : Type 0 where
   pub read-is : (code : ℕ) → settingsRead (b .store) code ≡ shownOf code (b .accounts code)
+  pub add-is : (code : ℕ) (first : Settings)
+      → settingsAdded (b .store) code first .refusal ≡ addingRefusal code (b .accounts code) (length (b .codes))
+  pub remove-is : (code : ℕ) → settingsRemoved (b .store) code .refusal ≡ shownOf code (b .accounts code) .refusal
+  pub change-is : (code named : ℕ) (asked : Alterations)
+      → settingsChanged (b .store) code named asked .refusal ≡ changeRefusal code (b .accounts code) named
+  pub version-is : (code named : ℕ) (asked : Alterations)
+      → let done = settingsChanged (b .store) code named asked in
+      done .refusal ≡ accepted → settingsRead (done .store) code .version ≡ done .version
+  pub write-is : (code : ℕ) (wire : Bench) → settingsWritten (b .store) wire code
+      ≡ writtenOf code (b .accounts code) wire
   pub in-turn : (code : ℕ) → InTurn 0 (b .accounts code .changes)
   pub places-are : b .store .count ≡ length (b .codes)
   pub places-few : length (b .codes) ≤ 32
@@ -168,3 +220,20 @@ NothingUndone = (h more : List StoreCall) (code : ℕ) (asked : Alterations)
       settings = settingsAltered (seen .settings) asked;
       version = seen .version + 1;
     }
+
+-- one setting under a change: left, or set to a byte, of which so much is kept
+abbrev pub Becomes : Alter → ℕ → (ℕ → ℕ) → ℕ → Type 0
+Becomes Leave seen kept now = now ≡ seen
+Becomes (To byte) seen kept now = now ≡ kept byte
+
+abbrev pub Neighbours : Type 0
+Neighbours = (h more : List StoreCall) (code : ℕ) (asked : Alterations)
+    → settingsRead (afterCalls h) code .refusal ≡ accepted
+    → let seen = settingsRead (afterCalls h) code in
+    let done = settingsChanged (afterCalls (h ++ more)) code (seen .version) asked in
+    done .refusal ≡ accepted
+    → let now = settingsRead (done .store) code in
+    Becomes (asked .high) (seen .settings .high) (λ byte. byte) (now .settings .high)
+    × Becomes (asked .low) (seen .settings .low) (λ byte. byte) (now .settings .low)
+    × Becomes (asked .configuration) (seen .settings .configuration) (λ byte. bitAnd byte 0x60)
+    (now .settings .configuration)
