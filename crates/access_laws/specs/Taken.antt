@@ -28,7 +28,11 @@ use Rattle.history_laws.specs.History.{Byte}
 use Rattle.access_laws.specs.Course.{Hears, hears-append, hears-then, quiet-hears}
 use Rattle.access_laws.specs.Picked.{address-picks}
 use Rattle.access_laws.specs.Unrefused.{addressBits, settingsBits, writeBits}
-use Rattle.access_laws.specs.Written.{withAsked, padWritten}
+use Rattle.access_laws.specs.Written.{withAsked}
+
+-- a busy device ignores 4Eh
+abbrev pub padWritten : Device → Settings → List ℕ
+padWritten d s = if busy d then d .scratchpad else withAsked d s
 
 abbrev pub settledBy : ℕ → Settings → Device → Device
 settledBy code s d = withStage (withScratchpad d (if eqb (d .code) code then padWritten d s else d .scratchpad)) Quiet

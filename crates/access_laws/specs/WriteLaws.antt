@@ -2,7 +2,7 @@
 -- read like any other, on that bench, so that it shows what the device then holds and changes nothing but stages. The
 -- bytes shown are as asked just where the device holds what was asked.
 use Prim.Native.Nat.{ℕ, zero, suc, _^_, _<_}
-use mathlib.Core.Bool.{Bool, true, false, not, _&&_}
+use mathlib.Core.Bool.{Bool, true, false, not, _&&_, false≢true}
 use mathlib.Core.List.{List, [], _∷_, map}
 use mathlib.Core.Logic.{_≢_}
 use mathlib.Core.Path.{_≡_, refl, sym, ap, _∙_}
@@ -10,12 +10,13 @@ use native.Mathlib.Omega.{arith}
 use borrow.Author.Tests.{eqb-true, eqb-false, eq-eqb, ne-eqb}
 use lib.Dec.{eqb}
 use lib.ListN.{length, getD, set, List·getD-map}
+use lib.Seq.{set-getD}
 use Rattle.basic_laws.specs.Choice.{if_then_else_}
 use Rattle.basic_laws.specs.Each.{Each, Distinct}
 use Rattle.basic_laws.specs.First.{firstWith}
 use Rattle.basic_laws.specs.FirstLaws.{first-mapped}
 use Rattle.basic_laws.specs.Fold.{fold}
-use Rattle.refusals.specs.Refusals.{accepted, noPresence, mismatch}
+use Rattle.refusals.specs.Refusals.{accepted, noPresence, wrongCrc, mismatch}
 use Rattle.family.specs.Families.{withPins}
 use Rattle.family.specs.declared.Properties.{Properties}
 use Rattle.search_laws.specs.Numbers.{Below}
@@ -28,10 +29,11 @@ use Rattle.device.specs.Settings.{withSettings}
 use Rattle.device.specs.SettingsLaws.{settings-twice, settings-long}
 use Rattle.device.specs.declared.Device.{Device}
 use Rattle.device.specs.declared.Settings.{Settings}
-use Rattle.bench.specs.Bench.{live, vacant, placeOf}
+use Rattle.bench.specs.Bench.{live, vacant, placeOf, free}
 use Rattle.bench.specs.Calls.{deviceAt}
 use Rattle.bench.specs.Slot.{presenceOf, restarted, resetDone}
 use Rattle.bench.specs.declared.Bench.{Bench}
+use Rattle.bench.specs.declared.Place.{Place}
 use Rattle.bench.specs.declared.Place.the-variants.{At, Nowhere}
 use Rattle.bench.specs.Laws.{reset-accepted, restarted-live, place-live, place-found, place-nowhere, device-live}
 use Rattle.bench.specs.Sound.{codesOf}
@@ -41,6 +43,7 @@ use Rattle.master_rules.specs.Access.{compared, writtenAndRead, writeAt}
 use Rattle.master_rules.specs.AccessLaws.{write-unsent, held-as-asked, asked-as-held}
 use Rattle.master_rules.specs.Buses.{slotRule}
 use Rattle.master_rules.specs.Issued.{issued}
+use Rattle.master_rules.specs.IssuedLaws.{slots-presence}
 use Rattle.master_rules.specs.OnTheBench.{Free, restarted-keeps, free-restarted}
 use Rattle.master_rules.specs.Thermometers.{unstaged}
 use Rattle.history_laws.specs.History.{after}
@@ -49,13 +52,13 @@ use Rattle.access_laws.specs.Bytewise.{Readable, readable-after, readabl
 use Rattle.access_laws.specs.Course.{Hears, hears-end, hears-then}
 use Rattle.access_laws.specs.Laws.{Ends, heard-runs, heard-live-all, calls-rule, settings-run, admitted-free}
 use Rattle.access_laws.specs.NeverLaws.{admitted-code, admitted-sound, read-admitted, write-admitted}
-use Rattle.access_laws.specs.ReadLaws.{has, admitted, present, pad-sound, read-answered}
+use Rattle.access_laws.specs.ReadLaws.{absent-refused, has, admitted, present, pad-sound, read-answered}
 use Rattle.access_laws.specs.Reply.{IsQuiet}
 use Rattle.access_laws.specs.Shown.{answeredWith}
 use Rattle.access_laws.specs.ShownLaws.{differs-at, others-differ, read-kept}
-use Rattle.access_laws.specs.Taken.{settledBy, SettingBytes, write-picks}
+use Rattle.access_laws.specs.Taken.{padWritten, settledBy, SettingBytes, write-picks}
 use Rattle.access_laws.specs.Unrefused.{readBits, writeBits}
-use Rattle.access_laws.specs.Written.{withAsked, padWritten, writtenAt, benchWritten, WriteAnswer, WritePromise}
+use Rattle.access_laws.specs.Written.{withAsked, writtenAt, benchWritten, WriteAnswer, WritePromise}
 
 -- ## Lists of devices
 
@@ -259,12 +262,57 @@ module _ (b : Bench) (r : Readable b) (code i : ℕ) (s : Settings) (bytes : Set
           (pad-sound b r code i f at .as-kept) a)))
       by-test false a = write-refused (device .scratchpad) (rw busy-now) a
 
-  written-there : map unstaged (live (writeAt b code s .bench)) ≡ writtenAt b i s
+  -- the settings asked, where the write is accepted, are those that the device then holds, busy or not
+  accepted-holds : writeAt b code s .refusal ≡ accepted → padWritten device s ≡ withAsked device s
+  accepted-holds done = by-busy (busy device) refl
+    where
+      by-asked : (t : Bool) → asAsked (familyRow code) s (nineBytes (device .scratchpad)) ≡ t → busy device ≡ true
+          → device .scratchpad ≡ withAsked device s
+      by-asked true a now = rw own (sym (asked-as-held (familyRow code) (device .pins) (device .scratchpad) s eight
+          (pad-sound b r code i f at .as-kept) a))
+      by-asked false a now =
+          let no : mismatch ≡ accepted = ap (λ (x : Access). x .refusal)
+          (sym (write-refused (device .scratchpad) (rw now) a)) ∙ done in
+          absurd (omega (arith, no))
+
+      by-busy : (t : Bool) → busy device ≡ t → (if t then device .scratchpad else withAsked device s)
+          ≡ withAsked device s
+      by-busy true e = by-asked (asAsked (familyRow code) s (nineBytes (device .scratchpad))) refl e
+      by-busy false e = refl
+
+  -- a device whose write is refused is busy, and holds what it held
+  refused-holds : writeAt b code s .refusal ≢ accepted → padWritten device s ≡ device .scratchpad
+  refused-holds not-done = by-busy (busy device) refl
+    where
+      by-busy : (t : Bool) → busy device ≡ t → (if t then device .scratchpad else withAsked device s)
+          ≡ device .scratchpad
+      by-busy true e = refl
+      by-busy false e = absurd (not-done (ap (λ (x : Access). x .refusal) (idle-answered e)))
+
+  written-there : map unstaged (live (writeAt b code s .bench))
+      ≡ set (map unstaged (live b)) i (unstaged (withScratchpad device (padWritten device s)))
   written-there =
       touched b code s bytes fits (r .codes-fit) f (admitted b r code i f at) (present b r code i f at)
       ∙ one-settled code s (live b) i (place-live b code i at) (r .sound .codes-distinct) (place-found b code i at)
       ∙ ap (λ (d : Device). set (map unstaged (live b)) i (unstaged (withScratchpad d (padWritten d s))))
       (device-live b code i at)
+
+  accepted-there : writeAt b code s .refusal ≡ accepted
+      → map unstaged (live (writeAt b code s .bench)) ≡ writtenAt b i s
+  accepted-there done =
+      written-there ∙ ap (λ (pad : List ℕ). set (map unstaged (live b)) i (unstaged (withScratchpad device pad)))
+      (accepted-holds done)
+
+  refused-there : writeAt b code s .refusal ≢ accepted
+      → map unstaged (live (writeAt b code s .bench)) ≡ map unstaged (live b)
+  refused-there not-done =
+      let same : unstaged device ≡ getD (map unstaged (live b)) i (unstaged vacant) =
+      ap unstaged (sym (device-live b code i at)) ∙ sym (List·getD-map unstaged (live b) i vacant) in
+      written-there
+      ∙ ap (λ (pad : List ℕ). set (map unstaged (live b)) i (unstaged (withScratchpad device pad)))
+      (refused-holds not-done)
+      ∙ ap (set (map unstaged (live b)) i) same
+      ∙ set-getD (map unstaged (live b)) i (unstaged vacant)
 
 -- ## Whatever the answer
 
@@ -294,6 +342,13 @@ codes-unstaged : (ds : List Device) → map (λ d. d .code) (map unstaged ds) �
 codes-unstaged [] = refl
 codes-unstaged (d ∷ ds) = let i = codes-unstaged ds in rw i
 
+pub write-codes : (b : Bench) (code : ℕ) (s : Settings) → SettingBytes s → code < 2 ^ 64 → Below 64 (codesOf b)
+    → codesOf (writeAt b code s .bench) ≡ codesOf b
+write-codes b code s bytes fits fit =
+    sym (codes-unstaged (live (writeAt b code s .bench)))
+    ∙ write-benches b code s bytes fits fit (λ ds. map (λ d. d .code) ds ≡ codesOf b) (codes-unstaged (live b))
+    (codes-unstaged (map (settledBy code s) (live b)) ∙ settled-codes code s (live b))
+
 neighbour-kept : (b : Bench) (code : ℕ) (s : Settings) → SettingBytes s → code < 2 ^ 64 → Below 64 (codesOf b)
     → (other i : ℕ) → other ≢ code → placeOf b other ≡ At i
     → unstaged (deviceAt (writeAt b code s .bench) i) ≡ unstaged (deviceAt b i)
@@ -307,12 +362,7 @@ neighbour-kept b code s bytes fits fit other i n at =
     after-it = writeAt b code s .bench
 
     at-after : placeOf after-it other ≡ At i
-    at-after =
-        place-by-codes b after-it other
-        (sym (codes-unstaged (live after-it))
-        ∙ write-benches b code s bytes fits fit (λ ds. map (λ d. d .code) ds ≡ codesOf b) (codes-unstaged before)
-        (codes-unstaged (map (settledBy code s) before) ∙ settled-codes code s before))
-        ∙ at
+    at-after = place-by-codes b after-it other (write-codes b code s bytes fits fit) ∙ at
 
     settled-there : unstaged (getD (map (settledBy code s) before) i vacant) ≡ unstaged (getD before i vacant)
     settled-there =
@@ -326,6 +376,72 @@ neighbour-kept b code s bytes fits fit other i n at =
         ≡ unstaged (getD before i vacant)) (List·getD-map unstaged before i vacant)
         (List·getD-map unstaged (map (settledBy code s) before) i vacant ∙ settled-there)
 
+-- an accepted write found the wire free
+accepted-admitted : (b : Bench) (code : ℕ) (s : Settings) → writeAt b code s .refusal ≡ accepted
+    → admission b code ≡ accepted
+accepted-admitted b code s done = by-test (eqb (admission b code) accepted) refl
+  where
+    by-test : (t : Bool) → eqb (admission b code) accepted ≡ t → admission b code ≡ accepted
+    by-test true e = eqb-true (admission b code) accepted e
+    by-test false e =
+        let n = eqb-false (admission b code) accepted e in
+        absurd (n (ap (λ (x : Access). x .refusal) (sym (write-unsent b code s n)) ∙ done))
+
+-- the read that follows finds nobody either
+absent-never : (b : Bench) (code : ℕ) (s : Settings) → SettingBytes s → code < 2 ^ 64 → Below 64 (codesOf b)
+    → placeOf b code ≡ Nowhere → writeAt b code s .refusal ≢ accepted
+unfolding sentTo
+absent-never b code s bytes fits fit nowhere done = by-presence (presenceOf b) refl
+  where
+    a : admission b code ≡ accepted
+    a = accepted-admitted b code s done
+
+    f : Free b
+    f = admitted-free b code a
+
+    compared-refused : (x : Access) → x .refusal ≢ accepted → compared (familyRow code) s x ≡ x
+    compared-refused x n = rw (ne-eqb (x .refusal) accepted n)
+
+    by-presence : (p : Bool) → presenceOf b ≡ p → ⊥
+    by-presence true there =
+        let c = sentTo b code s bytes fits fit f in
+        let free-there : Free c = sent-free b code s bytes fits fit f in
+        let codes : codesOf c ≡ codesOf b = sent-codes b code s bytes fits fit f in
+        let missing : readAt c code .refusal ≡ wrongCrc =
+        absent-refused c code fits (rw codes fit) (admitted-code c code (admitted-sound b code a) free-there)
+        (slots-presence (writeBits (familyRow code) code s) b ∙ there)
+        (place-by-codes b c code codes ∙ nowhere) in
+        let refused : readAt c code .refusal ≢ accepted = λ e. let no : wrongCrc ≡ accepted = sym missing ∙ e in
+        omega (arith, no) in
+        refused (ap (λ (x : Access). x .refusal)
+        (sym (write-is b code s bytes fits fit f a there ∙ compared-refused (readAt c code) refused)) ∙ done)
+    by-presence false there =
+        let alone : onPresence (resetDone b) (writtenAndRead code s) ≡ refusedAt noPresence (restarted b) =
+        rw (reset-accepted b f, there) in
+        let no : noPresence ≡ accepted = ap (λ (x : Access). x .refusal) (sym (write-admitted b code s a ∙ alone))
+        ∙ done in
+        absurd (omega (arith, no))
+
+module _ (b : Bench) (r : Readable b) (code : ℕ) (s : Settings) (bytes : SettingBytes s) (fits : code < 2 ^ 64) where
+  accepted-written : (i : ℕ) → placeOf b code ≡ At i → writeAt b code s .refusal ≡ accepted
+      → map unstaged (live (writeAt b code s .bench)) ≡ writtenAt b i s
+  accepted-written i at done = accepted-there b r code i s bytes fits
+      (admitted-free b code (accepted-admitted b code s done)) at done
+
+  refused-kept : writeAt b code s .refusal ≢ accepted
+      → map unstaged (live (writeAt b code s .bench)) ≡ map unstaged (live b)
+  refused-kept not-done = by-place (placeOf b code) refl (free b) refl
+    where
+      by-place : (p : Place) → placeOf b code ≡ p → (u : Bool) → free b ≡ u
+          → map unstaged (live (writeAt b code s .bench)) ≡ map unstaged (live b)
+      by-place (At i) at true f = refused-there b r code i s bytes fits f at not-done
+      by-place (At i) at false f =
+          ap (λ (x : Access). map unstaged (live (x .bench)))
+          (write-unsent b code s (λ a. false≢true (sym f ∙ admitted-free b code a)))
+      by-place Nowhere at u f =
+          write-benches b code s bytes fits (r .codes-fit) (λ ds. ds ≡ map unstaged (live b)) refl
+          (others-settled code s (live b) (place-nowhere b code at))
+
 -- ## The claims
 
 pub write-answer : WriteAnswer
@@ -333,10 +449,9 @@ write-answer h t code s typed = record {
   idle-answer = λ i f at. idle-answered (after h) r code i s bytes (typed .0) f at;
   busy-accepted = λ i f at. busy-answered (after h) r code i s bytes (typed .0) f at;
   busy-refused = λ i f at. busy-mismatched (after h) r code i s bytes (typed .0) f at;
-  leaves = λ i f at. written-there (after h) r code i s bytes (typed .0) f at;
-  misses = λ nowhere.
-      write-benches (after h) code s bytes (typed .0) (r .codes-fit) (λ ds. ds ≡ map unstaged (live (after h))) refl
-      (others-settled code s (live (after h)) (place-nowhere (after h) code nowhere));
+  accepted-leaves = accepted-written (after h) r code s bytes (typed .0);
+  refused-leaves = refused-kept (after h) r code s bytes (typed .0);
+  absent-refused = absent-never (after h) code s bytes (typed .0) (r .codes-fit);
   neighbours = neighbour-kept (after h) code s bytes (typed .0) (r .codes-fit);
 }
   where

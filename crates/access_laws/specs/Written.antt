@@ -2,8 +2,7 @@
 -- else.
 --     withAsked d s       the scratchpad of d with the settings s: bytes 2 and 3 and, where its family has a
 --                         configuration, 4, that one in stored form with the device's own pins
---     padWritten d s      the scratchpad of d after a write of s at its code: a busy device ignores 4Eh, and keeps it
---     writtenAt b i s     the devices of b without their stages, and with this scratchpad in the one at place i
+--     writtenAt b i s     the devices of b without their stages, the one at place i with these settings
 --     benchWritten        the bench after the resets and slots of a write and of the read that follows it
 --     Writes b code s     what a write of s at the code comes to on the bench b, whoever is there
 --     WriteAnswer         so it is on the bench after every history
@@ -14,9 +13,8 @@ use mathlib.Core.List.{List, [], _∷_, map}
 use mathlib.Core.Logic.{_≢_}
 use mathlib.Core.Path.{_≡_}
 use lib.ListN.{set}
-use Rattle.basic_laws.specs.Choice.{if_then_else_}
 use Rattle.basic_laws.specs.Each.{Each}
-use Rattle.refusals.specs.Refusals.{mismatch}
+use Rattle.refusals.specs.Refusals.{accepted, mismatch}
 use Rattle.device.specs.Record.{withScratchpad, familyRow, rowOf, busy}
 use Rattle.device.specs.Settings.{withSettings}
 use Rattle.device.specs.declared.Device.{Device}
@@ -35,12 +33,9 @@ use Rattle.access_laws.specs.Unrefused.{readBits, writeBits}
 abbrev pub withAsked : Device → Settings → List ℕ
 withAsked d s = withSettings (rowOf (d .code) (d .pins)) (d .scratchpad) s
 
-abbrev pub padWritten : Device → Settings → List ℕ
-padWritten d s = if busy d then d .scratchpad else withAsked d s
-
 abbrev pub writtenAt : Bench → ℕ → Settings → List Device
 writtenAt b i s =
-    let d = deviceAt b i in set (map unstaged (live b)) i (unstaged (withScratchpad d (padWritten d s)))
+    let d = deviceAt b i in set (map unstaged (live b)) i (unstaged (withScratchpad d (withAsked d s)))
 
 abbrev pub benchWritten : Bench → ℕ → Settings → Bench
 benchWritten b code s = issued (writeBits (familyRow code) code s ∷ readBits code ∷ []) b .bench
@@ -61,11 +56,14 @@ pub record Writes (b : Bench) (code : ℕ) (s : Settings) : Type 0 where
   pub busy-refused : (i : ℕ) → free b ≡ true → placeOf b code ≡ At i → busy (deviceAt b i) ≡ true
       → withAsked (deviceAt b i) s ≢ deviceAt b i .scratchpad
       → writeAt b code s ≡ refusedAt mismatch (benchWritten b code s)
-  -- the device then holds these bytes, and nothing else on the bench has changed but stages
-  pub leaves : (i : ℕ) → free b ≡ true → placeOf b code ≡ At i
+  -- an accepted write leaves all of the settings in the device, and nothing else changed but stages
+  pub accepted-leaves : (i : ℕ) → placeOf b code ≡ At i → writeAt b code s .refusal ≡ accepted
       → map unstaged (live (writeAt b code s .bench)) ≡ writtenAt b i s
-  -- where no device has the code nothing changes but stages
-  pub misses : placeOf b code ≡ Nowhere → map unstaged (live (writeAt b code s .bench)) ≡ map unstaged (live b)
+  -- a refused one leaves nothing changed but stages
+  pub refused-leaves : writeAt b code s .refusal ≢ accepted
+      → map unstaged (live (writeAt b code s .bench)) ≡ map unstaged (live b)
+  -- where no device has the code a write is refused
+  pub absent-refused : placeOf b code ≡ Nowhere → writeAt b code s .refusal ≢ accepted
   -- whatever the answer, a device with another code changes in its stage alone
   pub neighbours : (other i : ℕ) → other ≢ code → placeOf b other ≡ At i
       → unstaged (deviceAt (writeAt b code s .bench) i) ≡ unstaged (deviceAt b i)
