@@ -15,6 +15,7 @@
 --                           code has one place for ever
 --     SameVersion           equal versions of a code mean equal settings
 --     NothingUndone         an accepted change alters just what its caller had read
+--     StaleRefused          a version that an accepted change named is refused with 18 ever after
 --     Neighbours            what an accepted change leaves is as its caller had read it, and what it sets is as asked,
 --                           of a configuration bits 6 and 5
 use Prim.Native.Nat.{ℕ, _+_, _≤_}
@@ -220,6 +221,13 @@ NothingUndone = (h more : List StoreCall) (code : ℕ) (asked : Alterations)
       settings = settingsAltered (seen .settings) asked;
       version = seen .version + 1;
     }
+
+-- whatever comes between, as long as the code is there
+abbrev pub StaleRefused : Type 0
+StaleRefused = (h more : List StoreCall) (code named : ℕ) (asked late : Alterations)
+    → settingsChanged (afterCalls h) code named asked .refusal ≡ accepted
+    → let now = afterCalls (h ++ (change code named asked ∷ more)) in
+    settingsRead now code .refusal ≡ accepted → settingsChanged now code named late .refusal ≡ staleVersion
 
 -- one setting under a change: left, or set to a byte, of which so much is kept
 abbrev pub Becomes : Alter → ℕ → (ℕ → ℕ) → ℕ → Type 0

@@ -1,11 +1,12 @@
 -- The claims on every run of calls on a store, from the invariant `Keeps`.
---     runs-right, same-version, nothing-undone, neighbours      the claims
+--     runs-right, same-version, nothing-undone, stale-refused, neighbours      the claims
 use Prim.Native.Nat.{ℕ, _+_}
 use mathlib.Core.Bool.{Bool, true, false, not, _&&_, _||_}
 use mathlib.Core.List.{List, [], _∷_, _++_, map, append-nil, append-assoc}
+use mathlib.Core.Logic.{_≢_}
 use mathlib.Core.Path.{_≡_, refl, sym, ap, _∙_}
 use native.Mathlib.Omega.{arith}
-use borrow.Author.Tests.{eqb-true, eqb-false, eq-eqb}
+use borrow.Author.Tests.{eqb-true, eqb-false, eq-eqb, ne-eqb}
 use lib.Bits.{bitAnd, and-high}
 use lib.Dec.{eqb, ltb}
 use lib.ListN.{length, length-take, length-map, length-append}
@@ -22,7 +23,7 @@ use Rattle.settings.specs.Calls.{changedEntry, settingsAdded, settingsRe
 use Rattle.settings.specs.Runs.{StoreCall, add, remove, read, change, AcceptedChange, Account, joining, leaving}
 use Rattle.settings.specs.Runs.{changing, Book, onAccepted, entered, book, afterCalls, settled, noneShown}
 use Rattle.settings.specs.Runs.{shownOf, mostCodes, mostChanges, addingRefusal, changeRefusal, RunsRight}
-use Rattle.settings.specs.Runs.{SameVersion, NothingUndone, Becomes, Neighbours}
+use Rattle.settings.specs.Runs.{SameVersion, NothingUndone, StaleRefused, Becomes, Neighbours}
 use Rattle.settings.specs.StoreLaws.{changed-cases}
 use Rattle.settings.specs.Written.{settingsWritten}
 use Rattle.settings.specs.declared.Alter.{Alter}
@@ -64,7 +65,7 @@ shown-accepted code a = by-code (eqb (codeRefusal code) accepted) refl
     by-code false s e = absurd (eqb-false (codeRefusal code) accepted s e)
 
 -- what an accepted change named is what a read shows just before it
-change-reads : (s : Store) (code version : ℕ) (asked : Alterations)
+pub change-reads : (s : Store) (code version : ℕ) (asked : Alterations)
     → settingsChanged s code version asked .refusal ≡ accepted
     → (settingsRead s code .refusal ≡ accepted) × (settingsRead s code .version ≡ version)
 unfolding settingsChanged settingsRead
@@ -406,6 +407,33 @@ nothing-undone h more code asked first done =
     (record { refusal = accepted; settings = settingsAltered (seen .settings) asked; version = seen .version + 1 }) =
     rw (settings, version) in
     next ∙ ap (shownOf code) entry ∙ again .1 ∙ shown-next
+
+-- ## A version that was named
+
+pub stale-refused : StaleRefused
+unfolding fold
+stale-refused h more code named asked late done there =
+    let b = book h in
+    let call = change code named asked in
+    let b' = book (h ++ (call ∷ more)) in
+    let a = b .accounts code in
+    let is = runs-right h .read-is code in
+    let reads = change-reads (b .store) code named asked done in
+    let shown = shown-accepted code a (ap (λ (c : Current). c .refusal) (sym is) ∙ reads .0) in
+    let before : length (a .changes) ≡ named = ap (λ (c : Current). c .version) (sym (is ∙ shown .1)) ∙ reads .1 in
+    let entry : entered b call .accounts code ≡ changing named asked a =
+    rw (eq-eqb (settingsChanged (b .store) code named asked .refusal) accepted done, eq-eqb code code refl) in
+    let next : length (entered b call .accounts code .changes) ≡ named + 1 =
+    ap (λ (x : Account). length (x .changes)) entry ∙ length-append (a .changes) _ ∙ ap (λ (n : ℕ). n + 1) before in
+    let g = rw (← book-append h (call ∷ more)) at (calls-grown (entered b call) more code) in
+    let later : length (b' .accounts code .changes)
+    ≡ length (entered b call .accounts code .changes) + length (g .more) =
+    ap length (g .changes-are) ∙ length-append (entered b call .accounts code .changes) (g .more) in
+    let apart : named ≢ length (b' .accounts code .changes) = λ e. omega arith in
+    let open-still : shownOf code (b' .accounts code) .refusal ≡ accepted =
+    ap (λ (c : Current). c .refusal) (sym (runs-right (h ++ (call ∷ more)) .read-is code)) ∙ there in
+    runs-right (h ++ (call ∷ more)) .change-is code named late
+    ∙ rw (open-still, ne-eqb named (length (b' .accounts code .changes)) apart)
 
 -- ## What is kept is in kept form
 

@@ -1,3 +1,4 @@
 pub mod Shared
 pub mod HeldLaws
 pub mod SharedLaws
+pub mod RaisedLaws

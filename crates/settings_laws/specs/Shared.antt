@@ -12,13 +12,16 @@
 --     Spared             so each call of a run, where it is made
 --     ToTheWire          after an accepted settings write the device holds what the store had, whatever calls follow,
 --                        until one that does not spare it
+--     RaisedLimit        the story of two callers: both have read a code; one raises its high limit and writes it to
+--                        the device; the other, who has not seen that, is refused with 18 whatever it asks, and the
+--                        device holds the raised limit beside the low limit and the configuration that both had read
 use Prim.Native.Nat.{ℕ}
 use mathlib.Core.List.{List, [], _∷_}
 use mathlib.Core.Logic.{_≢_}
 use mathlib.Core.Path.{_≡_}
 use Rattle.basic_laws.specs.Each.{Each}
 use Rattle.basic_laws.specs.Fold.{fold}
-use Rattle.refusals.specs.Refusals.{accepted}
+use Rattle.refusals.specs.Refusals.{accepted, staleVersion}
 use Rattle.family.specs.Configuration.{keptConfiguration}
 use Rattle.device.specs.Record.{rowOf}
 use Rattle.device.specs.Settings.{settingsIn}
@@ -32,11 +35,12 @@ use Rattle.master_rules.specs.Access.{writeAt}
 use Rattle.history_laws.specs.History.{Call, reset, slot, finishConversion, finishCopy, powerCycle, search}
 use Rattle.history_laws.specs.History.{searchAlarms, readPins, Code64, Byte, Typed, apply}
 use Rattle.history_laws.specs.History.{add as addDevice, read as readDevice, write as writeDevice}
-use Rattle.settings.specs.Calls.{settingsRead}
+use Rattle.settings.specs.Calls.{settingsRead, settingsChanged}
 use Rattle.settings.specs.Runs.{StoreCall, add, remove, read, change, Book, entered, book}
 use Rattle.settings.specs.Written.{settingsWritten}
 use Rattle.settings.specs.declared.Alter.{Alter}
 use Rattle.settings.specs.declared.Alter.the-variants.{Leave, To}
+use Rattle.settings.specs.declared.Alterations.{Alterations}
 
 -- ## Calls
 
@@ -129,3 +133,24 @@ ToTheWire = (h more : List SharedCall) (code : ℕ) → Each TypedShared h → C
     let written = stepped before (settingsWrite code) in
     settingsWritten (before .book .store) (before .bench) code .refusal ≡ accepted → Spared code written more
     → Holds (onward written more .bench) code (settingsRead (before .book .store) code .settings)
+
+-- ## Two callers
+
+abbrev pub raising : ℕ → Alterations
+raising limit = record { high = To limit; low = Leave; configuration = Leave }
+
+abbrev pub RaisedLimit : Type 0
+RaisedLimit = (h : List SharedCall) (code limit : ℕ) (late : Alterations)
+    → Each TypedShared h → Code64 code → Byte limit
+    → let before = shared h in
+    let seen = settingsRead (before .book .store) code in
+    let raised = stepped before (onStore (change code (seen .version) (raising limit))) in
+    let written = stepped raised (settingsWrite code) in
+    settingsChanged (before .book .store) code (seen .version) (raising limit) .refusal ≡ accepted
+    → settingsWritten (raised .book .store) (raised .bench) code .refusal ≡ accepted
+    → (settingsChanged (written .book .store) code (seen .version) late .refusal ≡ staleVersion)
+    × Holds (stepped written (onStore (change code (seen .version) late)) .bench) code (record {
+      high = limit;
+      low = seen .settings .low;
+      configuration = seen .settings .configuration;
+    })
