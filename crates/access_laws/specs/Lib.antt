@@ -13,6 +13,7 @@ pub mod ReadLaws
 pub mod NeverLaws
 pub mod WriteLaws
 pub mod FinishedLaws
+pub mod SearchLaws
 pub mod Pinning
 pub mod PinningLaws
 pub mod Names

@@ -34,20 +34,19 @@ use Rattle.device.specs.declared.Device.{Device}
 use Rattle.device.specs.declared.Joining.{Joining}
 use Rattle.bench.specs.Bench.{live, vacant, placeOf, free}
 use Rattle.bench.specs.Calls.{deviceAt}
-use Rattle.bench.specs.Slot.{resetDone}
 use Rattle.bench.specs.declared.Bench.{Bench}
 use Rattle.bench.specs.declared.Place.{Place}
 use Rattle.bench.specs.declared.Place.the-variants.{At, Nowhere}
 use Rattle.bench.specs.Everywhere.{Invariant}
-use Rattle.bench.specs.Laws.{place-nowhere, place-live, place-found, device-live, reset-cases}
+use Rattle.bench.specs.Laws.{place-nowhere, place-live, place-found, device-live}
 use Rattle.bench.specs.Sound.{codesOf}
-use Rattle.master_rules.specs.OnTheBench.{same-but-stage, same-free, restarted-keeps, search-calls, search-keeps}
+use Rattle.master_rules.specs.OnTheBench.{same-but-stage, same-free}
 use Rattle.master_rules.specs.Thermometers.{unstaged}
 use Rattle.master_rules.specs.Access.{readAt}
 use Rattle.master_rules.specs.Pins.{isPinned, pinsShown, PinsFound, pinRead, pinsStep, havePin, sharedFrom, sharedPin}
 use Rattle.master_rules.specs.Pins.{pinsOutcome}
-use Rattle.master_rules.specs.Search.{mostPasses, Outcome, searchOutcome}
-use Rattle.master_rules.specs.SearchLaws.{nobody-there, passes-made, search-accepted}
+use Rattle.master_rules.specs.Search.{fewestPlaces, fewestBytes, Outcome, searchOutcome}
+use Rattle.master_rules.specs.SearchLaws.{wire-held, search-accepted}
 use Rattle.master_rules.specs.declared.Access.{Access}
 use Rattle.master_rules.specs.declared.SharedPin.the-variants.{Pin}
 use Rattle.history_laws.specs.Corollaries.{codes-are-added}
@@ -60,6 +59,7 @@ use Rattle.access_laws.specs.Lasting.{lasts-after}
 use Rattle.access_laws.specs.Pinning.{pinsAtPlace, pinsAt, readOn, LeastShared, PinsClaim}
 use Rattle.access_laws.specs.ReadLaws.{pad-sound, read-answered}
 use Rattle.access_laws.specs.Shown.{answeredWith}
+use Rattle.access_laws.specs.SearchLaws.{search-kept}
 use Rattle.access_laws.specs.ShownLaws.{code-at, read-kept}
 use Rattle.access_laws.specs.WriteLaws.{place-by-codes}
 
@@ -282,21 +282,7 @@ module _ (pins : List ℕ) where
   shared-least : LeastShared pins (sharedPin pins)
   shared-least = shared-from 16 0 refl (λ q k. absurd (omega (arith, k)))
 
--- ## The search before the reads
-
-search-kept : (b : Bench) → free b ≡ true → map unstaged (live (searchOutcome searchRom b 32 1824 .bench))
-    ≡ map unstaged (live b)
-search-kept b f = by-presence (resetDone b .presence) refl
-  where
-    by-presence : (u : Bool) → resetDone b .presence ≡ u
-        → map unstaged (live (searchOutcome searchRom b 32 1824 .bench)) ≡ map unstaged (live b)
-    by-presence true e =
-        rw (passes-made searchRom b 32 1824 (lit≤ tt) (lit≤ tt) f e)
-        (ap (λ r. map unstaged (live (r .devices))) (search-calls mostPasses b f) ∙ search-keeps mostPasses b)
-    by-presence false e =
-        rw (nobody-there searchRom b 32 1824 (lit≤ tt) (lit≤ tt) f e)
-        (reset-cases b (λ r. map unstaged (live (r .bench))
-        ≡ map unstaged (live b)) (λ g. restarted-keeps b) (λ g. refl))
+-- ## The codes of the search before the reads
 
 placed-listed : (b : Bench) (s : Outcome) (ns : List ℕ) → Each (Placed b) ns → Comes searchRom ns ns b s
     → Each (Placed b) (s .listed)
@@ -315,7 +301,7 @@ pins-claim h t f places wide =
     let start : Same b (few-after h t) f (s .bench) =
     record {
       readable = outcome-keeps Readable readable-slot readable-reset searchRom b 32 1824 (readable-after h t);
-      kept = search-kept b f;
+      kept = search-kept b 32 1824;
     } in
     let r = reads b (few-after h t) f (s .listed) listed [] [] (s .bench) start in
     let done : eqb (s .refusal) accepted ≡ true =
@@ -329,3 +315,15 @@ pins-claim h t f places wide =
       bench-is = refl;
       devices-kept = r .same-after .kept;
     }
+
+-- refused or not, the call changes nothing but stages
+pub pins-kept : (h : List Call) → Each Typed h → (places : ℕ)
+    → map unstaged (live (pinsOutcome (after h) places .found .bench)) ≡ map unstaged (live (after h))
+unfolding pinsOutcome
+pins-kept h t places = by-tests (ltb places fewestPlaces) refl (free (after h)) refl
+  where
+    by-tests : (u : Bool) → ltb places fewestPlaces ≡ u → (v : Bool) → free (after h) ≡ v
+        → map unstaged (live (pinsOutcome (after h) places .found .bench)) ≡ map unstaged (live (after h))
+    by-tests true e v f = rw e
+    by-tests false e true f = pins-claim h t f places (ltb-false places fewestPlaces e) .devices-kept
+    by-tests false e false f = rw (e, wire-held searchRom (after h) fewestPlaces fewestBytes (lit≤ tt) (lit≤ tt) f)

@@ -1,6 +1,7 @@
 -- What a write at a code makes of each device, before its read-back: 55h, the code and 4Eh leave the device with the
--- code about to take the settings, and all others quiet; a busy one is quiet too. Each whole byte is stored as its last
--- bit arrives, so that after the last the scratchpad has these settings, and the device is quiet.
+-- code about to take the settings, and all others quiet; a busy one is quiet too. Each
+-- whole byte is stored as its last bit arrives, so that after the last the scratchpad has these settings, and the
+-- device is quiet.
 --     settledBy code s d     d after a write of s at the code: quiet, and with these settings where it has the code and
 --                            is not busy
 --     write-picks            so a reset, 55h, the code, 4Eh and the settings leave every device
@@ -91,12 +92,12 @@ module _ (d : Device) (s : Settings) (bytes : SettingBytes s) where
   limitsTaken = withScratchpad d (set (set (d .scratchpad) 2 (s .high)) 3 (s .low))
 
   last-taken : (t : Bool) → rowOf (d .code) (d .pins) .configurable ≡ t
-      → Hears (λ e. e ≡ asked) (if t then bitsOf 8 (s .configuration)
-      else []) (withStage limitsTaken (if t then TakeSettings 2 0 0 else Quiet))
+      → Hears (λ e. e ≡ asked) (if t then bitsOf 8 (s .configuration) else [])
+      (withStage limitsTaken (if t then TakeSettings 2 0 0 else Quiet))
   unfolding withSettings asked
   last-taken true e =
-      hears-then (λ f. f ≡ storeSetting limitsTaken 2 (s .configuration)) (λ f. f ≡ asked) (λ f q. q
-      ∙ configuration-stored limitsTaken (s .configuration) e ∙ rw e)
+      hears-then (λ f. f ≡ storeSetting limitsTaken 2 (s .configuration)) (λ f. f ≡ asked)
+      (λ f q. q ∙ configuration-stored limitsTaken (s .configuration) e ∙ rw e)
       (bitsOf 8 (s .configuration)) (withStage limitsTaken (TakeSettings 2 0 0))
       (byte-taken limitsTaken 2 (s .configuration) (bytes .2))
   last-taken false e = rw e
@@ -115,8 +116,8 @@ module _ (d : Device) (s : Settings) (bytes : SettingBytes s) where
       rest : List Bool
       rest = if rowOf (d .code) (d .pins) .configurable then bitsOf 8 (s .configuration) else []
 
-      low-taken : Hears (λ e. e ≡ asked) (bitsOf 8 (s .low)
-          ++ (if rowOf (d .code) (d .pins) .configurable then bitsOf 8 (s .configuration) else []))
+      low-taken : Hears (λ e. e ≡ asked)
+          (bitsOf 8 (s .low) ++ (if rowOf (d .code) (d .pins) .configurable then bitsOf 8 (s .configuration) else []))
           (withStage highTaken (TakeSettings 1 0 0))
       low-taken =
           hears-append F (bitsOf 8 (s .low)) rest (withStage highTaken (TakeSettings 1 0 0))
@@ -126,8 +127,9 @@ module _ (d : Device) (s : Settings) (bytes : SettingBytes s) where
 
 -- ## All of a write, up to its read-back
 
-write-taken : (d : Device) → Hears (λ e. e ≡ withStage d (if busy d then Quiet else TakeSettings 0 0 0))
-    (bitsOf 8 writeScratchpad) (withStage d awaitFunction)
+write-taken : (d : Device)
+    → Hears (λ e. e ≡ withStage d (if busy d then Quiet else TakeSettings 0 0 0)) (bitsOf 8 writeScratchpad)
+    (withStage d awaitFunction)
 unfolding bitsOf hearOf functionCommand idleCommand
 write-taken d = (
   refl,
@@ -178,9 +180,9 @@ write-picks code s d bytes a b =
             (settingsBits (familyRow code) s)
             (withStage d (if u then Quiet else TakeSettings 0 0 0))
         by-busy true = quiet-hears _ (settingsBits (familyRow code) s) (withStage d Quiet) refl refl
-        by-busy false = subst (λ (l : List Bool). Hears (λ f. f
-            ≡ withStage (withScratchpad d (withAsked d s)) Quiet) l (withStage d (TakeSettings 0 0 0))) same
-            (settings-taken d s bytes)
+        by-busy false =
+            subst (λ (l : List Bool). Hears (λ f. f ≡ withStage (withScratchpad d (withAsked d s)) Quiet) l
+            (withStage d (TakeSettings 0 0 0))) same (settings-taken d s bytes)
           where
             same : settingsBits (rowOf (d .code) (d .pins)) s ≡ settingsBits (familyRow code) s
             same = rw (eqb-true (d .code) code e)

@@ -1,6 +1,6 @@
 -- The claims on writes. What each device is when the settings have come is `write-picks`; the read that follows is a
--- read like any other, on that bench, so that it shows what the device then holds and changes nothing but stages. The
--- bytes shown are as asked just where the device holds what was asked.
+-- read like any other, on that bench, so that it shows what the device then holds and changes
+-- nothing but stages. The bytes shown are as asked just where the device holds what was asked.
 use Prim.Native.Nat.{ℕ, zero, suc, _^_, _<_}
 use mathlib.Core.Bool.{Bool, true, false, not, _&&_, false≢true}
 use mathlib.Core.List.{List, [], _∷_, map}
@@ -62,7 +62,7 @@ use Rattle.access_laws.specs.Written.{withAsked, writtenAt, benchWritten
 
 -- ## Lists of devices
 
-map-at : {A B : Type 0} (f : A → B) (l : List A) (i : ℕ) (y : A) (z : B) → i < length l
+pub map-at : {A B : Type 0} (f : A → B) (l : List A) (i : ℕ) (y : A) (z : B) → i < length l
     → getD (map f l) i z ≡ f (getD l i y)
 map-at f [] i y z h = absurd (omega arith)
 map-at f (x ∷ l) zero y z h = refl
@@ -93,10 +93,8 @@ one-settled : (code : ℕ) (s : Settings) (ds : List Device) (i : ℕ) → i < l
     → map unstaged (map (settledBy code s) ds)
     ≡ set (map unstaged ds) i (unstaged (withScratchpad (getD ds i vacant) (padWritten (getD ds i vacant) s)))
 one-settled code s [] i h k e = absurd (omega arith)
-one-settled code s (d ∷ ds) zero h k e = rw (
-  eq-eqb (d .code) code e,
-  others-settled code s ds (rw e at (others-differ (d .code) ds (k .0))),
-)
+one-settled code s (d ∷ ds) zero h k e =
+    rw (eq-eqb (d .code) code e, others-settled code s ds (rw e at (others-differ (d .code) ds (k .0))))
 one-settled code s (d ∷ ds) (suc i) h k e =
     let l : i < length ds = omega arith in
     let n : d .code ≢ code = λ z. differs-at (d .code) ds i l (k .0) (z ∙ sym e) in
@@ -145,7 +143,8 @@ module _ (b : Bench) (code : ℕ) (s : Settings) (bytes : SettingBytes s) (fits 
           → map (λ d. fold hearOf d (writeBits (familyRow code) code s)) (map resetOf ds) ≡ map (settledBy code s) ds
       each-settled [] h = refl
       each-settled (d ∷ ds) h =
-          let e = hears-end (λ e. e ≡ settledBy code s d) (writeBits (familyRow code) code s) (resetOf d)
+          let e =
+          hears-end (λ e. e ≡ settledBy code s d) (writeBits (familyRow code) code s) (resetOf d)
           (write-picks code s d bytes fits (h .0)) in
           let i = each-settled ds (h .1) in rw (e, i)
 
@@ -213,8 +212,8 @@ module _ (b : Bench) (r : Readable b) (code i : ℕ) (s : Settings) (bytes : Set
   eight : length (device .scratchpad) ≡ 8
   eight = pad-sound b r code i f at .eight
 
-  write-compared : writeAt b code s ≡ compared (familyRow code) s
-      (answeredWith code (padWritten device s) (benchWritten b code s))
+  write-compared : writeAt b code s
+      ≡ compared (familyRow code) s (answeredWith code (padWritten device s) (benchWritten b code s))
   unfolding sentTo issued
   write-compared =
       write-is b code s bytes fits (r .codes-fit) f (admitted b r code i f at) (present b r code i f at)
@@ -224,16 +223,18 @@ module _ (b : Bench) (r : Readable b) (code i : ℕ) (s : Settings) (bytes : Set
 
   write-accepted : (pad : List ℕ) → padWritten device s ≡ pad → asAsked (familyRow code) s (nineBytes pad) ≡ true
       → writeAt b code s ≡ answeredWith code pad (benchWritten b code s)
-  write-accepted pad e a = write-compared ∙ ap
-      (λ (p : List ℕ). compared (familyRow code) s (answeredWith code p (benchWritten b code s))) e ∙ rw a
+  write-accepted pad e a =
+      write-compared ∙ ap (λ (p : List ℕ). compared (familyRow code) s (answeredWith code p (benchWritten b code s))) e
+      ∙ rw a
 
   write-refused : (pad : List ℕ) → padWritten device s ≡ pad → asAsked (familyRow code) s (nineBytes pad) ≡ false
       → writeAt b code s ≡ refusedAt mismatch (benchWritten b code s)
-  write-refused pad e a = write-compared ∙ ap
-      (λ (p : List ℕ). compared (familyRow code) s (answeredWith code p (benchWritten b code s))) e ∙ rw a
+  write-refused pad e a =
+      write-compared ∙ ap (λ (p : List ℕ). compared (familyRow code) s (answeredWith code p (benchWritten b code s))) e
+      ∙ rw a
 
-  idle-answered : busy device ≡ false → writeAt b code s
-      ≡ answeredWith code (withAsked device s) (benchWritten b code s)
+  idle-answered : busy device ≡ false
+      → writeAt b code s ≡ answeredWith code (withAsked device s) (benchWritten b code s)
   idle-answered idle = write-accepted (withAsked device s) (rw idle) as-asked
     where
       row : Properties
@@ -258,7 +259,8 @@ module _ (b : Bench) (r : Readable b) (code i : ℕ) (s : Settings) (bytes : Set
     where
       by-test : (t : Bool) → asAsked (familyRow code) s (nineBytes (device .scratchpad)) ≡ t
           → writeAt b code s ≡ refusedAt mismatch (benchWritten b code s)
-      by-test true a = absurd (n (rw own (asked-as-held (familyRow code) (device .pins) (device .scratchpad) s eight
+      by-test true a =
+          absurd (n (rw own (asked-as-held (familyRow code) (device .pins) (device .scratchpad) s eight
           (pad-sound b r code i f at .as-kept) a)))
       by-test false a = write-refused (device .scratchpad) (rw busy-now) a
 
@@ -268,15 +270,16 @@ module _ (b : Bench) (r : Readable b) (code i : ℕ) (s : Settings) (bytes : Set
     where
       by-asked : (t : Bool) → asAsked (familyRow code) s (nineBytes (device .scratchpad)) ≡ t → busy device ≡ true
           → device .scratchpad ≡ withAsked device s
-      by-asked true a now = rw own (sym (asked-as-held (familyRow code) (device .pins) (device .scratchpad) s eight
+      by-asked true a now =
+          rw own (sym (asked-as-held (familyRow code) (device .pins) (device .scratchpad) s eight
           (pad-sound b r code i f at .as-kept) a))
       by-asked false a now =
-          let no : mismatch ≡ accepted = ap (λ (x : Access). x .refusal)
-          (sym (write-refused (device .scratchpad) (rw now) a)) ∙ done in
+          let no : mismatch ≡ accepted =
+          ap (λ (x : Access). x .refusal) (sym (write-refused (device .scratchpad) (rw now) a)) ∙ done in
           absurd (omega (arith, no))
 
-      by-busy : (t : Bool) → busy device ≡ t → (if t then device .scratchpad else withAsked device s)
-          ≡ withAsked device s
+      by-busy : (t : Bool) → busy device ≡ t
+          → (if t then device .scratchpad else withAsked device s) ≡ withAsked device s
       by-busy true e = by-asked (asAsked (familyRow code) s (nineBytes (device .scratchpad))) refl e
       by-busy false e = refl
 
@@ -284,8 +287,8 @@ module _ (b : Bench) (r : Readable b) (code i : ℕ) (s : Settings) (bytes : Set
   refused-holds : writeAt b code s .refusal ≢ accepted → padWritten device s ≡ device .scratchpad
   refused-holds not-done = by-busy (busy device) refl
     where
-      by-busy : (t : Bool) → busy device ≡ t → (if t then device .scratchpad else withAsked device s)
-          ≡ device .scratchpad
+      by-busy : (t : Bool) → busy device ≡ t
+          → (if t then device .scratchpad else withAsked device s) ≡ device .scratchpad
       by-busy true e = refl
       by-busy false e = absurd (not-done (ap (λ (x : Access). x .refusal) (idle-answered e)))
 
@@ -372,8 +375,8 @@ neighbour-kept b code s bytes fits fit other i n at =
     same-there : unstaged (getD (live after-it) i vacant) ≡ unstaged (getD before i vacant)
     same-there =
         sym (List·getD-map unstaged (live after-it) i vacant)
-        ∙ write-benches b code s bytes fits fit (λ ds. getD ds i (unstaged vacant)
-        ≡ unstaged (getD before i vacant)) (List·getD-map unstaged before i vacant)
+        ∙ write-benches b code s bytes fits fit (λ ds. getD ds i (unstaged vacant) ≡ unstaged (getD before i vacant))
+        (List·getD-map unstaged before i vacant)
         (List·getD-map unstaged (map (settledBy code s) before) i vacant ∙ settled-there)
 
 -- an accepted write found the wire free
@@ -411,22 +414,22 @@ absent-never b code s bytes fits fit nowhere done = by-presence (presenceOf b) r
         absent-refused c code fits (rw codes fit) (admitted-code c code (admitted-sound b code a) free-there)
         (slots-presence (writeBits (familyRow code) code s) b ∙ there)
         (place-by-codes b c code codes ∙ nowhere) in
-        let refused : readAt c code .refusal ≢ accepted = λ e. let no : wrongCrc ≡ accepted = sym missing ∙ e in
-        omega (arith, no) in
+        let refused : readAt c code .refusal ≢ accepted = λ e. let no : wrongCrc ≡ accepted =
+        sym missing ∙ e in omega (arith, no) in
         refused (ap (λ (x : Access). x .refusal)
         (sym (write-is b code s bytes fits fit f a there ∙ compared-refused (readAt c code) refused)) ∙ done)
     by-presence false there =
         let alone : onPresence (resetDone b) (writtenAndRead code s) ≡ refusedAt noPresence (restarted b) =
         rw (reset-accepted b f, there) in
-        let no : noPresence ≡ accepted = ap (λ (x : Access). x .refusal) (sym (write-admitted b code s a ∙ alone))
-        ∙ done in
+        let no : noPresence ≡ accepted =
+        ap (λ (x : Access). x .refusal) (sym (write-admitted b code s a ∙ alone)) ∙ done in
         absurd (omega (arith, no))
 
 module _ (b : Bench) (r : Readable b) (code : ℕ) (s : Settings) (bytes : SettingBytes s) (fits : code < 2 ^ 64) where
   accepted-written : (i : ℕ) → placeOf b code ≡ At i → writeAt b code s .refusal ≡ accepted
       → map unstaged (live (writeAt b code s .bench)) ≡ writtenAt b i s
-  accepted-written i at done = accepted-there b r code i s bytes fits
-      (admitted-free b code (accepted-admitted b code s done)) at done
+  accepted-written i at done =
+      accepted-there b r code i s bytes fits (admitted-free b code (accepted-admitted b code s done)) at done
 
   refused-kept : writeAt b code s .refusal ≢ accepted
       → map unstaged (live (writeAt b code s .bench)) ≡ map unstaged (live b)

@@ -64,7 +64,8 @@ module _ (row : Properties) (pad : List ℕ) (s : Settings) (long : length pad �
   pub settings-configuration : row .configurable ≡ true
       → getD (withSettings row pad s) 4 0 ≡ storedForm (s .configuration) (row .nibble)
   unfolding withSettings
-  settings-configuration e = rw e (getD-set-same (withLimits pad s) 4 (storedForm (s .configuration) (row .nibble)) 0
+  settings-configuration e =
+      rw e (getD-set-same (withLimits pad s) 4 (storedForm (s .configuration) (row .nibble)) 0
       (rw limits-long (lit< tt)))
 
 -- those that stand there change nothing
@@ -82,7 +83,8 @@ settings-same row pad s high low form = by-test (row .configurable) refl
     by-test : (t : Bool) → row .configurable ≡ t
         → (if t then set (withLimits pad s) 4 (if t then storedForm (s .configuration) (row .nibble) else 0)
         else withLimits pad s) ≡ pad
-    by-test true e = ap (λ (l : List ℕ). set l 4 (storedForm (s .configuration) (row .nibble))) limits
+    by-test true e =
+        ap (λ (l : List ℕ). set l 4 (storedForm (s .configuration) (row .nibble))) limits
         ∙ ap (λ (x : ℕ). set pad 4 x) (sym (form e)) ∙ set-getD pad 4 0
     by-test false e = limits
 
@@ -105,8 +107,8 @@ settings-long row pad s long = by-test (row .configurable)
 
 -- ## The bytes of 4Eh
 
-pub high-stored : (d : Device) (x : ℕ) → storeSetting d 0 x
-    ≡ withStage (withScratchpad d (set (d .scratchpad) 2 x)) (TakeSettings 1 0 0)
+pub high-stored : (d : Device) (x : ℕ)
+    → storeSetting d 0 x ≡ withStage (withScratchpad d (set (d .scratchpad) 2 x)) (TakeSettings 1 0 0)
 unfolding storeSetting
 high-stored d x = by-test (rowOf (d .code) (d .pins) .configurable) refl
   where

@@ -1,6 +1,6 @@
 -- The tests before a read or a write sends anything, in their order: the given code first, whatever the wire does, then
--- the wire. What they refuse sends nothing. And the bytes read back are as asked just where the device holds the
--- settings that were asked: `held-as-asked`, `asked-as-held`.
+-- the wire. What they refuse sends nothing. And the bytes read back are as asked just
+-- where the device holds the settings that were asked: `held-as-asked`, `asked-as-held`.
 use Prim.Native.Nat.{ℕ, _*_, _/_, _%_, _^_}
 use mathlib.Core.Bool.{Bool, true, false, _&&_, false≢true}
 use mathlib.Core.List.{List}
@@ -82,20 +82,18 @@ asked-as-stored row pins asked byte = by-tests (row .configurable) (row .pinned)
     by-tests true false k a e = eqb-true _ _ a
     by-tests false u k a e = absurd (false≢true e)
 
+both : {t u : Bool} → t ≡ true → u ≡ true → (t && u) ≡ true
+both e f = rw (e, f)
+
 module _ (row : Properties) (pins : ℕ) (pad : List ℕ) (s : Settings) (long : length pad ≡ 8) where
   by-bytes : getD pad 2 0 ≡ s .high → getD pad 3 0 ≡ s .low
       → (row .configurable ≡ true → getD pad 4 0 ≡ storedForm (s .configuration) (withPins row pins .nibble))
       → asAsked row s (nineBytes pad) ≡ true
   unfolding asAsked
   by-bytes high low form =
-      rw (
-        nine-byte pad 2 long (lit< tt),
-        nine-byte pad 3 long (lit< tt),
-        nine-byte pad 4 long (lit< tt),
-        eq-eqb _ _ high,
-        eq-eqb _ _ low,
-        stored-as-asked row pins (s .configuration) (getD pad 4 0) form,
-      )
+      rw (nine-byte pad 2 long (lit< tt), nine-byte pad 3 long (lit< tt), nine-byte pad 4 long (lit< tt))
+      (both (both (eq-eqb (getD pad 2 0) (s .high) high) (eq-eqb (getD pad 3 0) (s .low) low))
+      (stored-as-asked row pins (s .configuration) (getD pad 4 0) form))
 
   -- a device of the row that holds the settings asked: the bytes read back are as asked, and of no other device
   pub held-as-asked : withSettings (withPins row pins) pad s ≡ pad → asAsked row s (nineBytes pad) ≡ true

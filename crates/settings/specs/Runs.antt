@@ -65,32 +65,26 @@ pub record Account : Type 0 where
   pub changes : List AcceptedChange
 
 abbrev pub noAccount : Account
-noAccount = record {
-  known = false;
-  present = false;
-  first = record { high = 0; low = 0; configuration = 0 };
-  changes = [];
-}
+noAccount =
+    record { known = false; present = false; first = record { high = 0; low = 0; configuration = 0 }; changes = [] }
 
 -- an accepted adding: the settings given count only the first time
 abbrev pub joining : Settings → Account → Account
-joining first a = record {
-  known = true;
-  present = true;
-  first = if a .known then a .first else keptForm first;
-  changes = a .changes;
-}
+joining first a =
+    record { known = true; present = true; first = if a .known then a .first else keptForm first; changes = a .changes }
 
 abbrev pub leaving : Account → Account
 leaving a = record { known = a .known; present = false; first = a .first; changes = a .changes }
 
 abbrev pub changing : ℕ → Alterations → Account → Account
-changing named asked a = record {
-  known = a .known;
-  present = a .present;
-  first = a .first;
-  changes = a .changes ++ (record { named = named; asked = asked } ∷ []);
-}
+changing named asked a =
+    record {
+      known = a .known;
+      present = a .present;
+      first = a .first;
+      changes =
+          a .changes ++ (record { named = named; asked = asked } ∷ []);
+    }
 
 -- ## The book
 
@@ -104,8 +98,8 @@ abbrev pub onAccepted : ℕ → ℕ → (Account → Account) → (ℕ → Accou
 onAccepted refusal code f accounts k = if eqb refusal accepted && eqb k code then f (accounts k) else accounts k
 
 abbrev pub codesJoined : ℕ → ℕ → Book → List ℕ
-codesJoined refusal code b = if eqb refusal accepted && not (b .accounts code .known) then b .codes ++ (code ∷ [])
-    else b .codes
+codesJoined refusal code b =
+    if eqb refusal accepted && not (b .accounts code .known) then b .codes ++ (code ∷ []) else b .codes
 
 abbrev pub entered : Book → StoreCall → Book
 entered b (add code first) =
@@ -113,7 +107,8 @@ entered b (add code first) =
     record {
       store = r .store;
       codes = codesJoined (r .refusal) code b;
-      accounts = onAccepted (r .refusal) code (joining first) (b .accounts);
+      accounts =
+          onAccepted (r .refusal) code (joining first) (b .accounts);
     }
 entered b (remove code) =
     let r = settingsRemoved (b .store) code in
@@ -124,7 +119,8 @@ entered b (change code version asked) =
     record {
       store = r .store;
       codes = b .codes;
-      accounts = onAccepted (r .refusal) code (changing version asked) (b .accounts);
+      accounts =
+          onAccepted (r .refusal) code (changing version asked) (b .accounts);
     }
 
 unfoldable pub book : List StoreCall → Book
@@ -192,8 +188,8 @@ pub record Right (b : Book) : Type 0 where
   pub version-is : (code named : ℕ) (asked : Alterations)
       → let done = settingsChanged (b .store) code named asked in
       done .refusal ≡ accepted → settingsRead (done .store) code .version ≡ done .version
-  pub write-is : (code : ℕ) (wire : Bench) → settingsWritten (b .store) wire code
-      ≡ writtenOf code (b .accounts code) wire
+  pub write-is : (code : ℕ) (wire : Bench)
+      → settingsWritten (b .store) wire code ≡ writtenOf code (b .accounts code) wire
   pub in-turn : (code : ℕ) → InTurn 0 (b .accounts code .changes)
   pub places-are : b .store .count ≡ length (b .codes)
   pub places-few : length (b .codes) ≤ 32
@@ -216,11 +212,8 @@ NothingUndone = (h more : List StoreCall) (code : ℕ) (asked : Alterations)
     → let seen = settingsRead (afterCalls h) code in
     let done = settingsChanged (afterCalls (h ++ more)) code (seen .version) asked in
     done .refusal ≡ accepted
-    → settingsRead (done .store) code ≡ record {
-      refusal = accepted;
-      settings = settingsAltered (seen .settings) asked;
-      version = seen .version + 1;
-    }
+    → settingsRead (done .store) code
+    ≡ record { refusal = accepted; settings = settingsAltered (seen .settings) asked; version = seen .version + 1 }
 
 -- whatever comes between, as long as the code is there
 abbrev pub StaleRefused : Type 0

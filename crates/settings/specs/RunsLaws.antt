@@ -18,12 +18,14 @@ use Rattle.rom.specs.Code.{codeRefusal}
 use Rattle.device.specs.declared.Settings.{Settings}
 use Rattle.settings.specs.Store.{liveEntries, keptAt, entryAt, withEntry, withNewEntry}
 use Rattle.settings.specs.Calls.{storeRefused, storeChanged, keptForm, firstEntry, there, gone, addedAt}
-use Rattle.settings.specs.Calls.{alteredEntry, altered, settingsAltered, lastVersion, located, changeRefused}
-use Rattle.settings.specs.Calls.{changedEntry, settingsAdded, settingsRemoved, settingsRead, settingsChanged}
+use Rattle.settings.specs.Calls.{alteredEntry}
+use Rattle.settings.specs.Calls.{altered, settingsAltered, lastVersion, located, changeRefused, changedEntry}
+use Rattle.settings.specs.Calls.{settingsAdded, settingsRemoved, settingsRead, settingsChanged}
 use Rattle.settings.specs.Runs.{StoreCall, add, remove, read, change, AcceptedChange, Account, joining, leaving}
 use Rattle.settings.specs.Runs.{changing, Book, onAccepted, entered, book, afterCalls, settled, noneShown}
-use Rattle.settings.specs.Runs.{shownOf, mostCodes, mostChanges, addingRefusal, changeRefusal, RunsRight}
-use Rattle.settings.specs.Runs.{SameVersion, NothingUndone, StaleRefused, Becomes, Neighbours}
+use Rattle.settings.specs.Runs.{shownOf}
+use Rattle.settings.specs.Runs.{mostCodes, mostChanges, addingRefusal, changeRefusal, RunsRight, SameVersion}
+use Rattle.settings.specs.Runs.{NothingUndone, StaleRefused, Becomes, Neighbours}
 use Rattle.settings.specs.StoreLaws.{changed-cases}
 use Rattle.settings.specs.Written.{settingsWritten}
 use Rattle.settings.specs.declared.Alter.{Alter}
@@ -44,7 +46,8 @@ shown-accepted : (code : ℕ) (a : Account) → shownOf code a .refusal ≡ acce
     → (a .present ≡ true) × (shownOf code a ≡ record {
       refusal = accepted;
       settings = settled a;
-      version = length (a .changes);
+      version =
+          length (a .changes);
     })
 shown-accepted code a = by-code (eqb (codeRefusal code) accepted) refl
   where
@@ -82,9 +85,9 @@ change-reads s code version asked = by-refusal (eqb (located s code .refusal) ac
     by-version false v r e = absurd (omega arith)
 
     by-refusal : (t : Bool) → eqb (found .refusal) accepted ≡ t
-        → (if not t then changeRefused (found .refusal) s else if not (eqb version (found .entry .version))
-        then changeRefused staleVersion s else changedEntry s (found .place) (found .entry) asked) .refusal
-        ≡ accepted
+        → (if not t then changeRefused (found .refusal) s
+        else if not (eqb version (found .entry .version)) then changeRefused staleVersion s
+        else changedEntry s (found .place) (found .entry) asked) .refusal ≡ accepted
         → (found .refusal ≡ accepted) × (found .entry .version ≡ version)
     by-refusal true r e = by-version (eqb version (found .entry .version)) refl (eqb-true (found .refusal) accepted r) e
     by-refusal false r e = absurd (eqb-false (found .refusal) accepted r e)
@@ -101,14 +104,15 @@ present-shown code a named asked = by-code (eqb (codeRefusal code) accepted)
     by-presence false x y s e = e
 
     by-code : (t : Bool)
-        → (if not t then noneShown (codeRefusal code) else if a .present
-        then record { refusal = accepted; settings = settled a; version = length (a .changes) }
+        → (if not t then noneShown (codeRefusal code)
+        else if a .present then record { refusal = accepted; settings = settled a; version = length (a .changes) }
         else noneShown notFound) .refusal ≡ accepted
-        → (if not t then noneShown (codeRefusal code) else if a .present
-        then record {
+        → (if not t then noneShown (codeRefusal code)
+        else if a .present then record {
           refusal = accepted;
           settings = settled (changing named asked a);
-          version = length (changing named asked a .changes);
+          version =
+              length (changing named asked a .changes);
         } else noneShown notFound) .refusal ≡ accepted
     by-code true e = by-presence (a .present) _ _ refl e
     by-code false e = e
@@ -118,8 +122,8 @@ change-answers : (s : Store) (code named : ℕ) (asked : Alterations)
     → settingsChanged s code named asked .refusal ≡ accepted
     → settingsChanged s code named asked .version ≡ named + 1
 change-answers s code named asked =
-    changed-cases s code named asked (λ r. r .refusal ≡ accepted
-    → r .version ≡ named + 1) (λ n r e. absurd (r e)) (λ i at p v e. ap (λ (n : ℕ). n + 1) (sym v))
+    changed-cases s code named asked (λ r. r .refusal ≡ accepted → r .version ≡ named + 1) (λ n r e. absurd (r e))
+    (λ i at p v e. ap (λ (n : ℕ). n + 1) (sym v))
 
 module _ (b : Book) (g : Keeps b) where
   located-is : (code : ℕ) → located (b .store) code .refusal ≡ shownOf code (b .accounts code) .refusal
@@ -145,8 +149,9 @@ module _ (b : Book) (g : Keeps b) where
       a : Account
       a = b .accounts code
 
-      by-presence : (t : Bool) (i : ℕ) → (if t then storeRefused duplicate s
-          else storeChanged (withEntry s i (there (entryAt s i)))) .refusal ≡ (if t then duplicate else accepted)
+      by-presence : (t : Bool) (i : ℕ)
+          → (if t then storeRefused duplicate s else storeChanged (withEntry s i (there (entryAt s i)))) .refusal
+          ≡ (if t then duplicate else accepted)
       by-presence true i = refl
       by-presence false i = refl
 
@@ -157,8 +162,9 @@ module _ (b : Book) (g : Keeps b) where
       by-room false = refl
 
       by-place : (k : Kept) → Held s a k
-          → addedAt s code first k .refusal ≡ (if a .present then duplicate
-          else if a .known || ltb (length (b .codes)) mostCodes then accepted else benchFull)
+          → addedAt s code first k .refusal
+          ≡ (if a .present then duplicate else if a .known || ltb (length (b .codes)) mostCodes then accepted
+          else benchFull)
       by-place (At i) m = rw (← m .present-is, m .known-is) (by-presence (entryAt s i .present) i)
       by-place Nowhere none = rw (none, ← count-is) (by-room (ltb (s .count) 32))
 
@@ -187,8 +193,9 @@ module _ (b : Book) (g : Keeps b) where
     version-found : located (b .store) code .refusal ≡ accepted
         → located (b .store) code .entry .version ≡ length (b .accounts code .changes)
     unfolding settingsRead
-    version-found r = ap (λ (c : Current). c .version) (keeps-read b code g
-        ∙ shown-accepted code (b .accounts code) (sym (located-is code) ∙ r) .1)
+    version-found r =
+        ap (λ (c : Current). c .version)
+        (keeps-read b code g ∙ shown-accepted code (b .accounts code) (sym (located-is code) ∙ r) .1)
 
     changing-is : settingsChanged (b .store) code named asked .refusal ≡ changeRefusal code (b .accounts code) named
     unfolding settingsChanged
@@ -208,7 +215,8 @@ module _ (b : Book) (g : Keeps b) where
             else record {
               refusal = accepted;
               version = found .entry .version + 1;
-              store = withEntry s (found .place) (alteredEntry (found .entry) asked);
+              store =
+                  withEntry s (found .place) (alteredEntry (found .entry) asked);
             }) .refusal
             ≡ (if not t then staleVersion else if u then versionsSpent else accepted)
         by-tests true true = refl
@@ -216,10 +224,11 @@ module _ (b : Book) (g : Keeps b) where
         by-tests false u = refl
 
         by-refusal : (t : Bool) → eqb (found .refusal) accepted ≡ t
-            → (if not t then changeRefused (found .refusal) s else if not (eqb named (found .entry .version))
-            then changeRefused staleVersion s else changedEntry s (found .place) (found .entry) asked) .refusal
-            ≡ (if not t then found .refusal else if not (eqb named n) then staleVersion else if eqb n mostChanges
-            then versionsSpent else accepted)
+            → (if not t then changeRefused (found .refusal) s
+            else if not (eqb named (found .entry .version)) then changeRefused staleVersion s
+            else changedEntry s (found .place) (found .entry) asked) .refusal
+            ≡ (if not t then found .refusal else if not (eqb named n) then staleVersion
+            else if eqb n mostChanges then versionsSpent else accepted)
         by-refusal true e =
             rw (← version-found (eqb-true (found .refusal) accepted e))
             (by-tests (eqb named (found .entry .version)) (eqb (found .entry .version) lastVersion))
@@ -278,27 +287,20 @@ not-grown a = record { more = []; changes-are = sym (append-nil (a .changes)); k
 grown-then : (a b c : Account) → Grown a b → Grown b c → Grown a c
 grown-then a b c g h = record {
   more = g .more ++ h .more;
-  changes-are = h .changes-are ∙ ap (λ (l : List AcceptedChange). l ++ h .more) (g .changes-are)
+  changes-are =
+      h .changes-are ∙ ap (λ (l : List AcceptedChange). l ++ h .more) (g .changes-are)
       ∙ append-assoc (a .changes) (g .more) (h .more);
   known-is = λ k. h .known-is (g .known-is k);
   first-is = λ k. h .first-is (g .known-is k) ∙ g .first-is k;
 }
 
 joining-grown : (first : Settings) (a : Account) → Grown a (joining first a)
-joining-grown first a = record {
-  more = [];
-  changes-are = sym (append-nil (a .changes));
-  known-is = λ k. refl;
-  first-is = λ k. rw k;
-}
+joining-grown first a =
+    record { more = []; changes-are = sym (append-nil (a .changes)); known-is = λ k. refl; first-is = λ k. rw k }
 
 leaving-grown : (a : Account) → Grown a (leaving a)
-leaving-grown a = record {
-  more = [];
-  changes-are = sym (append-nil (a .changes));
-  known-is = λ k. k;
-  first-is = λ k. refl;
-}
+leaving-grown a =
+    record { more = []; changes-are = sym (append-nil (a .changes)); known-is = λ k. k; first-is = λ k. refl }
 
 changing-grown : (named : ℕ) (asked : Alterations) (a : Account) → Grown a (changing named asked a)
 changing-grown named asked a = record { more = _; changes-are = refl; known-is = λ k. k; first-is = λ k. refl }
@@ -312,14 +314,16 @@ accepted-grown refusal code f accounts k g = by-test (eqb refusal accepted && eq
     by-test false = not-grown (accounts k)
 
 call-grown : (b : Book) (c : StoreCall) (k : ℕ) → Grown (b .accounts k) (entered b c .accounts k)
-call-grown b (add code first) k = accepted-grown (settingsAdded (b .store) code first .refusal) code (joining first)
-    (b .accounts) k (joining-grown first (b .accounts k))
-call-grown b (remove code) k = accepted-grown (settingsRemoved (b .store) code .refusal) code leaving (b .accounts) k
+call-grown b (add code first) k =
+    accepted-grown (settingsAdded (b .store) code first .refusal) code (joining first) (b .accounts) k
+    (joining-grown first (b .accounts k))
+call-grown b (remove code) k =
+    accepted-grown (settingsRemoved (b .store) code .refusal) code leaving (b .accounts) k
     (leaving-grown (b .accounts k))
 call-grown b (read code) k = not-grown (b .accounts k)
 call-grown b (change code version asked) k =
-    accepted-grown (settingsChanged (b .store) code version asked .refusal) code (changing version asked) (b .accounts)
-    k (changing-grown version asked (b .accounts k))
+    accepted-grown (settingsChanged (b .store) code version asked .refusal) code (changing version asked)
+    (b .accounts) k (changing-grown version asked (b .accounts k))
 
 calls-grown : (b : Book) (h : List StoreCall) (k : ℕ) → Grown (b .accounts k) (fold entered b h .accounts k)
 unfolding fold
@@ -336,8 +340,9 @@ present-known b code g p = by-place (keptAt (b .store) code) (g .held code)
   where
     by-place : (k : Kept) → Held (b .store) (b .accounts code) k → b .accounts code .known ≡ true
     by-place (At i) m = m .known-is
-    by-place Nowhere none = let z : false ≡ true = sym (ap (λ (a : Account). a .present) none) ∙ p in
-        let one : _≡_ {A = ℕ} 0 1 = ap (λ (t : Bool). if t then 1 else 0) z in absurd (omega arith)
+    by-place Nowhere none = let z : false ≡ true =
+        sym (ap (λ (a : Account). a .present) none) ∙ p in let one : _≡_ {A = ℕ} 0 1 =
+        ap (λ (t : Bool). if t then 1 else 0) z in absurd (omega arith)
 
 no-more : (l m : List AcceptedChange) → length (l ++ m) ≡ length l → l ++ m ≡ l
 no-more l [] e = append-nil l
@@ -359,15 +364,18 @@ same-version h more code first last same =
     let changes : b' .accounts code .changes ≡ b .accounts code .changes =
     g .changes-are ∙ no-more (b .accounts code .changes) (g .more) (ap length (sym (g .changes-are)) ∙ lengths) in
     let settings : settled (b' .accounts code) ≡ settled (b .accounts code) = rw (changes, g .first-is known) in
-    let shown : _≡_ {A = Current} (record {
+    let shown : _≡_ {A = Current}
+    (record {
       refusal = accepted;
       settings = settled (b' .accounts code);
-      version = length (b' .accounts code .changes);
+      version =
+          length (b' .accounts code .changes);
     })
     (record {
       refusal = accepted;
       settings = settled (b .accounts code);
-      version = length (b .accounts code .changes);
+      version =
+          length (b .accounts code .changes);
     }) = rw (settings, lengths) in
     behind ∙ two .1 ∙ shown ∙ sym (before ∙ one .1)
 
@@ -388,17 +396,16 @@ nothing-undone h more code asked first done =
     let next : settingsRead (entered b call .store) code ≡ shownOf code (entered b call .accounts code) =
     keeps-read (entered b call) code (call-keeps b call (book-keeps (h ++ more))) in
     let entry : entered b call .accounts code ≡ changing (seen .version) asked a =
-    rw (
-      eq-eqb (settingsChanged (b .store) code (seen .version) asked .refusal) accepted done,
-      eq-eqb code code refl,
-    ) in
-    let again = shown-accepted code (changing (seen .version) asked a)
+    rw (eq-eqb (settingsChanged (b .store) code (seen .version) asked .refusal) accepted done, eq-eqb code code refl) in
+    let again =
+    shown-accepted code (changing (seen .version) asked a)
     (present-shown code a (seen .version) asked (ap (λ (c : Current). c .refusal) (sym is) ∙ last .0)) in
     let settings : settled (changing (seen .version) asked a) ≡ settingsAltered (seen .settings) asked =
     settled-more (seen .version) asked a ∙ ap (λ (c : Current). settingsAltered (c .settings) asked) (sym now-is) in
     let version : length (changing (seen .version) asked a .changes) ≡ seen .version + 1 =
     length-append (a .changes) _ ∙ ap (λ (c : Current). c .version + 1) (sym now-is) in
-    let shown-next : _≡_ {A = Current} (record {
+    let shown-next : _≡_ {A = Current}
+    (record {
       refusal = accepted;
       settings = settled (changing (seen .version) asked a);
       version =
@@ -465,10 +472,11 @@ joining-form first a g = by-test (a .known)
 
 call-form : (b : Book) (c : StoreCall) → ((k : ℕ) → InForm (b .accounts k .first)) → (k : ℕ)
     → InForm (entered b c .accounts k .first)
-call-form b (add code first) g k = accepted-form (settingsAdded (b .store) code first .refusal) code (joining first)
-    (b .accounts) k (g k) (joining-form first (b .accounts k) (g k))
-call-form b (remove code) g k = accepted-form (settingsRemoved (b .store) code .refusal) code leaving (b .accounts) k
-    (g k) (g k)
+call-form b (add code first) g k =
+    accepted-form (settingsAdded (b .store) code first .refusal) code (joining first) (b .accounts) k (g k)
+    (joining-form first (b .accounts k) (g k))
+call-form b (remove code) g k =
+    accepted-form (settingsRemoved (b .store) code .refusal) code leaving (b .accounts) k (g k) (g k)
 call-form b (read code) g k = g k
 call-form b (change code version asked) g k =
     accepted-form (settingsChanged (b .store) code version asked .refusal) code (changing version asked) (b .accounts) k
@@ -490,14 +498,15 @@ settled-form s (c ∷ changes) g = settled-form (settingsAltered s (c .asked)) c
     altered-form x asked =
         form-again (record {
           high = altered (x .high) (asked .high);
-          low = altered (x .low) (asked .low);
+          low =
+              altered (x .low) (asked .low);
           configuration = altered (x .configuration) (asked .configuration);
         })
 
 book-form : (h : List StoreCall) (code : ℕ) → InForm (settled (book h .accounts code))
 unfolding book
-book-form h code = settled-form (book h .accounts code .first) (book h .accounts code .changes)
-    (calls-form _ h (λ k. refl) code)
+book-form h code =
+    settled-form (book h .accounts code .first) (book h .accounts code .changes) (calls-form _ h (λ k. refl) code)
 
 becomes : (x : Alter) (seen : ℕ) (kept : ℕ → ℕ) → kept seen ≡ seen → Becomes x seen kept (kept (altered seen x))
 becomes Leave seen kept e = e

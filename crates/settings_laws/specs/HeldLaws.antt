@@ -1,63 +1,75 @@
 -- No call on the bench that spares a device changes the settings in its scratchpad. Calls of the master other than
--- writes change stages alone; an adding puts a device behind the others; the end of a conversion writes a reading, that
--- of a copy EEPROM; a power cycle and a write change one device, with another code.
+-- writes change stages alone; an adding puts a device behind the others; a slot writes settings only by 4Eh and B8h;
+-- the
+-- end of a conversion writes a reading, that of a copy EEPROM; a power cycle and a write change one device, with
+-- another
+-- code.
 --     Held ds i code s     of these devices the one at place i has the code and holds the settings s
 --     bench-spares         a call that spares the device with the code, on the bench after any history
+--     written-holds        an accepted write
 use Prim.Native.Nat.{ℕ, zero, suc, _<_}
-use mathlib.Core.Bool.{Bool, true, false, not, _||_}
+use mathlib.Core.Bool.{Bool, true, false}
 use mathlib.Core.List.{List, [], _∷_, _++_, map}
 use mathlib.Core.Logic.{_≢_}
 use mathlib.Core.Path.{_≡_, refl, sym, ap, subst, _∙_}
 use native.Mathlib.Omega.{arith}
-use borrow.Author.Tests.{eqb-true, eqb-false, ltb-false}
-use lib.Dec.{eqb, ltb, lit<, lit≤}
+use borrow.Author.Tests.{eqb-true, eqb-false, ne-eqb}
+use lib.Dec.{eqb, lit<, lit≤}
 use lib.ListN.{length, getD, set, length-map, length-set, length-append, List·getD-map, List·getD-append}
 use lib.Seq.{getD-set-same, getD-set-other}
 use Rattle.basic_laws.specs.Choice.{if_then_else_}
 use Rattle.basic_laws.specs.Each.{Each}
 use Rattle.basic_laws.specs.EachLaws.{each-at}
 use Rattle.basic_laws.specs.Fold.{fold}
-use Rattle.commands.specs.Commands.{searchRom, alarmSearch}
-use Rattle.refusals.specs.Refusals.{accepted, noRoom, wireBusy}
+use Rattle.commands.specs.Bytes.{shiftIn}
+use Rattle.commands.specs.BytesLaws.{shifted-cases}
+use Rattle.commands.specs.Commands.{searchRom, alarmSearch, convert, writeScratchpad, readScratchpad, copyScratchpad}
+use Rattle.commands.specs.Commands.{recallEeprom, readPower}
+use Rattle.commands.specs.declared.Shifted.the-variants.{Whole}
+use Rattle.refusals.specs.Refusals.{accepted}
 use Rattle.family.specs.Configuration.{storedForm, keptConfiguration}
 use Rattle.family.specs.declared.Properties.{Properties}
 use Rattle.temperature.specs.declared.Sixteenths.{Sixteenths}
 use Rattle.scratchpad.specs.StoredLaws.{after-other}
 use Rattle.device.specs.Finish.{conversionDone, copyDone}
+use Rattle.device.specs.Hear.{hearRom, functionCommand, idleCommand, hearFunction, hearAt, hearOf}
+use Rattle.device.specs.Laws.{hear-code}
 use Rattle.device.specs.Power.{powerUp, joined}
-use Rattle.device.specs.Record.{withScratchpad, rowOf}
+use Rattle.device.specs.Record.{withScratchpad, rowOf, busy}
 use Rattle.device.specs.Settings.{settingsIn, withSettings}
 use Rattle.device.specs.Sound.{Sound}
 use Rattle.device.specs.SettingsLaws.{settings-high, settings-low, settings-configuration}
 use Rattle.device.specs.declared.Device.{Device}
 use Rattle.device.specs.declared.Settings.{Settings}
-use Rattle.bench.specs.Bench.{live, vacant, placeOf, free}
+use Rattle.device.specs.declared.Stage.{Stage}
+use Rattle.device.specs.declared.Stage.the-variants.{AwaitRom, SendRom, Match, Search, AwaitFunction, TakeSettings}
+use Rattle.device.specs.declared.Stage.the-variants.{SendScratchpad, SendStatus, SendPower, Quiet}
+use Rattle.bench.specs.Bench.{live, vacant, placeOf}
 use Rattle.bench.specs.Calls.{deviceAt}
-use Rattle.bench.specs.Slot.{restarted, resetDone}
+use Rattle.bench.specs.Slot.{lineBit, heard, restarted}
 use Rattle.bench.specs.declared.Bench.{Bench}
 use Rattle.bench.specs.declared.Place.{Place}
 use Rattle.bench.specs.declared.Place.the-variants.{At, Nowhere}
+use Rattle.bench.specs.Laws.{heard-live, slot-cases}
 use Rattle.bench.specs.Laws.{reset-cases, place-live, place-found, device-live, added-cases, OneChanged}
 use Rattle.bench.specs.Laws.{conversion-cases, copy-cases, cycle-cases}
 use Rattle.bench.specs.Sound.{BenchSound}
 use Rattle.bench.specs.SoundLaws.{place-is}
 use Rattle.master_rules.specs.Access.{readAt, writeAt}
-use Rattle.master_rules.specs.OnTheBench as onWire
 use Rattle.master_rules.specs.OnTheBench.{restarted-keeps}
 use Rattle.master_rules.specs.Pins.{pinsOutcome}
-use Rattle.master_rules.specs.Search.{fewestPlaces, fewestBytes, mostPasses, refusedOutcome, lonelyOutcome}
-use Rattle.master_rules.specs.Search.{foundOutcome, searchRun, searchOutcome}
-use Rattle.master_rules.specs.SearchLaws.{wire-held}
+use Rattle.master_rules.specs.Search.{searchOutcome}
 use Rattle.master_rules.specs.Thermometers.{unstaged}
 use Rattle.history_laws.specs.Corollaries.{bench-is-sound}
 use Rattle.history_laws.specs.History.{Call, add, reset, slot, finishConversion, finishCopy, powerCycle, search}
 use Rattle.history_laws.specs.History.{searchAlarms, read, write, readPins, Typed, apply, after}
 use Rattle.access_laws.specs.Bytewise.{readable-after}
-use Rattle.access_laws.specs.PinningLaws.{pins-claim}
+use Rattle.access_laws.specs.PinningLaws.{pins-kept}
+use Rattle.access_laws.specs.SearchLaws.{search-kept, alarm-kept}
 use Rattle.access_laws.specs.ShownLaws.{read-kept}
-use Rattle.access_laws.specs.WriteLaws.{write-answer}
+use Rattle.access_laws.specs.WriteLaws.{map-at, write-answer}
 use Rattle.access_laws.specs.Written.{withAsked, Writes}
-use Rattle.settings_laws.specs.Shared.{settingsOf, keptBy, Holds, SparesOnBench}
+use Rattle.settings_laws.specs.Shared.{settingsOf, keptBy, Holds, SparesStage, SparesOnBench}
 
 -- ## One device among others
 
@@ -113,7 +125,8 @@ module _ (i code : ℕ) (s : Settings) where
           record {
             within = rw (length-set ds j d) (h .within);
             has = rw there (new is .0);
-            alone = rw there (new is .1);
+            alone =
+                rw there (new is .1);
           }
       by-test false e =
           let there : getD (set ds j d) i vacant ≡ getD ds i vacant =
@@ -141,6 +154,40 @@ converted-holds s d n h =
       after-other row n pad 4 (lit≤ tt) (lit< tt),
     ) h
 
+-- a slot that spares the device
+module _ (s : Settings) where
+  holds-if : (t : Bool) (d e : Device) → HoldsAlone s d → HoldsAlone s e → HoldsAlone s (if t then d else e)
+  holds-if true d e h k = h
+  holds-if false d e h k = k
+
+  command-holds : (d : Device) (c : ℕ) → c ≢ recallEeprom → HoldsAlone s d → HoldsAlone s (functionCommand d c)
+  unfolding functionCommand idleCommand
+  command-holds d c other h =
+      holds-if (eqb c readScratchpad) _ _ h
+      (holds-if (eqb c readPower) _ _ h
+      (holds-if (busy d) _ _ h
+      (holds-if (eqb c convert) _ _ h
+      (holds-if (eqb c writeScratchpad) _ _ h
+      (holds-if (eqb c copyScratchpad) _ _ h (rw (ne-eqb c recallEeprom other) h))))))
+
+  heard-holds : (d : Device) (l : Bool) → SparesStage l (d .stage) → HoldsAlone s d → HoldsAlone s (hearOf d l)
+  unfolding hearOf
+  heard-holds d l spared h = at-stage (d .stage) spared
+    where
+      at-stage : (u : Stage) → SparesStage l u → HoldsAlone s (hearAt d l u)
+      at-stage (AwaitRom r n) p = shifted-cases r n l (λ x. HoldsAlone s (hearRom d x)) h (λ e. h) h
+      at-stage (SendRom j) p = h
+      at-stage (Match j) p = h
+      at-stage (Search j q) p = h
+      at-stage (AwaitFunction r n) p =
+          shifted-cases r n l (λ x. x ≢ Whole recallEeprom → HoldsAlone s (hearFunction d x)) (λ q. h)
+          (λ e q. command-holds d (shiftIn r l) (λ z. q (ap Whole z)) h) (λ q. h) p
+      at-stage (TakeSettings k r n) p = absurd p
+      at-stage (SendScratchpad k j) p = h
+      at-stage SendStatus p = h
+      at-stage SendPower p = h
+      at-stage Quiet p = h
+
 copied-holds : (s : Settings) (d : Device) (c : Settings) → HoldsAlone s d → HoldsAlone s (copyDone d c)
 unfolding copyDone
 copied-holds s d c h = h
@@ -164,49 +211,6 @@ asked-read row pad s long =
 pub asked-holds : (s : Settings) (d : Device) → length (d .scratchpad) ≡ 8
     → HoldsAlone s (withScratchpad d (withAsked d s))
 asked-holds s d long = asked-read (rowOf (d .code) (d .pins)) (d .scratchpad) s long
-
--- ## Calls of the master that change stages alone
-
--- by what the passes of a search leave
-outcome-kept : (command : ℕ) (b : Bench) (places room : ℕ)
-    → (free b ≡ true → map unstaged (live (searchRun command b .devices)) ≡ map unstaged (live b))
-    → map unstaged (live (searchOutcome command b places room .bench)) ≡ map unstaged (live b)
-unfolding searchOutcome
-outcome-kept command b places room run = by-tests (ltb places fewestPlaces
-    || ltb room fewestBytes) (free b) refl (not (resetDone b .presence))
-  where
-    by-tests : (t u : Bool) → free b ≡ u → (v : Bool)
-        → map unstaged (live ((if t then refusedOutcome noRoom b else if not u then refusedOutcome wireBusy b else if v
-        then lonelyOutcome (resetDone b .bench) else foundOutcome (searchRun command b)) .bench))
-        ≡ map unstaged (live b)
-    by-tests true u f v = refl
-    by-tests false false f v = refl
-    by-tests false true f true = reset-cases b (λ r. map unstaged (live (r .bench))
-        ≡ map unstaged (live b)) (λ g. restarted-keeps b) (λ g. refl)
-    by-tests false true f false = run f
-
-search-kept : (b : Bench) (places room : ℕ)
-    → map unstaged (live (searchOutcome searchRom b places room .bench)) ≡ map unstaged (live b)
-search-kept b places room =
-    outcome-kept searchRom b places room (λ f. ap (λ r. map unstaged (live (r .devices)))
-    (onWire.search-calls mostPasses b f) ∙ onWire.search-keeps mostPasses b)
-
-alarm-kept : (b : Bench) (places room : ℕ) → map unstaged (live (searchOutcome alarmSearch b places room .bench))
-    ≡ map unstaged (live b)
-alarm-kept b places room =
-    outcome-kept alarmSearch b places room (λ f. ap (λ r. map unstaged (live (r .devices)))
-    (onWire.alarm-calls mostPasses b f) ∙ onWire.alarm-keeps mostPasses b)
-
-pins-kept : (h : List Call) → Each Typed h → (places : ℕ)
-    → map unstaged (live (pinsOutcome (after h) places .found .bench)) ≡ map unstaged (live (after h))
-unfolding pinsOutcome
-pins-kept h t places = by-tests (ltb places fewestPlaces) refl (free (after h)) refl
-  where
-    by-tests : (u : Bool) → ltb places fewestPlaces ≡ u → (v : Bool) → free (after h) ≡ v
-        → map unstaged (live (pinsOutcome (after h) places .found .bench)) ≡ map unstaged (live (after h))
-    by-tests true e v f = rw e
-    by-tests false e true f = pins-claim h t f places (ltb-false places fewestPlaces e) .devices-kept
-    by-tests false e false f = rw (e, wire-held searchRom (after h) fewestPlaces fewestBytes (lit≤ tt) (lit≤ tt) f)
 
 -- ## Every call that spares the device
 
@@ -236,6 +240,21 @@ module _ (h : List Call) (t : Each Typed h) (code : ℕ) (s : Settings) (holds :
   stays : (c : Bench) → map unstaged (live c) ≡ map unstaged (live (after h)) → Held (live c) i code s
   stays c e = unstaged-held i code s (live (after h)) (live c) e before
 
+  slot-held : (l : Bool) → ((j : ℕ) → placeOf (after h) code ≡ At j → SparesStage l (deviceAt (after h) j .stage))
+      → Held (live (heard (after h) l)) i code s
+  unfolding i
+  slot-held l spared =
+      let ds = live (after h) in
+      let d = getD ds i vacant in
+      let there : getD (map (λ e. hearOf e l) ds) i vacant ≡ hearOf d l =
+      map-at (λ e. hearOf e l) ds i vacant vacant (before .within) in
+      let quiet : SparesStage l (d .stage) = rw (device-live (after h) code i (holds .at)) (spared i (holds .at)) in
+      rw (heard-live (after h) l) (record {
+        within = rw (length-map ds (λ e. hearOf e l)) (before .within);
+        has = rw there (hear-code d l ∙ before .has);
+        alone = rw there (heard-holds s d l quiet (before .alone));
+      })
+
   write-held : (k : ℕ) (asked : Settings) → Typed (write k asked)
       → (k ≡ code → writeAt (after h) k asked .refusal ≢ accepted)
       → Held (live (writeAt (after h) k asked .bench)) i code s
@@ -247,8 +266,9 @@ module _ (h : List Call) (t : Each Typed h) (code : ℕ) (s : Settings) (holds :
       by-place : (p : Place) → placeOf (after h) k ≡ p → writeAt (after h) k asked .refusal ≡ accepted
           → Held (live (writeAt (after h) k asked .bench)) i code s
       by-place (At j) at done =
-          let apart : j ≢ i = λ e. spared (sym (place-found (after h) k j at)
-          ∙ ap (λ (n : ℕ). getD (live (after h)) n vacant .code) e ∙ before .has) done in
+          let apart : j ≢ i =
+          λ e. spared (sym (place-found (after h) k j at) ∙ ap (λ (n : ℕ). getD (live (after h)) n vacant .code) e
+          ∙ before .has) done in
           let written = withScratchpad (deviceAt (after h) j) (withAsked (deviceAt (after h) j) asked) in
           unstaged-held i code s (set (live (after h)) j written) (live (writeAt (after h) k asked .bench))
           (w .accepted-leaves j at done ∙ sym (map-set unstaged (live (after h)) j written))
@@ -266,9 +286,12 @@ module _ (h : List Call) (t : Each Typed h) (code : ℕ) (s : Settings) (holds :
       added-cases (after h) new (λ r. Held (live (r .bench)) i code s) (bench-is-sound h t .places) (λ n r. before)
       (λ c a.
       rw (a .live-is) (append-held i code s (live (after h)) (joined new ∷ []) before))
-  call-held reset typed spared = reset-cases (after h) (λ r. Held (live (r .bench)) i code s)
+  call-held reset typed spared =
+      reset-cases (after h) (λ r. Held (live (r .bench)) i code s)
       (λ f. stays (restarted (after h)) (restarted-keeps (after h))) (λ f. before)
-  call-held (slot m) typed spared = absurd spared
+  call-held (slot m) typed spared =
+      slot-cases (after h) m (λ r. Held (live (r .bench)) i code s) (λ f. slot-held (lineBit (after h) m) spared)
+      (λ f. before)
   call-held (finishConversion k n) typed spared =
       conversion-cases (after h) k (λ r. Held (live (r .bench)) i code s) (λ r z. before) n (λ range c o.
       one-held k (λ d. conversionDone d n) c o (λ d. refl) (λ d at holding is. converted-holds s d n holding))
@@ -282,8 +305,8 @@ module _ (h : List Call) (t : Each Typed h) (code : ℕ) (s : Settings) (holds :
       stays (searchOutcome searchRom (after h) places room .bench) (search-kept (after h) places room)
   call-held (searchAlarms places room) typed spared =
       stays (searchOutcome alarmSearch (after h) places room .bench) (alarm-kept (after h) places room)
-  call-held (read k) typed spared = stays (readAt (after h) k .bench)
-      (read-kept (after h) k typed (readable-after h t .codes-fit))
+  call-held (read k) typed spared =
+      stays (readAt (after h) k .bench) (read-kept (after h) k typed (readable-after h t .codes-fit))
   call-held (write k asked) typed spared = write-held k asked typed spared
   call-held (readPins places) typed spared = stays (pinsOutcome (after h) places .found .bench) (pins-kept h t places)
 
@@ -309,15 +332,17 @@ written-holds h t code s typed done sound = by-place (placeOf (after h) code) re
         let within : i < length (live b) = place-live b code i at in
         let there : getD (set (live b) i new) i vacant ≡ new = getD-set-same (live b) i new vacant within in
         let has : d .code ≡ code = rw (device-live b code i at) at (place-found b code i at) in
-        let long : length (d .scratchpad) ≡ 8 = rw (device-live b code i at) at
+        let long : length (d .scratchpad) ≡ 8 =
+        rw (device-live b code i at) at
         (each-at Sound (live b) i vacant within (bench-is-sound h t .devices-sound) .pad-sound .eight) in
         let held : Held (set (live b) i new) i code s =
         record {
           within = rw (length-set (live b) i new) within;
           has = rw there has;
-          alone = rw there (asked-holds s d long);
+          alone =
+              rw there (asked-holds s d long);
         } in
         held-holds i code s (writeAt b code s .bench) sound
-        (unstaged-held i code s (set (live b) i new) (live (writeAt b code s .bench)) (w .accepted-leaves i at done
-        ∙ sym (map-set unstaged (live b) i new)) held)
+        (unstaged-held i code s (set (live b) i new) (live (writeAt b code s .bench))
+        (w .accepted-leaves i at done ∙ sym (map-set unstaged (live b) i new)) held)
     by-place Nowhere at = absurd (w .absent-refused at done)

@@ -1,5 +1,6 @@
 -- The story of the raised limit, from the claims on the store (`stale-refused`, `neighbours`) and the claim on shared
--- runs (`to-the-wire`): of a shared run the store sees the calls on it, and nothing else.
+-- runs
+-- (`to-the-wire`): of a shared run the store sees the calls on it, and nothing else.
 use Prim.Native.Nat.{ℕ}
 use mathlib.Core.List.{List, [], _∷_, _++_, append-nil}
 use mathlib.Core.Path.{_≡_, refl, sym, ap, subst}
@@ -70,14 +71,16 @@ module _ (code limit : ℕ) (late : Alterations) where
       let reads = change-reads (afterCalls h) code (seen .version) (raising limit) done in
       let now = rw (append-nil h) at (nothing-undone h [] code (raising limit) (reads .0)) in
       let parts = rw (append-nil h) at (neighbours h [] code (raising limit) (reads .0)) in
-      let late-is = subst (λ (b : Book). settingsRead (b .store) code .refusal ≡ accepted
+      let late-is =
+      subst (λ (b : Book). settingsRead (b .store) code .refusal ≡ accepted
       → settingsChanged (b .store) code (seen .version) late .refusal ≡ staleVersion)
       (book-snoc h (change code (seen .version) (raising limit)))
       (stale-refused h [] code (seen .version) (raising limit) late done) in
       record {
         stale = late-is (ap (λ (c : Current). c .refusal) (now done));
-        settings-are = settings-equal (settingsRead (raisedIn (book h) .store) code .settings) limit
-            (seen .settings .low) (seen .settings .configuration) (parts done .0) (parts done .1) (parts done .2);
+        settings-are =
+            settings-equal (settingsRead (raisedIn (book h) .store) code .settings) limit (seen .settings .low)
+            (seen .settings .configuration) (parts done .0) (parts done .1) (parts done .2);
       }
 
 -- ## The wire
@@ -91,11 +94,13 @@ unfolding onward fold
 raised-limit h code limit late t fits byte done written =
     let seen = settingsRead (shared h .book .store) code in
     let raise = onStore (change code (seen .version) (raising limit)) in
-    let story = subst (λ (b : Book). raisedIn code limit late b .refusal ≡ accepted
-    → Raised code limit late b) (sym (book-shared h)) (store-raised code limit late (storeCalls h)) done in
-    let wire = rw (shared-snoc h raise) at (to-the-wire (h
-    ++ (raise ∷ [])) [] code (each-snoc TypedShared h raise t (fits, byte, tt, tt)) fits tt) in (
+    let story =
+    subst (λ (b : Book). raisedIn code limit late b .refusal ≡ accepted → Raised code limit late b)
+    (sym (book-shared h)) (store-raised code limit late (storeCalls h)) done in
+    let wire =
+    rw (shared-snoc h raise) at
+    (to-the-wire (h ++ (raise ∷ [])) [] code (each-snoc TypedShared h raise t (fits, byte, tt, tt)) fits tt) in (
       story .stale,
-      subst (Holds (settingsWritten (raisedIn code limit late (shared h .book) .store) (shared h .bench)
-          code .bench) code) (story .settings-are) (wire written tt),
+      subst (Holds (settingsWritten (raisedIn code limit late (shared h .book) .store)
+          (shared h .bench) code .bench) code) (story .settings-are) (wire written tt),
     )

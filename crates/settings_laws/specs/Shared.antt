@@ -5,10 +5,11 @@
 --     TypedShared c      its arguments are values of their types
 --     Shared             the store, in its book, and the bench
 --     onward st h        both after the calls h, from st on; shared h, from the empty ones on
---     Holds b code s     a device of the bench b has the code, and the settings s in its scratchpad: the configuration
+--     Holds b code s     a device of the bench b has the code, and in its scratchpad the settings s: the configuration
 --                        in stored form with its own pins, and none where its family has none
---     Spares code st c   the call c, made on st, writes no settings to the device with the code: it is no slot by hand,
---                        no power cycle of the code, and no write and no settings write at it that is accepted
+--     Spares code st c   the call c, made on st, writes no settings to the device with the code: no accepted write or
+--                        settings write at it, no power cycle of it, and no slot by hand in which it takes a bit of a
+--                        byte of 4Eh or the last bit of B8h
 --     Spared             so each call of a run, where it is made
 --     ToTheWire          after an accepted settings write the device holds what the store had, whatever calls follow,
 --                        until one that does not spare it
@@ -16,19 +17,27 @@
 --                        the device; the other, who has not seen that, is refused with 18 whatever it asks, and the
 --                        device holds the raised limit beside the low limit and the configuration that both had read
 use Prim.Native.Nat.{ℕ}
+use mathlib.Core.Bool.{Bool}
 use mathlib.Core.List.{List, [], _∷_}
 use mathlib.Core.Logic.{_≢_}
 use mathlib.Core.Path.{_≡_}
 use Rattle.basic_laws.specs.Each.{Each}
 use Rattle.basic_laws.specs.Fold.{fold}
 use Rattle.refusals.specs.Refusals.{accepted, staleVersion}
+use Rattle.commands.specs.Bytes.{shifted}
+use Rattle.commands.specs.Commands.{recallEeprom}
+use Rattle.commands.specs.declared.Shifted.the-variants.{Whole}
 use Rattle.family.specs.Configuration.{keptConfiguration}
 use Rattle.device.specs.Record.{rowOf}
 use Rattle.device.specs.Settings.{settingsIn}
 use Rattle.device.specs.declared.Device.{Device}
 use Rattle.device.specs.declared.Settings.{Settings}
+use Rattle.device.specs.declared.Stage.{Stage}
+use Rattle.device.specs.declared.Stage.the-variants.{AwaitRom, SendRom, Match, Search, AwaitFunction, TakeSettings}
+use Rattle.device.specs.declared.Stage.the-variants.{SendScratchpad, SendStatus, SendPower, Quiet}
 use Rattle.bench.specs.Bench.{emptyBench, placeOf}
 use Rattle.bench.specs.Calls.{deviceAt}
+use Rattle.bench.specs.Slot.{lineBit}
 use Rattle.bench.specs.declared.Bench.{Bench}
 use Rattle.bench.specs.declared.Place.the-variants.{At}
 use Rattle.master_rules.specs.Access.{writeAt}
@@ -103,10 +112,24 @@ pub record Holds (b : Bench) (code : ℕ) (s : Settings) : Type 0 where
 
 -- ## Calls that write no settings to a device
 
+-- a slot in which the line shows l, by the stage of the device
+abbrev pub SparesStage : Bool → Stage → Type 0
+SparesStage l (AwaitRom s n) = Unit
+SparesStage l (SendRom i) = Unit
+SparesStage l (Match i) = Unit
+SparesStage l (Search i p) = Unit
+SparesStage l (AwaitFunction s n) = shifted s n l ≢ Whole recallEeprom
+SparesStage l (TakeSettings k s n) = ⊥
+SparesStage l (SendScratchpad k j) = Unit
+SparesStage l SendStatus = Unit
+SparesStage l SendPower = Unit
+SparesStage l Quiet = Unit
+
 abbrev pub SparesOnBench : ℕ → Bench → Call → Type 0
 SparesOnBench code b (addDevice new) = Unit
 SparesOnBench code b reset = Unit
-SparesOnBench code b (slot m) = ⊥
+SparesOnBench code b (slot m) =
+    (i : ℕ) → placeOf b code ≡ At i → SparesStage (lineBit b m) (deviceAt b i .stage)
 SparesOnBench code b (finishConversion k n) = Unit
 SparesOnBench code b (finishCopy k) = Unit
 SparesOnBench code b (powerCycle k) = k ≢ code

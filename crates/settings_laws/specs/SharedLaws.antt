@@ -1,6 +1,8 @@
 -- The claim on shared runs. Invariant (`Reached`): the bench is that of a history of typed calls, in which a settings
--- write is the write that it makes, and what the store has for each code are bytes. An accepted settings write leaves
--- the settings in the device (`written-holds`), and no call that spares the device takes them away (`call-spares`).
+-- write
+-- is the write that it makes, and what the store has for each code are bytes. An accepted settings write leaves the
+-- settings in the device
+-- (`written-holds`), and no call that spares the device takes them away (`call-spares`).
 use Prim.Native.Nat.{ℕ, _≤_}
 use mathlib.Core.Bool.{Bool, true, false, not, _&&_}
 use mathlib.Core.List.{List, [], _∷_, _++_}
@@ -30,7 +32,8 @@ use Rattle.settings.specs.Calls.{keptForm, settingsAdded, settingsRemoved, sett
 use Rattle.settings.specs.Calls.{settingsChanged}
 use Rattle.settings.specs.KeptLaws.{Keeps, call-keeps, book-keeps, keeps-read}
 use Rattle.settings.specs.Runs.{StoreCall, add, remove, read, change, AcceptedChange, Account, joining, leaving}
-use Rattle.settings.specs.Runs.{changing, Book, onAccepted, entered, book, settled, noneShown, shownOf}
+use Rattle.settings.specs.Runs.{changing}
+use Rattle.settings.specs.Runs.{Book, onAccepted, entered, book, settled, noneShown, shownOf}
 use Rattle.settings.specs.Written.{settingsWritten}
 use Rattle.settings.specs.declared.Alter.{Alter}
 use Rattle.settings.specs.declared.Alter.the-variants.{Leave, To}
@@ -54,8 +57,8 @@ record AccountBytes (a : Account) : Type 0 where
   pub asked-bytes : Each (λ c. TypedAsked (c .asked)) (a .changes)
 
 kept-bytes : (s : Settings) → Byte (s .high) → Byte (s .low) → SettingBytes (keptForm s)
-kept-bytes s high low = let h : bitAnd (s .configuration) 0x60 ≤ 0x60 = and-le-r (s .configuration) 0x60 in
-    (high, low, omega arith)
+kept-bytes s high low = let h : bitAnd (s .configuration) 0x60 ≤ 0x60 =
+    and-le-r (s .configuration) 0x60 in (high, low, omega arith)
 
 altered-byte : (byte : ℕ) (x : Alter) → Byte byte → TypedAlter x → Byte (altered byte x)
 altered-byte byte Leave b t = b
@@ -66,15 +69,16 @@ settled-bytes : (s : Settings) (changes : List AcceptedChange) → SettingBytes 
     → SettingBytes (fold (λ (x : Settings) (c : AcceptedChange). settingsAltered x (c .asked)) s changes)
 unfolding fold
 settled-bytes s [] b t = b
-settled-bytes s (c ∷ changes) b t = settled-bytes (settingsAltered s (c .asked)) changes
-    (altered-bytes s (c .asked) b (t .0)) (t .1)
+settled-bytes s (c ∷ changes) b t =
+    settled-bytes (settingsAltered s (c .asked)) changes (altered-bytes s (c .asked) b (t .0)) (t .1)
   where
     altered-bytes : (x : Settings) (asked : Alterations) → SettingBytes x → TypedAsked asked
         → SettingBytes (settingsAltered x asked)
     altered-bytes x asked y u =
         kept-bytes (record {
           high = altered (x .high) (asked .high);
-          low = altered (x .low) (asked .low);
+          low =
+              altered (x .low) (asked .low);
           configuration = altered (x .configuration) (asked .configuration);
         })
         (altered-byte (x .high) (asked .high) (y .0) (u .0)) (altered-byte (x .low) (asked .low) (y .1) (u .1))
@@ -103,8 +107,9 @@ changing-bytes : (named : ℕ) (asked : Alterations) (a : Account) → TypedAske
     → AccountBytes (changing named asked a)
 changing-bytes named asked a t g = record {
   first-bytes = g .first-bytes;
-  asked-bytes = each-snoc (λ (c : AcceptedChange). TypedAsked (c .asked)) (a .changes)
-      (record { named = named; asked = asked }) (g .asked-bytes) t;
+  asked-bytes =
+      each-snoc (λ (c : AcceptedChange). TypedAsked (c .asked)) (a .changes) (record { named = named; asked = asked })
+      (g .asked-bytes) t;
 }
 
 store-bytes : (b : Book) (c : StoreCall) → TypedStore c → ((k : ℕ) → AccountBytes (b .accounts k)) → (k : ℕ)
@@ -112,12 +117,13 @@ store-bytes : (b : Book) (c : StoreCall) → TypedStore c → ((k : ℕ) → Acc
 store-bytes b (add code first) t g k =
     accepted-bytes (settingsAdded (b .store) code first .refusal) code (joining first) (b .accounts) k (g k)
     (joining-bytes first (b .accounts k) (t .1) (t .2) (g k))
-store-bytes b (remove code) t g k = accepted-bytes (settingsRemoved (b .store) code .refusal) code leaving (b .accounts)
-    k (g k) (leaving-bytes (b .accounts k) (g k))
+store-bytes b (remove code) t g k =
+    accepted-bytes (settingsRemoved (b .store) code .refusal) code leaving (b .accounts) k (g k)
+    (leaving-bytes (b .accounts k) (g k))
 store-bytes b (read code) t g k = g k
 store-bytes b (change code version asked) t g k =
-    accepted-bytes (settingsChanged (b .store) code version asked .refusal) code (changing version asked) (b .accounts)
-    k (g k)
+    accepted-bytes (settingsChanged (b .store) code version asked .refusal) code (changing version asked)
+    (b .accounts) k (g k)
     (changing-bytes version asked (b .accounts k) (t .1, t .2, t .3) (g k))
 
 -- what a read shows are bytes, refused or not
@@ -125,8 +131,8 @@ shown-bytes : (code : ℕ) (a : Account) → AccountBytes a → SettingBytes (sh
 shown-bytes code a g = by-tests (eqb (codeRefusal code) accepted) (a .present)
   where
     by-tests : (t u : Bool)
-        → SettingBytes ((if not t then noneShown (codeRefusal code) else if u
-        then record { refusal = accepted; settings = settled a; version = length (a .changes) }
+        → SettingBytes ((if not t then noneShown (codeRefusal code)
+        else if u then record { refusal = accepted; settings = settled a; version = length (a .changes) }
         else noneShown notFound) .settings)
     by-tests true true = settled-bytes (a .first) (a .changes) (g .first-bytes) (g .asked-bytes)
     by-tests true false = (lit< tt, lit< tt, lit< tt)
@@ -161,8 +167,8 @@ abbrev had : Shared → ℕ → Current
 had st code = settingsRead (st .book .store) code
 
 had-bytes : (st : Shared) (code : ℕ) → Reached st → SettingBytes (had st code .settings)
-had-bytes st code r = rw (keeps-read (st .book) code (r .keeps))
-    (shown-bytes code (st .book .accounts code) (r .bytes code))
+had-bytes st code r =
+    rw (keeps-read (st .book) code (r .keeps)) (shown-bytes code (st .book .accounts code) (r .bytes code))
 
 -- a settings write is a write at the code, or makes no call at all
 write-cases : (st : Shared) (code : ℕ) (P : Access → Type 0)
@@ -203,14 +209,14 @@ onward-reached st (c ∷ h) t r = onward-reached (stepped st c) h (t .1) (step-r
 
 -- the bench after one more call is sound
 next-sound : (st : Shared) (c : Call) (r : Reached st) → Typed c → BenchSound (apply (after (r .calls)) c)
-next-sound st c r t = rw (after-snoc (r .calls) c) at
-    (bench-is-sound (r .calls ++ (c ∷ [])) (each-snoc Typed (r .calls) c (r .typed) t))
+next-sound st c r t =
+    rw (after-snoc (r .calls) c) at (bench-is-sound (r .calls ++ (c ∷ [])) (each-snoc Typed (r .calls) c (r .typed) t))
 
 call-spares : (st : Shared) (c : Call) (code : ℕ) (s : Settings) → Reached st → Typed c
     → SparesOnBench code (st .bench) c → Holds (st .bench) code s → Holds (apply (st .bench) c) code s
 call-spares st c code s r t =
-    subst (λ (b : Bench). SparesOnBench code b c → Holds b code s
-    → Holds (apply b c) code s) (r .bench-is) (λ spared holds.
+    subst (λ (b : Bench). SparesOnBench code b c → Holds b code s → Holds (apply b c) code s) (r .bench-is)
+    (λ spared holds.
     bench-spares (r .calls) (r .typed) code s holds c t spared (next-sound st c r t))
 
 step-spares : (st : Shared) (c : SharedCall) (code : ℕ) (s : Settings) → Reached st → TypedShared c → Spares code st c
@@ -235,8 +241,8 @@ write-holds : (st : Shared) (code : ℕ) → Reached st → Code64 code
     → Holds (settingsWritten (st .book .store) (st .bench) code .bench) code (had st code .settings)
 write-holds st code r fits =
     write-cases st code (λ a. a .refusal ≡ accepted → Holds (a .bench) code s) (λ n e. absurd (n e)) (λ e.
-    subst (λ (b : Bench). writeAt b code s .refusal ≡ accepted
-    → Holds (writeAt b code s .bench) code s) (r .bench-is) (λ done.
+    subst (λ (b : Bench). writeAt b code s .refusal ≡ accepted → Holds (writeAt b code s .bench) code s) (r .bench-is)
+    (λ done.
     written-holds (r .calls) (r .typed) code s (write-typed st code fits r) done
     (next-sound st (write code s) r (write-typed st code fits r))))
   where
