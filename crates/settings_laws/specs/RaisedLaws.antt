@@ -11,8 +11,7 @@ use Rattle.refusals.specs.Refusals.{accepted, staleVersion}
 use Rattle.device.specs.declared.Settings.{Settings}
 use Rattle.settings.specs.Calls.{settingsRead, settingsChanged}
 use Rattle.settings.specs.Runs.{StoreCall, change, Book, entered, book, afterCalls}
-use Rattle.settings.specs.RunsLaws.{neighbours, nothing-undone, stale-refused, change-reads}
-use Rattle.settings.specs.Written.{settingsWritten}
+use Rattle.settings.specs.RunsLaws.{neighbours, stale-refused, change-reads}
 use Rattle.settings.specs.declared.Alterations.{Alterations}
 use Rattle.settings.specs.declared.ChangeDone.{ChangeDone}
 use Rattle.settings.specs.declared.Current.{Current}
@@ -48,36 +47,38 @@ settings-equal s high low configuration e f g =
 
 -- ## The store
 
-module _ (code limit : ℕ) (late : Alterations) where
+module _ (code limit : ℕ) (late : Alterations) (more : List StoreCall) where
   abbrev seenIn : Book → Current
   seenIn b = settingsRead (b .store) code
 
   abbrev raisedIn : Book → ChangeDone
   raisedIn b = settingsChanged (b .store) code (seenIn b .version) (raising limit)
 
+  abbrev laterIn : Book → Book
+  laterIn b = fold entered (entered b (change code (seenIn b .version) (raising limit))) more
+
   -- the late change is refused, and the raised limit stands beside what was seen
   record Raised (b : Book) : Type 0 where
-    pub stale : settingsChanged (raisedIn b .store) code (seenIn b .version) late .refusal ≡ staleVersion
+    pub stale : settingsRead (laterIn b .store) code .refusal ≡ accepted
+        → settingsChanged (laterIn b .store) code (seenIn b .version) late .refusal ≡ staleVersion
     pub settings-are : settingsRead (raisedIn b .store) code .settings
         ≡ record { high = limit; low = seenIn b .settings .low; configuration = seenIn b .settings .configuration }
 
-  book-snoc : (h : List StoreCall) (c : StoreCall) → book (h ++ (c ∷ [])) ≡ entered (book h) c
+  book-later : (h : List StoreCall) (c : StoreCall) → book (h ++ (c ∷ more)) ≡ fold entered (entered (book h) c) more
   unfolding book fold
-  book-snoc h c = fold-append entered _ h (c ∷ [])
+  book-later h c = fold-append entered _ h (c ∷ more)
 
   store-raised : (h : List StoreCall) → raisedIn (book h) .refusal ≡ accepted → Raised (book h)
   store-raised h done =
       let seen = seenIn (book h) in
       let reads = change-reads (afterCalls h) code (seen .version) (raising limit) done in
-      let now = rw (append-nil h) at (nothing-undone h [] code (raising limit) (reads .0)) in
       let parts = rw (append-nil h) at (neighbours h [] code (raising limit) (reads .0)) in
-      let late-is =
-      subst (λ (b : Book). settingsRead (b .store) code .refusal ≡ accepted
-      → settingsChanged (b .store) code (seen .version) late .refusal ≡ staleVersion)
-      (book-snoc h (change code (seen .version) (raising limit)))
-      (stale-refused h [] code (seen .version) (raising limit) late done) in
       record {
-        stale = late-is (ap (λ (c : Current). c .refusal) (now done));
+        stale =
+            subst (λ (b : Book). settingsRead (b .store) code .refusal ≡ accepted
+            → settingsChanged (b .store) code (seen .version) late .refusal ≡ staleVersion)
+            (book-later h (change code (seen .version) (raising limit)))
+            (stale-refused h more code (seen .version) (raising limit) late done);
         settings-are =
             settings-equal (settingsRead (raisedIn (book h) .store) code .settings) limit (seen .settings .low)
             (seen .settings .configuration) (parts done .0) (parts done .1) (parts done .2);
@@ -90,17 +91,19 @@ unfolding onward fold
 shared-snoc h c = fold-append stepped _ h (c ∷ [])
 
 pub raised-limit : RaisedLimit
-unfolding onward fold
-raised-limit h code limit late t fits byte done written =
+raised-limit h more code limit late t u fits byte done accepts spared =
     let seen = settingsRead (shared h .book .store) code in
     let raise = onStore (change code (seen .version) (raising limit)) in
+    let written = stepped (stepped (shared h) raise) (settingsWrite code) in
+    let calls = storeCalls more in
     let story =
-    subst (λ (b : Book). raisedIn code limit late b .refusal ≡ accepted → Raised code limit late b)
-    (sym (book-shared h)) (store-raised code limit late (storeCalls h)) done in
+    subst (λ (b : Book). raisedIn code limit late calls b .refusal ≡ accepted → Raised code limit late calls b)
+    (sym (book-shared h)) (store-raised code limit late calls (storeCalls h)) done in
     let wire =
     rw (shared-snoc h raise) at
-    (to-the-wire (h ++ (raise ∷ [])) [] code (each-snoc TypedShared h raise t (fits, byte, tt, tt)) fits tt) in (
-      story .stale,
-      subst (Holds (settingsWritten (raisedIn code limit late (shared h .book) .store)
-          (shared h .bench) code .bench) code) (story .settings-are) (wire written tt),
-    )
+    (to-the-wire (h ++ (raise ∷ [])) more code (each-snoc TypedShared h raise t (fits, byte, tt, tt)) fits u) in
+    let stale =
+    subst (λ (b : Book). settingsRead (b .store) code .refusal ≡ accepted
+    → settingsChanged (b .store) code (seen .version) late .refusal ≡ staleVersion)
+    (sym (book-onward written more)) (story .stale) in
+    (stale, subst (Holds (onward written more .bench) code) (story .settings-are) (wire accepts spared))

@@ -14,8 +14,9 @@
 --     ToTheWire          after an accepted settings write the device holds what the store had, whatever calls follow,
 --                        until one that does not spare it
 --     RaisedLimit        the story of two callers: both have read a code; one raises its high limit and writes it to
---                        the device; the other, who has not seen that, is refused with 18 whatever it asks, and the
---                        device holds the raised limit beside the low limit and the configuration that both had read
+--                        the device; the other, who has not seen that, is refused with 18 whatever it asks, however
+--                        late, as long as the store has the code; and the device holds the raised limit beside the low
+--                        limit and the configuration that both had read
 use Prim.Native.Nat.{ℕ}
 use mathlib.Core.Bool.{Bool}
 use mathlib.Core.List.{List, [], _∷_}
@@ -162,17 +163,20 @@ ToTheWire = (h more : List SharedCall) (code : ℕ) → Each TypedShared h → C
 abbrev pub raising : ℕ → Alterations
 raising limit = record { high = To limit; low = Leave; configuration = Leave }
 
+-- `more` are any calls between, by anybody, that spare the device
 abbrev pub RaisedLimit : Type 0
-RaisedLimit = (h : List SharedCall) (code limit : ℕ) (late : Alterations)
-    → Each TypedShared h → Code64 code → Byte limit
+RaisedLimit = (h more : List SharedCall) (code limit : ℕ) (late : Alterations)
+    → Each TypedShared h → Each TypedShared more → Code64 code → Byte limit
     → let before = shared h in
     let seen = settingsRead (before .book .store) code in
     let raised = stepped before (onStore (change code (seen .version) (raising limit))) in
     let written = stepped raised (settingsWrite code) in
+    let later = onward written more in
     settingsChanged (before .book .store) code (seen .version) (raising limit) .refusal ≡ accepted
-    → settingsWritten (raised .book .store) (raised .bench) code .refusal ≡ accepted
-    → (settingsChanged (written .book .store) code (seen .version) late .refusal ≡ staleVersion)
-    × Holds (stepped written (onStore (change code (seen .version) late)) .bench) code (record {
+    → settingsWritten (raised .book .store) (raised .bench) code .refusal ≡ accepted → Spared code written more
+    → (settingsRead (later .book .store) code .refusal ≡ accepted
+    → settingsChanged (later .book .store) code (seen .version) late .refusal ≡ staleVersion)
+    × Holds (stepped later (onStore (change code (seen .version) late)) .bench) code (record {
       high = limit;
       low = seen .settings .low;
       configuration = seen .settings .configuration;

@@ -28,6 +28,7 @@ use Rattle.master_rules.specs.declared.Access.{Access}
 use Rattle.master_rules.specs.Access.{refusedAt, writeAt}
 use Rattle.history_laws.specs.Corollaries.{bench-is-sound}
 use Rattle.history_laws.specs.History.{Call, write, Code64, Byte, Typed, apply, step, ledger, after}
+use Rattle.access_laws.specs.Taken.{SettingBytes}
 use Rattle.settings.specs.Calls.{keptForm, settingsAdded, settingsRemoved, settingsRead, altered, settingsAltered}
 use Rattle.settings.specs.Calls.{settingsChanged}
 use Rattle.settings.specs.KeptLaws.{Keeps, call-keeps, book-keeps, keeps-read}
@@ -45,9 +46,6 @@ use Rattle.settings_laws.specs.Shared.{TypedShared, Shared, stepped, onw
 use Rattle.settings_laws.specs.Shared.{Spared, ToTheWire}
 
 -- ## What a store has for a code are bytes
-
-abbrev SettingBytes : Settings → Type 0
-SettingBytes s = Byte (s .high) × Byte (s .low) × Byte (s .configuration)
 
 abbrev TypedAsked : Alterations → Type 0
 TypedAsked asked = TypedAlter (asked .high) × TypedAlter (asked .low) × TypedAlter (asked .configuration)
