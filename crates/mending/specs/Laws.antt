@@ -21,10 +21,10 @@ use Rattle.pieces.specs.Pieces.{sayAll, said, whole, rest, saidWhole, carried, 
 use Rattle.pieces.specs.Cuts.{parts, rest-plain, alone-open}
 use Rattle.pieces.specs.Walk.{Told, Running, running-start, here-room, here-within, running-more, running-done}
 use Rattle.pieces.specs.Walk.{running-open}
-use Rattle.mending.specs.Mending.{mendedBytes, mendedText, reportByte}
+use Rattle.mending.specs.Mending.{mendedBytes, lineMended, mendedText, reportByte}
 use Rattle.mending.specs.Claims.{mostHeldOfMending, reportSaid}
 use Rattle.mending.specs.ClaimsLaws.{mended-short, report-short, reports-said}
-use Rattle.mending.specs.LineLaws.{open-dropped}
+use Rattle.mending.specs.LineLaws.{open-dropped, report-told}
 use Rattle.mending.specs.declared.texts.LinesMended.{LinesMended}
 use Rattle.mending.specs.declared.texts.PieceMended.{PieceMended}
 use Rattle.mending.specs.declared.texts.TextMended.{TextMended}
@@ -65,7 +65,20 @@ notes-length (l ∷ ls) = let i = notes-length ls in omega arith
 module _ (s out₀ report₀ : List ℕ) (room : length s ≤ length out₀) (places : length (linesOf s) ≤ length report₀)
     (at written lines : ℕ) (out report : List ℕ)
     (w : MendingWalk s out₀ report₀ at written lines out report) where
-  -- the line that ends at e, with its feed
+  -- the line that ends at e, with its feed, has room for what is left of it, so that its report is told
+  walking-room : (e : ℕ) → at < length s → at + feedAt (drop at s) ≡ e → e < length s
+      → written + length (mendedBytes record { chars = take (e - at) (drop at s); fed = true }) ≤ length out
+  walking-room e before ends fed = here-room mendedBytes 1 mended-short s out₀ at written out (w .text) e before ends
+      fed (omega arith)
+
+  pub walking-told : (e : ℕ) → at < length s → at + feedAt (drop at s) ≡ e → e < length s →
+      let l : Line = record { chars = take (e - at) (drop at s); fed = true } in
+      lineMended l out written .report ≡ reportByte l
+  walking-told e before ends fed = report-told record {
+    chars = take (e - at) (drop at s);
+    fed = true;
+  } out written (walking-room e before ends fed)
+
   pub walking-more : (e : ℕ) → at < length s → at + feedAt (drop at s) ≡ e → e < length s →
       let l : Line = record { chars = take (e - at) (drop at s); fed = true } in
       (x : Written) (next : List ℕ) → x ≡ layAnswer out written (mendedBytes l)
@@ -76,8 +89,7 @@ module _ (s out₀ report₀ : List ℕ) (room : length s ≤ length out₀) (pl
   walking-more e before ends fed x next p q y noted r t =
       let all-noted : length (saidWhole reportSaid s) ≤ length report₀ = let a = notes-length (whole (linesOf s)) in
       let b = whole-fewer (linesOf s) in omega arith in
-      let in-text = here-room mendedBytes 1 mended-short s out₀ at written out (w .text) e before ends fed
-      (omega arith) in
+      let in-text = walking-room e before ends fed in
       let in-report = here-within reportSaid 1 report-short s report₀ at lines report (w .noted) e before ends fed
       all-noted in
       record {

@@ -13,11 +13,12 @@ use Rattle.refusals.specs.Refusals.{accepted, notHex, malformed}
 use Rattle.text.specs.Digits.{spells}
 use Rattle.text.specs.Lines.{Line, lineFeed, linesBytes}
 use Rattle.text.specs.Laying.{layAnswer, layLeaves}
+use Rattle.text.specs.LayingLaws.{lay-fits}
 use Rattle.frame.specs.ReadLine.{LineContent, carries, noFrame, readLine, longestLine, found, lineAnswerOf}
 use Rattle.frame.specs.ReadLineLaws.{read-accepted, refused-number}
 use Rattle.mending.specs.Mending.{mendedChars, alteredBy, contentRefusal, lineRefusal, mendedLine, longestMended}
-use Rattle.mending.specs.Mending.{Fate, kept, mended, dropped, fateOf, fateByte, left, linesLeft, mendedBytes}
-use Rattle.mending.specs.Mending.{lineMended}
+use Rattle.mending.specs.Mending.{Fate, kept, mended, dropped, fateOf, fateByte, reportByte, left, linesLeft}
+use Rattle.mending.specs.Mending.{mendedBytes, reported, lineMended}
 use Rattle.mending.specs.StepLaws.{digits-unaltered, unaltered-same}
 
 -- ## A line that reads
@@ -104,6 +105,18 @@ module _ (l : Line) where
 
 -- ## The ends of a call on a line
 
+-- where what is left of a line fits, its report is told; of a line without a feed nothing is left
+pub report-told : (l : Line) (out : List ℕ) (at : ℕ) → at + length (mendedBytes l) ≤ length out
+    → lineMended l out at .report ≡ reportByte l
+report-told l out at room = rw (lay-fits out at (mendedBytes l) room .0)
+
+pub open-told : (l : Line) (out : List ℕ) (at : ℕ) → l .fed ≡ false → at ≤ length out
+    → lineMended l out at .report ≡ reportByte l
+unfolding linesBytes
+open-told l out at e room =
+    let none = ap (λ (ls : List Line). length (linesBytes ls)) (open-dropped l e) in
+    report-told l out at (omega arith)
+
 -- the reader's refusal of a line that is found
 pub answer-refusal : (r : LineContent) (next : ℕ) → lineAnswerOf (found r next) .refusal ≡ contentRefusal r
 answer-refusal (carries f) next = refl
@@ -111,12 +124,12 @@ answer-refusal (noFrame n) next = refl
 
 module _ (l : Line) (out : List ℕ) (at : ℕ) where
   by-fate : (o : Fate) → fateOf l ≡ o → (text : List ℕ) → text ≡ linesBytes (left l o)
-      → (record { report = fateByte o; written = layAnswer out at text } ≡ lineMended l out at)
+      → (reported (fateByte o) (layAnswer out at text) ≡ lineMended l out at)
       × (layLeaves out at text ≡ layLeaves out at (mendedBytes l))
   by-fate o e text t = rw (e, t) (refl, refl)
 
   pub line-dropped : (n : ℕ) → fateOf l ≡ dropped n
-      → (record { report = 32 + n; written = layAnswer out at [] } ≡ lineMended l out at)
+      → (reported (32 + n) (layAnswer out at []) ≡ lineMended l out at)
       × (layLeaves out at [] ≡ layLeaves out at (mendedBytes l))
   unfolding linesBytes
   line-dropped n e = by-fate (dropped n) e [] refl
@@ -129,14 +142,13 @@ module _ (l : Line) (out : List ℕ) (at : ℕ) where
     one-line cs = rw (fed, append-nil (cs ++ (lineFeed ∷ [])))
 
     pub line-written : let text = mendedChars (l .chars) ++ (lineFeed ∷ []) in let by = alteredBy (l .chars) in
-        (record { report = if eqb by 0 then 0 else 16 + by; written = layAnswer out at text } ≡ lineMended l out at)
+        (reported (if eqb by 0 then 0 else 16 + by) (layAnswer out at text) ≡ lineMended l out at)
         × (layLeaves out at text ≡ layLeaves out at (mendedBytes l))
     line-written = by-test (eqb (alteredBy (l .chars)) 0) refl
       where
         by-test : (t : Bool) → eqb (alteredBy (l .chars)) 0 ≡ t → let text =
             mendedChars (l .chars) ++ (lineFeed ∷ []) in
-            (record { report = if t then 0 else 16 + alteredBy (l .chars); written = layAnswer out at text }
-            ≡ lineMended l out at)
+            (reported (if t then 0 else 16 + alteredBy (l .chars)) (layAnswer out at text) ≡ lineMended l out at)
             × (layLeaves out at text ≡ layLeaves out at (mendedBytes l))
         by-test true e =
             let o = fate-same l short fed reads (eqb-true (alteredBy (l .chars)) 0 e) in

@@ -11,6 +11,7 @@
 --     reportByte l             the report on a line: 0 kept, 16 and more mended, 32 and more dropped
 --     linesLeft l              the line that is written: one or none
 --     mendedBytes l            its bytes
+--     reported n w             a report beside what was written, and zero beside a refusal
 --     lineMended l out at      what a call on a line answers
 --     mendedText s, reports s  what is written for a whole text, and the report of each of its lines
 use Prim.Native.Nat.{ℕ, _+_, _-_}
@@ -24,6 +25,7 @@ use Rattle.basic_laws.specs.Same.{same}
 use Rattle.refusals.specs.Refusals.{accepted, notHex, malformed}
 use Rattle.text.specs.Lines.{Line, linesOf, linesBytes, carriageReturn, space}
 use Rattle.text.specs.Laying.{layAnswer}
+use Rattle.text.specs.declared.laying.Written.{Written}
 use Rattle.pieces.specs.Pieces.{said}
 use Rattle.frame.specs.ReadLine.{LineContent, carries, noFrame, readLine}
 use Rattle.mending.specs.declared.LineMended.{LineMended}
@@ -108,9 +110,12 @@ linesLeft l = left l (fateOf l)
 abbrev pub mendedBytes : Line → List ℕ
 mendedBytes l = linesBytes (linesLeft l)
 
+abbrev pub reported : ℕ → Written → LineMended
+reported n w = record { report = if eqb (w .refusal) accepted then n else 0; written = w }
+
 -- what a call on a line answers: the report, and where its bytes end, laid at a place of a buffer
 abbrev pub lineMended : Line → List ℕ → ℕ → LineMended
-lineMended l out at = record { report = reportByte l; written = layAnswer out at (mendedBytes l) }
+lineMended l out at = reported (reportByte l) (layAnswer out at (mendedBytes l))
 
 -- ## A whole text
 

@@ -12,7 +12,8 @@ ghost use lib.ListN.{length};
 ghost use Rattle.basic_laws.specs.Choice.{if_then_else_};
 ghost use Rattle.basic_laws.specs.Laid.{laid};
 ghost use Rattle.text.specs.Laying.{layAnswer, layLeaves};
-ghost use Rattle.mending.specs.Mending.{raised, unreturned, unspaced, longestMended, lineMended, mendedBytes};
+ghost use Rattle.mending.specs.Mending.{raised, unreturned, unspaced, longestMended, reported, lineMended};
+ghost use Rattle.mending.specs.Mending.{mendedBytes};
 ghost use Rattle.mending.specs.Repair.{Repaired};
 use frame::frame_lines;
 use text::CARRIAGE_RETURN;
@@ -33,7 +34,7 @@ const DROPPED: u8 = 32;
 
 // What became of a line.
 pub struct LineMended {
-    // the report on it
+    // the report on it; 0 where there is no room
     pub report: u8,
     // where what is written of it ends, or that there is no room
     pub written: Written,
@@ -126,16 +127,24 @@ fn mend_chars(line: &[u8]) -> Repair
     }
 }
 
+// A report beside what was written, and none beside a refusal.
+fn reported(report: u8, written: Written) -> LineMended
+    ensures { λ r. ⌜ r ≡ reported report written ⌝ }
+{
+    if written.refusal != refusals::ACCEPTED {
+        return LineMended { report: 0, written };
+    }
+    LineMended { report, written }
+}
+
 // A line that is dropped: nothing of it is written.
 fn drop_line(out: &mut [u8], at: usize, line: &[u8], refusal: u8) -> LineMended
     requires { ⌜ refusal < 4 ⌝ }
-    ensures answer { λ r. ⌜ r ≡ record { report = 32 + refusal; written = layAnswer (now (out .entry)) at [] } ⌝ }
+    ensures answer { λ r. ⌜ r ≡ reported (32 + refusal) (layAnswer (now (out .entry)) at []) ⌝ }
     ensures written { λ r. ⌜ now (out .exit) ≡ layLeaves (now (out .entry)) at [] ⌝ }
 {
-    LineMended {
-        report: DROPPED + refusal,
-        written: laying::lay(out, at, &line[0..0]),
-    }
+    let written = laying::lay(out, at, &line[0..0]);
+    reported(DROPPED + refusal, written)
 }
 
 // The report on a line that is written, by which steps altered it.
@@ -162,10 +171,9 @@ fn mend_fed(out: &mut [u8], at: usize, line: &[u8]) -> LineMended
     }
     chars[end] = LINE_FEED;
     let next = end + 1;
-    LineMended {
-        report: report_written(repair.altered),
-        written: laying::lay(out, at, &chars[..next]),
-    }
+    let report = report_written(repair.altered);
+    let written = laying::lay(out, at, &chars[..next]);
+    reported(report, written)
 }
 
 // A line, by its characters before the feed or the end and whether there is a feed: what is left of it

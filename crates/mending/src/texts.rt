@@ -130,6 +130,7 @@ fn refuse_text() -> TextMended
 
 // A last line without a feed, and the report on it.
 fn mend_last(line: &[u8], out: &mut [u8], written: usize, report: &mut [u8], lines: usize)
+    requires { ⌜ written ≤ length (now out) ⌝ }
     ensures written { λ r. ⌜ now (out .exit) ≡ layLeaves (now (out .entry)) written
         (mendedBytes record { chars = now (line .entry); fed = false }) ⌝ }
     ensures reported { λ r. ⌜ now (report .exit)

@@ -15,7 +15,7 @@ use Rattle.text.specs.declared.laying.Written.{Written}
 use Rattle.text.specs.Laying.{layAnswer, layLeaves}
 use Rattle.frame.specs.declared.frame_lines.LineRead.{LineRead}
 use Rattle.frame.specs.ReadLine.{readLine}
-use Rattle.mending.specs.Mending.{mendedChars, alteredBy, lineRefusal, mendedLine}
+use Rattle.mending.specs.Mending.{mendedChars, alteredBy, lineRefusal, mendedLine, reported}
 use Rattle.mending.specs.LineLaws.{answer-refusal, refusal-small, fate-dropped, line-dropped, line-written}
 use borrow.Author.Needs.{needs}
 use Rattle.mending.proofs.mend_fed.Statement.{statement}
@@ -112,12 +112,15 @@ slice-aggregate-lay c =
 lay-requires : tie.Need-lay-requires
 lay-requires c κs = search needs
 
+reported-requires : tie.Need-reported-requires
+reported-requires c κs = search needs
+
 same-length-2 : tie.Need-same-length-2
 same-length-2 c = search needs
 
 returns-2 : tie.Need-returns-2
 returns-2 c =
-    let l = c .before .before in
+    let l = c .before .before .before in
     let w = l .before .before .before in
     let r = w .before .before .before in
     let m = r .before .before .before in
@@ -131,12 +134,9 @@ returns-2 c =
     w .report-written .ensures ∙ ap (λ (n : ℕ). if eqb n 0 then 0 else 16 + n) by in
     let written : l .lay .result ≡ layAnswer out at chars = l .lay .ensures .0 ∙ ap (layAnswer out at) (text m) in
     let e = line-written (given m) out at (a .pre) refl (sym (refusal r) ∙ w .before .if1 .left) in (
-      ap (λ (n : ℕ). record { report = n; written = l .lay .result }) report
-          ∙ ap (λ (v : Written). record {
-            report = if eqb (alteredBy (now (a .args .line))) 0 then 0
-                else 16 + alteredBy (now (a .args .line));
-            written = v;
-          }) written ∙ e .0,
+      c .reported .ensures ∙ ap (λ (n : ℕ). reported n (l .lay .result)) report
+          ∙ ap (reported (if eqb (alteredBy (now (a .args .line))) 0 then 0 else 16 + alteredBy (now (a .args .line))))
+          written ∙ e .0,
       l .lay .ensures .1 ∙ ap (layLeaves out at) (text m) ∙ e .1,
     )
 
@@ -157,5 +157,6 @@ mend-fed-spec =
     array-share-prefix-chars-2
     slice-aggregate-lay
     lay-requires
+    reported-requires
     same-length-2
     returns-2)

@@ -2,8 +2,10 @@
 use Prim.Native.Nat.{ℕ}
 use denote.Ref.{now}
 use mathlib.Core.List.{[], _∷_}
-use mathlib.Core.Path.{ap, _∙_}
+use mathlib.Core.Bool.{false}
+use mathlib.Core.Path.{refl, ap, _∙_}
 use Rattle.text.specs.Laying.{layLeaves}
+use Rattle.mending.specs.LineLaws.{open-told}
 use Rattle.mending.specs.declared.LineMended.{LineMended}
 use borrow.Author.Needs.{needs}
 use Rattle.mending.proofs.texts.mend_last.Statement.{statement}
@@ -28,8 +30,10 @@ returns : tie.Need-returns
 returns c =
     let y = c .before .before in
     let x = y .before .before .before .before .before in
-    let a = x .before .before .before .before .before .args in
-    let report = ap (λ (m : LineMended). m .report) (x .mend-line .ensures .0) in (
+    let start = x .before .before .before .before .before in
+    let a = start .args in
+    let told = open-told record { chars = now (a .line); fed = false } (now (a .out)) (a .written) refl (start .pre) in
+    let report = ap (λ (m : LineMended). m .report) (x .mend-line .ensures .0) ∙ told in (
       x .mend-line .ensures .1,
       y .lay .ensures .1
           ∙ ap (λ (b : ℕ). layLeaves (now (a .report)) (a .lines) (b ∷ [])) report,

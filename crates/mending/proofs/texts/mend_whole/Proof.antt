@@ -9,7 +9,7 @@ use lib.ListN.{length}
 use borrow.Author.Needs.{needs}
 use Rattle.text.specs.Laying.{layAnswer, layLeaves}
 use Rattle.mending.specs.declared.LineMended.{LineMended}
-use Rattle.mending.specs.Laws.{MendingWalk, walking-start, walking-more, walking-done, walking-open}
+use Rattle.mending.specs.Laws.{MendingWalk, walking-start, walking-told, walking-more, walking-done, walking-open}
 use Rattle.mending.proofs.texts.mend_whole.Statement.{statement}
 use Rattle.mending.proofs.texts.mend_whole.Tie as tie
 
@@ -78,9 +78,13 @@ loop-again c =
     let l = d .before .before in
     let a = l .before .before .before .before in
     let s = now (a .args .s) in
-    let report = ap (λ (m : LineMended). m .report) (x .mend-line .ensures .0) in
-    walking-more s _ _ (a .pre .0) (a .pre .1) _ _ _ _ _ (l .loop .inv) (d .line-end .result)
-    (d .before .loop-test .taken) (sym (d .line-end .ensures)) (x .before .before .before .if1 .left)
+    let t = d .before .loop-test .taken in
+    let f = x .before .before .before .if1 .left in
+    let told = walking-told s _ _ (a .pre .0) (a .pre .1) _ _ _ _ _ (l .loop .inv) (d .line-end .result) t
+    (sym (d .line-end .ensures)) f in
+    let report = ap (λ (m : LineMended). m .report) (x .mend-line .ensures .0) ∙ told in
+    walking-more s _ _ (a .pre .0) (a .pre .1) _ _ _ _ _ (l .loop .inv) (d .line-end .result) t
+    (sym (d .line-end .ensures)) f
     (x .mend-line .result .written) (x .mend-line .last .0)
     (ap (λ (m : LineMended). m .written) (x .mend-line .ensures .0)) (x .mend-line .ensures .1)
     (y .lay .result) (y .lay .last .0)
