@@ -12,6 +12,7 @@ ghost use Rattle.scratchpad.specs.Judgement.{crcRight, allZeros, kindRig
 use crate::fine::FineDegrees;
 use family::Properties;
 use family::Unit;
+use temperature::Converted;
 use temperature::Degrees;
 use temperature::Reading;
 use temperature::Sixteenths;
@@ -140,29 +141,31 @@ pub fn judge(family: u8, pad: NineBytes) -> Judged
     }
 }
 
-// A reading in sixteenths.
-pub fn sixteenths_of(reading: Reading) -> Sixteenths
+// A reading in sixteenths; half degrees out of range are refused.
+pub fn sixteenths_of(reading: Reading) -> Converted
     ensures answer { λ r. ⌜ r ≡ sixteenthsOf reading ⌝ }
 {
     match reading {
-        Reading::InSixteenths(c) => c,
-        Reading::InHalves(h) => {
-            let converted = temperature::to_sixteenths(h);
-            converted.count
-        }
+        Reading::InSixteenths(count) => Converted {
+            refusal: refusals::ACCEPTED,
+            count,
+        },
+        Reading::InHalves(h) => temperature::to_sixteenths(h),
     }
 }
 
 // The temperature of a scratchpad in degrees, with nothing lost.
 pub fn degrees_in(family: u8, pad: NineBytes) -> DegreesRead
     ensures answer { λ r. ⌜ r ≡ degreesIn family pad ⌝ }
-    ensures exact { λ r. ⌜ IsSixteenths (r .degrees .0) (sixteenthsOf (judged family pad .reading) .0) ⌝ }
+    ensures exact { λ r. ⌜ IsSixteenths (r .degrees .0) (sixteenthsOf (judged family pad .reading) .count .0) ⌝ }
 {
     let judged = judge(family, pad);
     let reading = judged.reading;
+    let converted = sixteenths_of(reading);
+    let count = converted.count;
     DegreesRead {
         refusal: judged.refusal,
-        degrees: temperature::to_degrees(sixteenths_of(reading)),
+        degrees: temperature::to_degrees(count),
     }
 }
 

@@ -1,5 +1,6 @@
 -- The judgement's own reading, in degrees.
 use mathlib.Core.Path.{ap, _∙_}
+use Rattle.temperature.specs.declared.Converted.{Converted}
 use Rattle.scratchpad.specs.InDegrees.{sixteenthsOf}
 use Rattle.scratchpad.specs.declared.Judged.{Judged}
 use borrow.Author.Needs.{needs}
@@ -18,8 +19,9 @@ to-degrees-requires c κs = search needs
 returns : tie.Need-returns
 returns c =
     let degrees = c .to-degrees .ensures in
-    let judged = c .before .before .judge .ensures in
-    let count = c .before .sixteenths-of .ensures ∙ ap (λ (j : Judged). sixteenthsOf (j .reading)) judged in
+    let judged = c .before .before .before .judge .ensures in
+    let count = ap (λ (r : Converted). r .count) (c .before .before .sixteenths-of .ensures
+    ∙ ap (λ (j : Judged). sixteenthsOf (j .reading)) judged) in
     (rw (degrees .0, count, judged), rw (← count) (degrees .1))
 
 pub degrees-in-spec : {M : Type 1} → statement M

@@ -1,6 +1,4 @@
 -- Unit by unit.
-use mathlib.Core.Path.{ap}
-use Rattle.temperature.specs.declared.Converted.{Converted}
 use borrow.Author.Needs.{needs}
 use Rattle.scratchpad.proofs.sixteenths_of.Statement.{statement}
 use Rattle.scratchpad.proofs.sixteenths_of.Tie as tie
@@ -15,11 +13,10 @@ to-sixteenths-requires : tie.Need-to-sixteenths-requires
 to-sixteenths-requires c κs = search needs
 
 returns : tie.Need-returns
-returns c = search needs
+returns c = rw (c .before .reading .given .1)
 
 returns-2 : tie.Need-returns-2
-returns-2 c = rw (c .before .before .before .reading2 .given .1)
-    (ap (λ (r : Converted). r .count) (c .before .to-sixteenths .ensures))
+returns-2 c = rw (c .before .before .reading2 .given .1) (c .to-sixteenths .ensures)
 
 pub sixteenths-of-spec : {M : Type 1} → statement M
 sixteenths-of-spec =
