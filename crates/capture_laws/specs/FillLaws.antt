@@ -2,10 +2,12 @@
 -- characters u of an unfinished line, a piece s makes what the lines of u and s come to. Its frames are laid one behind
 -- the other, or, where the buffer has no room for all of them, refusal 1 comes.
 --     holding w u n          the reader at a line w, with unfinished characters u and n bytes written
---     Came n out c x         reader and buffer hold the course c behind n bytes, where there is room; else refusal 1
---                            has come
+--     Shortened n out c x    refusal 1 has come, and reader and buffer hold the frames of the course that fit behind n
+--                            bytes
+--     Came n out c x         reader and buffer hold the course c behind n bytes, where there is room; else they are so
+--                            shortened
 --     piece-came             the theorem
-use Prim.Native.Nat.{ℕ, _+_, _<_, _≤_}
+use Prim.Native.Nat.{ℕ, _+_, _-_, _<_, _≤_}
 use mathlib.Core.Path.{_≡_, refl, sym, ap, _∙_}
 use mathlib.Core.Bool.{Bool, true, false, not}
 use mathlib.Core.List.{List, [], _∷_, _++_, append-assoc, append-nil}
@@ -40,6 +42,8 @@ use Rattle.captures.specs.EdgesLaws.{closing-done, feed-closes, feed-moves, ref
 use Rattle.capture_laws.specs.Capture.{lineStep, EdgeCourse, courseStopped, closing, courseOnward, courseOf}
 use Rattle.capture_laws.specs.Capture.{FrameSound}
 use Rattle.capture_laws.specs.Claims.{Filled}
+use Rattle.capture_laws.specs.Fitting.{fitting}
+use Rattle.capture_laws.specs.FittingLaws.{fitting-more, fitting-none}
 use Rattle.capture_laws.specs.StepLaws.{line-fair}
 
 one-zero : noRoom ≡ accepted → ⊥
@@ -153,10 +157,14 @@ module _ (w : Wire) (u : List ℕ) (n : ℕ) (out : List ℕ) where
 
 -- ## A piece
 
--- they do, where there is room for all frames; else refusal 1 has come
+pub record Shortened (n : ℕ) (out : List ℕ) (c : EdgeCourse) (x : Reading) : Type 0 where
+  pub refusal : x .reader .refusal ≡ noRoom
+  pub written : x .reader .written ≡ n + length (writeAll (fitting (length out - n) (c .frames)))
+  pub laid-out : x .out ≡ laid out n (writeAll (fitting (length out - n) (c .frames)))
+
 pub data Came (n : ℕ) (out : List ℕ) (c : EdgeCourse) (x : Reading) : Type 0 where
   fits : n + length (writeAll (c .frames)) ≤ length out → Filled n out c x → Came n out c x
-  short : length out < n + length (writeAll (c .frames)) → x .reader .refusal ≡ noRoom → Came n out c x
+  short : length out < n + length (writeAll (c .frames)) → Shortened n out c x → Came n out c x
 
 -- nothing is closed
 quiet-came : (n : ℕ) (out : List ℕ) (w : Wire) (m : ℕ) (cs : List ℕ) (r : Reader) → n ≤ length out → r .refusal ≡ m
@@ -183,9 +191,20 @@ closing-came n out f c x room (fits h k) =
       laid-out = k .laid-out ∙ laid-more out n (fedLine f) (writeAll (c .frames)) room;
     }
 closing-came n out f c x room (short h e) =
-    let size = laid-length out n (fedLine f) room in
-    let sum = length-append (fedLine f) (writeAll (c .frames)) in
-    short (omega arith) e
+    let line = fedLine f in
+    let size = laid-length out n line room in
+    let sum = length-append line (writeAll (c .frames)) in
+    let here : length line ≤ length out - n = omega arith in
+    let left : length out - n - length line ≡ length (laid out n line) - (n + length line) = omega arith in
+    let rest = fitting (length (laid out n line) - (n + length line)) (c .frames) in
+    let front : fitting (length out - n) (f ∷ c .frames) ≡ f ∷ rest =
+    fitting-more (length out - n) f (c .frames) here ∙ ap (λ (k : ℕ). f ∷ fitting k (c .frames)) left in
+    let more = length-append line (writeAll rest) in
+    short (omega arith) record {
+      refusal = e .refusal;
+      written = rw front (e .written ∙ omega arith);
+      laid-out = rw front (e .laid-out ∙ laid-more out n line (writeAll rest) room);
+    }
 
 pub plain-course : (w : Wire) (u : List ℕ) → all notFeed u ≡ true → courseOf w (linesOf u) ≡ courseStopped w accepted u
 unfolding courseOf linesOf
@@ -239,8 +258,12 @@ module _ (s : List ℕ) (behind : (w : Wire) (n : ℕ) (out : List ℕ) → Fram
   short-came h e k =
       let r = refusedWith (holding w u n) noRoom in
       let sum = length-append frame-line (writeAll (later .frames)) in
+      let none : fitting (length out - n) (w .frame ∷ later .frames) ≡ [] =
+      fitting-none (length out - n) (w .frame) (later .frames) (omega arith) in
+      let still : n ≡ n + 0 = omega arith in
       came-as (ap (λ (x : Reading). fold onByte x s) (turn-short w u n out h e sound k)
-      ∙ refused-stays record { reader = r; out = out } one-zero s) (short (omega arith) refl)
+      ∙ refused-stays record { reader = r; out = out } one-zero s)
+      (short (omega arith) record { refusal = refl; written = rw none still; laid-out = rw none (laid-none out n) })
 
   feed-came : Came n out (courseOnward w line-of later) fed-all
   feed-came = by-refusal (eqb (line-of .refusal) accepted) refl

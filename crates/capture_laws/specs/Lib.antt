@@ -1,6 +1,8 @@
 pub mod Capture
 pub mod Claims
 pub mod StepLaws
+pub mod Fitting
+pub mod FittingLaws
 pub mod FillLaws
 pub mod CutLaws
 pub mod EndLaws
@@ -8,6 +10,7 @@ pub mod Taken
 pub mod Room
 pub mod RoomLaws
 pub mod Theorem
+pub mod RoomTheorem
 pub mod Cases
 pub mod Transcript
 pub mod TranscriptLaws

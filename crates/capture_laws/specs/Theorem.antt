@@ -57,7 +57,7 @@ any-cuts x (s ∷ ss) = any-cuts (fedBytes (x .reader) (x .out) s) ss ∙ sym (f
 sound-start : FrameSound (untouched .frame)
 sound-start = blank-sound false
 
-capture-came : (s out : List ℕ) → Came 0 out (capture s) (fedBytes freshReader out s)
+pub capture-came : (s out : List ℕ) → Came 0 out (capture s) (fedBytes freshReader out s)
 unfolding fold all
 capture-came s out = piece-came s [] untouched 0 out refl sound-start (omega arith)
 
@@ -76,7 +76,7 @@ capture-short s out none = by-case (capture-came s out)
   where
     by-case : Came 0 out (capture s) (fedBytes freshReader out s) → feedAnswer freshReader out s .refusal ≡ noRoom
     by-case (fits h k) = absurd (omega arith)
-    by-case (short h e) = e
+    by-case (short h e) = e .refusal
 
 -- what a piece left in its buffer
 front-of : (out : List ℕ) (c : EdgeCourse) (x : Reading) → Filled 0 out c x
@@ -180,7 +180,7 @@ module _ (p : Piece) (ps : List Piece) (w : Wire) (u : List ℕ) (sound : FrameS
         rw (first-handed, none) (append-nil (writeAll (first-course .frames)) ∙ sym all-frames)
 
   taken-first : Came 0 (p .buffer) first-course after-first → Roomy (holding w u 0) (p ∷ ps) → Whole
-  taken-first (short h e) roomy = absurd (roomy .0 e)
+  taken-first (short h e) roomy = absurd (roomy .0 (e .refusal))
   taken-first (fits h k) roomy = by-test (eqb (first-course .refusal) accepted) refl
     where
       by-test : (t : Bool) → eqb (first-course .refusal) accepted ≡ t → Whole
