@@ -15,3 +15,5 @@ pub mod Theorem
 pub mod CsvCases
 pub mod Lists
 pub mod ListsLaws
+pub mod Trips
+pub mod TripsLaws
