@@ -2,6 +2,9 @@ pub mod Taken
 pub mod Wire
 pub mod Bench
 pub mod BenchLaws
+pub mod Settling
+pub mod Records
+pub mod RecordsLaws
 pub mod Slot
 pub mod Calls
 pub mod Laws

@@ -1,14 +1,19 @@
 // A bench of up to 32 thermometers on one wire. The bench goes in by value and comes back in the
-// answer; its fields are private, so that only these calls make or change one, and a table that a
-// host lends: `of_records`.
+// answer; its fields are private, so that only these calls make or change one. `of_records` makes one of
+// records that were kept elsewhere, where a table can hold them.
+mod records;
+pub mod settling;
 pub mod wire;
 
 ghost use Prim.Native.Nat.{_<_};
 ghost use mathlib.Core.Bool.{_&&_};
 ghost use mathlib.Core.Path.{_≡_};
+ghost use Rattle.refusals.specs.Refusals.{notATable};
 ghost use Rattle.device.specs.Offer.{offerOf};
 ghost use Rattle.bench.specs.Bench.{vacant, emptyBench, placeOf, free};
 ghost use Rattle.bench.specs.Slot.{slotted, resetDone};
+ghost use Rattle.bench.specs.Records.{madeOf};
+ghost use Rattle.bench.specs.Settling.{settledBench};
 ghost use Rattle.bench.specs.Calls.{putLast, addedTo, deviceAt, putBack, conversionFinished, copyFinished};
 ghost use Rattle.bench.specs.Calls.{powerCycled, looked};
 use crate::wire::Devices;
@@ -35,6 +40,12 @@ pub enum Place {
 
 // The answer of a call that changes devices: 0, or the refusal and the bench as it came.
 pub struct Changed {
+    pub refusal: u8,
+    pub bench: Bench,
+}
+
+// The bench of records, or 22 and the empty bench.
+pub struct Made {
     pub refusal: u8,
     pub bench: Bench,
 }
@@ -342,9 +353,48 @@ pub fn count_of(bench: Bench) -> u8
     bench.count
 }
 
-// The bench that has these records. It need not be one that calls have made.
-pub fn of_records(devices: Devices, count: u8) -> Bench
-    ensures answer { λ r. ⌜ r ≡ record { devices = devices; count = count } ⌝ }
+fn no_bench() -> Made
+    ensures answer { λ r. ⌜ r ≡ record { refusal = notATable; bench = emptyBench } ⌝ }
 {
-    Bench { devices, count }
+    Made {
+        refusal: refusals::NOT_A_TABLE,
+        bench: new(),
+    }
+}
+
+// The bench of the first records of a table, at most 32 with different sound codes. It need not be one that
+// calls have made.
+pub fn of_records(devices: Devices, count: u8) -> Made
+    ensures answer { λ r. ⌜ r ≡ madeOf devices count ⌝ }
+{
+    let taken = count as usize;
+    if wire::PLACES < taken {
+        return no_bench();
+    }
+    let fit = records::codes_fit(devices, taken);
+    if !fit {
+        return no_bench();
+    }
+    let empty = new();
+    let places = empty.devices;
+    Made {
+        refusal: refusals::ACCEPTED,
+        bench: Bench {
+            devices: records::over(places, devices, taken),
+            count,
+        },
+    }
+}
+
+// The bench after the three slots of one place of a search, made at once: each device that is not quiet is
+// at the first of them, and the last showed this bit.
+pub fn settle(bench: Bench, place: u8, bit: bool) -> Bench
+    ensures answer { λ r. ⌜ r ≡ settledBench place bit bench ⌝ }
+{
+    let devices = bench.devices;
+    let count = bench.count;
+    Bench {
+        devices: settling::settle_all(devices, count, place, bit),
+        count,
+    }
 }

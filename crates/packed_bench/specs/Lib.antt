@@ -14,3 +14,5 @@ pub mod ClaimsLaws
 pub mod Through
 pub mod Answers
 pub mod ThroughLaws
+pub mod Runs
+pub mod RunsLaws

@@ -2,26 +2,21 @@
 --     copy-more                      a copy of the front of a list, one element longer
 --     entry-there, entry-none        the entry of one place
 --     table-turn, table-end          writing, entry by entry
---     read-turn, read-stop, read-end, vacant-turn, bench-read      reading, entry by entry
---     codes-unsound, codes-twice, codes-onward, codes-end          the codes, device by device
+--     read-turn, read-stop, read-end reading, entry by entry
 use Prim.Native.Nat.{ℕ, zero, suc, _+_, _*_, _-_, _<_, _≤_}
 use mathlib.Core.Path.{_≡_, refl, sym, ap, _∙_}
-use mathlib.Core.Bool.{true, false}
 use mathlib.Core.List.{List, [], _∷_, _++_, append-assoc, append-nil}
 use native.Mathlib.Omega.{arith}
 use native.Mathlib.Numerals.{add-one}
 use borrow.Author.Tests.{eq-eqb, ne-eqb}
-use lib.ListN.{length, getD, set, take, drop, replicate, length-take, drop-of-length-le, take-append-drop}
-use lib.Seq.{take-suc, take-suc-set, drop-cons, drop-drop, drop-set-lt, getD-take, length-take-le}
+use lib.ListN.{length, getD, set, take, drop, replicate, length-take, drop-of-length-le}
+use lib.Seq.{take-suc, take-suc-set, drop-cons, drop-drop, getD-take}
 use Rattle.basic_laws.specs.Each.{Each}
 use Rattle.basic_laws.specs.Laid.{laid}
 use Rattle.basic_laws.specs.LaidLaws.{laid-none, laid-then}
-use Rattle.basic_laws.specs.Places.{drop-replicate}
-use Rattle.rom.specs.Code.{sound}
 use Rattle.device.specs.declared.Device.{Device}
 use Rattle.packed_bench.specs.Packed.{packedDevice, fieldsOf}
-use Rattle.bench.specs.Bench.{vacant}
-use Rattle.packed_bench.specs.Table.{entryBytes, tableOf, devicesIn, absent, codesFit, benchOf}
+use Rattle.packed_bench.specs.Table.{entryBytes, tableOf, devicesIn}
 use Rattle.packed_bench.specs.TableLaws.{entry-length, table-length}
 
 pub copy-more : (e s : List ℕ) (i : ℕ) → i < length e → i < length s → take i e ≡ take i s
@@ -95,39 +90,3 @@ pub read-end : (t : List ℕ) (devices : List Device) (i : ℕ) → i ≡ 32
     → take i devices ++ devicesIn (32 - i) (drop (48 * i) t) ≡ take i devices
 unfolding devicesIn
 read-end t devices i e = let n : 32 - i ≡ 0 = omega arith in rw n (append-nil (take i devices))
-
--- the places behind the devices stay vacant
-pub vacant-turn : (devices : List Device) (i : ℕ) (d : Device) → i < 32 → drop i devices ≡ replicate (32 - i) vacant
-    → drop (i + 1) (set devices i d) ≡ replicate (32 - (i + 1)) vacant
-vacant-turn devices i d h e =
-    let n : 32 - i - 1 ≡ 32 - (i + 1) = omega arith in
-    drop-set-lt (i + 1) devices i d (omega arith) ∙ sym (drop-drop 1 i devices) ∙ ap (drop 1) e
-    ∙ drop-replicate 1 (32 - i) vacant ∙ rw n refl
-
-pub bench-read : (devices : List Device) (i : ℕ) → i ≤ 32 → length devices ≡ 32
-    → drop i devices ≡ replicate (32 - i) vacant
-    → benchOf (take i devices) ≡ record { devices = devices; count = i }
-bench-read devices i h long rest =
-    let k : i ≤ length devices = omega arith in
-    rw (length-take-le i devices k, ← rest, take-append-drop i devices)
-
--- ## The codes, device by device
-
-module _ (ds : List Device) (i : ℕ) (z : Device) (h : i < length ds) where
-  pub codes-unsound : sound (getD ds i z .code) ≡ false → codesFit (drop i ds) ≡ false
-  unfolding codesFit
-  codes-unsound e = rw (drop-cons ds i z h, e)
-
-  pub codes-twice : sound (getD ds i z .code) ≡ true → absent (getD ds i z .code) (drop (i + 1) ds) ≡ false
-      → codesFit (drop i ds) ≡ false
-  unfolding codesFit
-  codes-twice e n = let n' = rw (add-one i) at n in rw (drop-cons ds i z h, e, n')
-
-  pub codes-onward : sound (getD ds i z .code) ≡ true → absent (getD ds i z .code) (drop (i + 1) ds) ≡ true
-      → codesFit (drop i ds) ≡ codesFit (drop (i + 1) ds)
-  unfolding codesFit
-  codes-onward e n = let n' = rw (add-one i) at n in rw (drop-cons ds i z h, e, n', add-one i)
-
-pub codes-end : (ds : List Device) (i : ℕ) → length ds ≤ i → codesFit (drop i ds) ≡ true
-unfolding codesFit
-codes-end ds i h = rw (drop-of-length-le ds h)

@@ -3,29 +3,26 @@
 --     entryBytes ds       the entry of the first of ds; 48 zeros where there is none
 --     tableOf n ds        n entries, those of ds from the first on
 --     devicesIn n t       the devices that n entries hold: as they are read, up to the first with the code 0
---     codesFit ds         whether each device has a sound code, and one that none after it has
 --     isTable t           whether t begins with the very table of the devices that are read from it, and their codes
 --                         fit
---     benchOf ds          the bench of these devices; every other place is vacant
 --     unpacked t          the bench that t holds; 1 for fewer than 1,536 bytes, then 22 for bytes that are no table,
 --                         with the empty bench
---     packRefusal t       1 where less than a table is lent
+--     packRefusal t b     1 where less than a table is lent, then 22 for a bench that no table holds
 --     packedInto t b      the lent bytes once a bench is packed into them: its table from byte 0 on, all others as they
---                         were
-use Prim.Native.Nat.{ℕ, zero, suc, _-_}
-use mathlib.Core.Bool.{Bool, true, not, _&&_}
+--                         were; on a refusal all of them
+use Prim.Native.Nat.{ℕ, zero, suc}
+use mathlib.Core.Bool.{Bool, _&&_}
 use mathlib.Core.List.{List, [], _∷_, _++_}
 use lib.Dec.{eqb, ltb}
 use lib.ListN.{length, take, drop, replicate}
 use Rattle.basic_laws.specs.Choice.{if_then_else_}
-use Rattle.basic_laws.specs.Fold.{all}
 use Rattle.basic_laws.specs.Laid.{laid}
 use Rattle.basic_laws.specs.Same.{same}
 use Rattle.refusals.specs.Refusals.{accepted, noRoom, notATable}
-use Rattle.rom.specs.Code.{sound}
 use Rattle.device.specs.declared.Device.{Device}
 use Rattle.packed_bench.specs.Packed.{packedDevice, fieldsOf}
-use Rattle.bench.specs.Bench.{live, vacant, emptyBench}
+use Rattle.bench.specs.Bench.{live, emptyBench}
+use Rattle.bench.specs.Records.{codesFit, benchOf, madeOf}
 use Rattle.bench.specs.declared.Bench.{Bench}
 use Rattle.packed_bench.specs.declared.table.Unpacked.{Unpacked}
 
@@ -55,13 +52,6 @@ devicesIn (suc n) t = inUse (fieldsOf (take 48 t)) (devicesIn n (drop 48 t))
 
 -- ## What is accepted
 
-abbrev pub absent : ℕ → List Device → Bool
-absent code ds = all (λ d. not (eqb (d .code) code)) ds
-
-unfoldable pub codesFit : List Device → Bool
-codesFit [] = true
-codesFit (d ∷ ds) = (sound (d .code) && absent (d .code) ds) && codesFit ds
-
 abbrev pub holds : List ℕ → List Device → Bool
 holds t ds = same (tableOf 32 ds) (take tableBytes t) && codesFit ds
 
@@ -69,9 +59,6 @@ abbrev pub isTable : List ℕ → Bool
 isTable t = holds t (devicesIn 32 t)
 
 -- ## The bench
-
-abbrev pub benchOf : List Device → Bench
-benchOf ds = record { devices = ds ++ replicate (32 - length ds) vacant; count = length ds }
 
 abbrev pub notUnpacked : ℕ → Unpacked
 notUnpacked n = record { refusal = n; bench = emptyBench }
@@ -85,8 +72,8 @@ unpacked t =
     else if isTable t then held (benchOf (devicesIn 32 t))
     else notUnpacked notATable
 
-abbrev pub packRefusal : List ℕ → ℕ
-packRefusal t = if ltb (length t) tableBytes then noRoom else accepted
+abbrev pub packRefusal : List ℕ → Bench → ℕ
+packRefusal t b = if ltb (length t) tableBytes then noRoom else madeOf (b .devices) (b .count) .refusal
 
 unfoldable pub packedInto : List ℕ → Bench → List ℕ
-packedInto t b = if ltb (length t) tableBytes then t else laid t 0 (tableOf 32 (live b))
+packedInto t b = if eqb (packRefusal t b) accepted then laid t 0 (tableOf 32 (live b)) else t

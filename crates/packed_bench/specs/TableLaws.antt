@@ -1,5 +1,8 @@
 -- Packing and unpacking undo each other, and 22 is for the bytes that no records pack to, and for no others.
 --     unpack-pack        a bench packed unpacks to itself, whatever stands behind the table
+--     packed-laid        a bench that a table can hold is packed
+--     packed-back        a bench that is packed unpacks to its records
+--     packed-kept        so to itself, where a table can hold it
 --     pack-unpack        accepted bytes pack back to themselves
 --     unpacked-tabled    what is accepted is a bench that a table can hold, with numbers of their types
 --     refused-none       22 is given only where no records, at most 32 with different sound codes, pack to the bytes
@@ -9,9 +12,9 @@ use mathlib.Core.Logic.{_≢_}
 use mathlib.Core.Bool.{Bool, true, false, not, _&&_, false≢true}
 use mathlib.Core.List.{List, [], _∷_, _++_, append-assoc, map}
 use native.Mathlib.Omega.{arith}
-use borrow.Author.Tests.{ne-eqb, eqb-true, eqb-false, ltb-true, ltb-false, le-ltb}
-use lib.Dec.{eqb, ltb, lit<}
-use lib.ListN.{length, getD, take, drop, replicate, length-append, length-replicate, take-append-drop}
+use borrow.Author.Tests.{eq-eqb, ne-eqb, eqb-true, eqb-false, lt-ltb, ltb-true, ltb-false, le-ltb, le-leb, leb-true}
+use lib.Dec.{eqb, leb, ltb, lit<}
+use lib.ListN.{length, getD, take, drop, replicate, length-append, length-replicate, length-take, take-append-drop}
 use lib.Seq.{take-at, drop-at, length-take-le, getD-drop}
 use Rattle.basic_laws.specs.Choice.{if_then_else_}
 use Rattle.basic_laws.specs.ChoiceLaws.{either-way, and-left, and-right}
@@ -29,11 +32,13 @@ use Rattle.packed_bench.specs.Bytes.{codeFromBytes}
 use Rattle.packed_bench.specs.Packed.{packedDevice, fieldsOf}
 use Rattle.packed_bench.specs.Types.{InTypes}
 use Rattle.packed_bench.specs.Laws.{packed-length, fields-back, fields-in-types}
-use Rattle.bench.specs.Bench.{live, vacant}
+use Rattle.bench.specs.Bench.{live, vacant, emptyBench}
+use Rattle.bench.specs.Records.{absent, codesFit, benchOf, fitsBench, madeOf}
 use Rattle.bench.specs.declared.Bench.{Bench}
+use Rattle.bench.specs.declared.Made.{Made}
 use Rattle.packed_bench.specs.declared.table.Unpacked.{Unpacked}
-use Rattle.packed_bench.specs.Table.{tableBytes, entryBytes, tableOf, inUse, devicesIn, absent, codesFit, isTable}
-use Rattle.packed_bench.specs.Table.{benchOf, notUnpacked, held, unpacked, packedInto}
+use Rattle.packed_bench.specs.Table.{tableBytes, entryBytes, tableOf, inUse, devicesIn, isTable, notUnpacked}
+use Rattle.packed_bench.specs.Table.{held, unpacked, packRefusal, packedInto}
 use Rattle.packed_bench.specs.Tabled.{Tabled}
 
 -- ## An unused entry: nothing is read from it on
@@ -166,6 +171,35 @@ bench-tabled ds h f =
       rest-vacant = drop-at ds r (length ds) refl;
     }
 
+-- ## Packing
+
+-- a bench that a table can hold is the one that its records make
+tabled-made : (b : Bench) → Tabled b → madeOf (b .devices) (b .count) .refusal ≡ accepted
+tabled-made b t = rw (le-leb (b .count) 32 (t .few), codes-tell (live b) (tabled-fits b t))
+
+pub packed-laid : (b : Bench) (t : List ℕ) → Tabled b → tableBytes ≤ length t
+    → (packRefusal t b ≡ accepted) × (packedInto t b ≡ laid t 0 (tableOf 32 (live b)))
+unfolding packedInto
+packed-laid b t tabled h =
+    let ok : packRefusal t b ≡ accepted = rw (le-ltb (length t) tableBytes h) (tabled-made b tabled) in
+    (ok, rw (eq-eqb (packRefusal t b) accepted ok))
+
+-- and one whose records make a bench has few enough, with codes that fit
+made-told : (b : Bench) → madeOf (b .devices) (b .count) .refusal ≡ accepted
+    → (b .count ≤ 32) × (codesFit (live b) ≡ true)
+made-told b = by-test (fitsBench (b .devices) (b .count)) refl
+  where
+    by-test : (u : Bool) → fitsBench (b .devices) (b .count) ≡ u
+        → (let m : Made = if u then record { refusal = accepted; bench = benchOf (live b) }
+        else record { refusal = notATable; bench = emptyBench } in
+        m .refusal ≡ accepted)
+        → (b .count ≤ 32) × (codesFit (live b) ≡ true)
+    by-test true e h = (
+      leb-true (b .count) 32 (and-left (leb (b .count) 32) (codesFit (live b)) e),
+      and-right (leb (b .count) 32) (codesFit (live b)) e,
+    )
+    by-test false e h = absurd (omega (arith, h))
+
 -- ## Both ways
 
 module _ (b : Bench) (t : List ℕ) (tabled : Tabled b) (typed : Each InTypes (live b)) where
@@ -184,16 +218,34 @@ module _ (b : Bench) (t : List ℕ) (tabled : Tabled b) (typed : Each InTypes (l
       )
       (codes-tell (live b) (tabled-fits b tabled))
 
-  pub unpack-pack : tableBytes ≤ length t → unpacked (packedInto t b) ≡ held b
-  unfolding unpacked packedInto laid
-  unpack-pack h =
+  pub unpack-laid : tableBytes ≤ length t → unpacked (laid t 0 (tableOf 32 (live b))) ≡ held b
+  unfolding unpacked laid
+  unpack-laid h =
       let long : length (tableOf 32 (live b)) ≡ 1536 = table-length 32 (live b) in
       let rest = drop (0 + length (tableOf 32 (live b))) t in
       let whole = length-append (tableOf 32 (live b)) rest in
-      let short = le-ltb (length t) tableBytes h in
       let much : tableBytes ≤ length (tableOf 32 (live b) ++ rest) = omega arith in
       let room = le-ltb (length (tableOf 32 (live b) ++ rest)) tableBytes much in
-      rw (short, room, table-holds rest, live-back rest, bench-back b tabled)
+      rw (room, table-holds rest, live-back rest, bench-back b tabled)
+
+  pub unpack-pack : tableBytes ≤ length t → unpacked (packedInto t b) ≡ held b
+  unpack-pack h = ap unpacked (packed-laid b t tabled h .1) ∙ unpack-laid h
+
+pub packed-back : (b : Bench) (t : List ℕ) → Each InTypes (live b) → tableBytes ≤ length t
+    → madeOf (b .devices) (b .count) .refusal ≡ accepted
+    → unpacked (laid t 0 (tableOf 32 (live b))) ≡ held (benchOf (live b))
+packed-back b t typed long ok =
+    let told = made-told b ok in
+    let few : length (live b) ≤ 32 = let l = length-take (b .count) (b .devices) in omega (arith, told .0) in
+    let same = bench-live (live b) in
+    let tabled = bench-tabled (live b) few (codes-told (live b) (told .1)) in
+    ap (λ (ds : List Device). unpacked (laid t 0 (tableOf 32 ds))) (sym same)
+    ∙ unpack-laid (benchOf (live b)) t tabled (rw same typed) long
+
+pub packed-kept : (b : Bench) (t t' : List ℕ) (n : ℕ) → n ≡ packRefusal t b
+    → (n ≡ accepted → unpacked t' ≡ held (benchOf (live b)))
+    → tableBytes ≤ length t → Tabled b → unpacked t' ≡ held b
+packed-kept b t t' n is back long tabled = back (is ∙ packed-laid b t tabled long .0) ∙ ap held (bench-back b tabled)
 
 -- what is accepted was long enough and is a table
 module _ (t : List ℕ) (P : Unpacked → Type 0) where
@@ -214,8 +266,15 @@ module _ (t : List ℕ) (P : Unpacked → Type 0) where
       by-room true e = short (ltb-true (length t) tableBytes e)
       by-room false e = by-test (isTable t) refl (ltb-false (length t) tableBytes e)
 
+-- the bench of a table is one that a table can hold
+table-tabled : (t : List ℕ) → isTable t ≡ true → Tabled (benchOf (devicesIn 32 t))
+table-tabled t y =
+    bench-tabled (devicesIn 32 t) (devices-few 32 t)
+    (codes-told (devicesIn 32 t) (and-right (same (tableOf 32 (devicesIn 32 t)) (take tableBytes t))
+    (codesFit (devicesIn 32 t)) y))
+
 pub pack-unpack : (t : List ℕ) → unpacked t .refusal ≡ accepted → packedInto t (unpacked t .bench) ≡ t
-unfolding packedInto laid
+unfolding laid
 pack-unpack t = unpacked-cases t (λ u. u .refusal ≡ accepted → packedInto t (u .bench) ≡ t)
     (λ h e. absurd (omega arith))
     (λ h n e. absurd (omega arith))
@@ -223,16 +282,14 @@ pack-unpack t = unpacked-cases t (λ u. u .refusal ≡ accepted → packedInto t
     let same-bytes = same-equal (tableOf 32 (devicesIn 32 t)) (take tableBytes t)
     (and-left (same (tableOf 32 (devicesIn 32 t)) (take tableBytes t)) (codesFit (devicesIn 32 t)) y) in
     let long : length (tableOf 32 (devicesIn 32 t)) ≡ 1536 = table-length 32 (devicesIn 32 t) in
-    rw (le-ltb (length t) tableBytes h, bench-live (devicesIn 32 t), long, same-bytes) (take-append-drop tableBytes t))
+    packed-laid (benchOf (devicesIn 32 t)) t (table-tabled t y) h .1
+    ∙ rw (bench-live (devicesIn 32 t), long, same-bytes) (take-append-drop tableBytes t))
 
 pub unpacked-tabled : (t : List ℕ) → unpacked t .refusal ≡ accepted → Tabled (unpacked t .bench)
 unpacked-tabled t = unpacked-cases t (λ u. u .refusal ≡ accepted → Tabled (u .bench))
     (λ h e. absurd (omega arith))
     (λ h n e. absurd (omega arith))
-    (λ h y e.
-    bench-tabled (devicesIn 32 t) (devices-few 32 t)
-    (codes-told (devicesIn 32 t) (and-right (same (tableOf 32 (devicesIn 32 t)) (take tableBytes t))
-    (codesFit (devicesIn 32 t)) y)))
+    (λ h y e. table-tabled t y)
 
 -- bytes that are refused with 22 are those of no records
 pub refused-none : (t : List ℕ) → unpacked t .refusal ≡ notATable
@@ -268,3 +325,76 @@ devices-typed (suc n) t h =
 pub unpacked-typed : (t : List ℕ) → ((i : ℕ) → getD t i 0 < 256) → Each InTypes (live (unpacked t .bench))
 unpacked-typed t bytes = unpacked-cases t (λ u. Each InTypes (live (u .bench))) (λ h. tt) (λ h n. tt)
     (λ h y. rw (bench-live (devicesIn 32 t)) (devices-typed 32 t bytes))
+
+-- ## The ends of the two calls
+
+pub unpack-short : (t : List ℕ) → length t < tableBytes → notUnpacked noRoom ≡ unpacked t
+unfolding unpacked
+unpack-short t h = rw (lt-ltb (length t) tableBytes h)
+
+module _ (t : List ℕ) (long : tableBytes ≤ length t) (ds : List Device) (n : ℕ) (are : take n ds ≡ devicesIn 32 t) where
+  pub unpack-other : same (tableOf 32 (take n ds)) (take tableBytes t) ≡ false → notUnpacked notATable ≡ unpacked t
+  unfolding unpacked
+  unpack-other e = rw (le-ltb (length t) tableBytes long, ← are, e)
+
+  pub unpack-made : n ≤ 32 → same (tableOf 32 (take n ds)) (take tableBytes t) ≡ true → (m : Made) → m ≡ madeOf ds n
+      → record { refusal = m .refusal; bench = m .bench } ≡ unpacked t
+  unfolding unpacked
+  unpack-made few e m is =
+      rw (le-ltb (length t) tableBytes long, ← are, e, is, le-leb n 32 few) (by-test (codesFit (take n ds)))
+    where
+      by-test : (u : Bool)
+          → (let k : Made = if u then record { refusal = accepted; bench = benchOf (take n ds) }
+          else record { refusal = notATable; bench = emptyBench } in
+          let v : Unpacked = record { refusal = k .refusal; bench = k .bench } in
+          v ≡ (if u then held (benchOf (take n ds)) else notUnpacked notATable))
+      by-test true = refl
+      by-test false = refl
+
+module _ (b : Bench) (t : List ℕ) where
+  pub pack-short : length t < tableBytes → (noRoom ≡ packRefusal t b) × (t ≡ packedInto t b)
+  unfolding packedInto
+  pack-short h = let e = lt-ltb (length t) tableBytes h in (rw e, rw e)
+
+  module _ (long : tableBytes ≤ length t) (n : ℕ) (is : n ≡ madeOf (b .devices) (b .count) .refusal) where
+    judged : n ≡ packRefusal t b
+    judged = rw (le-ltb (length t) tableBytes long) is
+
+    pub pack-refused : (n ≡ accepted → ⊥) → (n ≡ packRefusal t b) × (t ≡ packedInto t b)
+    unfolding packedInto
+    pack-refused h = (judged, rw (← judged, ne-eqb n accepted h))
+
+    pub pack-done : n ≡ accepted → (accepted ≡ packRefusal t b) × (laid t 0 (tableOf 32 (live b)) ≡ packedInto t b)
+    unfolding packedInto
+    pack-done h = (sym h ∙ judged, rw (← judged, eq-eqb n accepted h))
+
+-- ## Whatever bench is packed
+
+module _ (b : Bench) (t : List ℕ) where
+  pub refused-stays : (packRefusal t b ≡ accepted → ⊥) → packedInto t b ≡ t
+  unfolding packedInto
+  refused-stays h = rw (ne-eqb (packRefusal t b) accepted h)
+
+  -- the refusal by the room
+  by-room : (u : Bool) → ltb (length t) tableBytes ≡ u
+      → packRefusal t b ≡ (if u then noRoom else madeOf (b .devices) (b .count) .refusal)
+  by-room u e = rw e
+
+  pub packs-back : Each InTypes (live b) → packRefusal t b ≡ accepted
+      → unpacked (packedInto t b) ≡ held (benchOf (live b))
+  unfolding packedInto
+  packs-back typed ok = ap unpacked (rw (eq-eqb (packRefusal t b) accepted ok))
+      ∙ by-test (ltb (length t) tableBytes) refl
+    where
+      by-test : (u : Bool) → ltb (length t) tableBytes ≡ u
+          → unpacked (laid t 0 (tableOf 32 (live b))) ≡ held (benchOf (live b))
+      by-test true e = let one = sym (by-room true e) ∙ ok in absurd (omega arith)
+      by-test false e = packed-back b t typed (ltb-false (length t) tableBytes e) (sym (by-room false e) ∙ ok)
+
+  pub unheld-only : packRefusal t b ≡ notATable → Tabled b → ⊥
+  unheld-only other tabled = by-test (ltb (length t) tableBytes) refl
+    where
+      by-test : (u : Bool) → ltb (length t) tableBytes ≡ u → ⊥
+      by-test true e = let one = sym (by-room true e) ∙ other in absurd (omega arith)
+      by-test false e = let none = sym (by-room false e) ∙ other in let ok = tabled-made b tabled in
+          absurd (omega arith)

@@ -1,8 +1,8 @@
 -- One law for every call on lent bytes: they then hold the bench that the call on the records leaves.
---     through                      `After` holds of each f that leaves a bench that a table can hold
---     refused-done, accepted-done  the two ways of a call that unpacks, calls and packs
---     stays                        a call that leaves the bench leaves the bytes, so that a refused one does
---     behind-stays                 the bytes behind the table stay, whatever the call
+--     through            `After` holds of each f that leaves a bench that a table can hold
+--     refused-done, accepted-done, stored-done       the ways of a call that unpacks, calls and packs
+--     stays              a call that leaves the bench leaves the bytes, so that a refused one does
+--     behind-stays       the bytes behind the table stay, whatever the call
 --     slot-keeps, reset-keeps, added-keeps, conversion-keeps, copy-keeps, cycle-keeps
 --                        each call leaves a bench that a table can hold, refused or not
 use Prim.Native.Nat.{ℕ, _+_, _-_, _≤_}
@@ -11,10 +11,11 @@ use mathlib.Core.List.{List}
 use mathlib.Core.Path.{_≡_, refl, sym, ap, _∙_}
 use native.Mathlib.Omega.{arith}
 use borrow.Author.Tests.{eq-eqb, ne-eqb, eqb-true}
-use lib.Dec.{eqb, ltb}
+use lib.Dec.{eqb}
 use lib.ListN.{length, drop}
 use lib.Seq.{drop-at, drop-drop}
 use Rattle.basic_laws.specs.Choice.{if_then_else_}
+use Rattle.basic_laws.specs.Each.{Each}
 use Rattle.basic_laws.specs.EachLaws.{each-snoc, distinct-snoc}
 use Rattle.basic_laws.specs.First.{firstWith}
 use Rattle.basic_laws.specs.Laid.{laid}
@@ -36,9 +37,11 @@ use Rattle.bench.specs.Laws.{restarted-places, restarted-rest, Added, added-cas
 use Rattle.bench.specs.Laws.{copy-cases, cycle-cases}
 use Rattle.bench.specs.Sound.{codesOf}
 use Rattle.bench.specs.SoundLaws.{heard-codes, restarted-codes, added-codes, codes-new, one-changed-codes}
-use Rattle.packed_bench.specs.Table.{tableBytes, tableOf, held, unpacked, packedInto}
+use Rattle.packed_bench.specs.Types.{InTypes}
+use Rattle.packed_bench.specs.Table.{tableBytes, tableOf, held, unpacked, packRefusal, packedInto}
 use Rattle.packed_bench.specs.Tabled.{Tabled}
-use Rattle.packed_bench.specs.TableLaws.{table-length, unpacked-cases, unpacked-tabled, pack-unpack}
+use Rattle.packed_bench.specs.TableLaws.{table-length, unpacked-cases, unpacked-tabled, pack-unpack, packed-laid}
+use Rattle.packed_bench.specs.TableLaws.{unpack-laid}
 use Rattle.packed_bench.specs.declared.table.Unpacked.{Unpacked}
 use Rattle.packed_bench.specs.Through.{answeredOn, leftBy, After}
 
@@ -48,6 +51,10 @@ use Rattle.packed_bench.specs.Through.{answeredOn, leftBy, After}
 pub accepted-long : (t : List ℕ) → unpacked t .refusal ≡ accepted → tableBytes ≤ length t
 accepted-long t = unpacked-cases t (λ u. u .refusal ≡ accepted
     → tableBytes ≤ length t) (λ h e. absurd (omega arith)) (λ h n e. absurd (omega arith)) (λ h y e. h)
+
+-- so that there is room for the bench after a call
+pub accepted-room : (t : List ℕ) (u : Unpacked) → u ≡ unpacked t → u .refusal ≡ accepted → tableBytes ≤ length t
+accepted-room t u is ok = accepted-long t (sym (ap (λ (v : Unpacked). v .refusal) is) ∙ ok)
 
 -- the bytes that packing leaves hold the bench, if a table can: what packing promises, of the bench that the call
 -- leaves
@@ -72,8 +79,10 @@ module _ {A R : Type 0} (F : Bench → R) (answerOf : R → A) (leaves : R → B
       (rw other (ap (λ v. refusal (v .refusal)) is-u), (rw other refl, (λ ok. absurd (not-there ok))))
 
   pub accepted-done : ((b : Bench) → Tabled b → Tabled (leaves (F b))) → u .refusal ≡ accepted → (d : R)
-      → d ≡ F (u .bench) → (t' : List ℕ) → t' ≡ packedInto t (leaves d)
-      → (tableBytes ≤ length t → Tabled (leaves d) → unpacked t' ≡ held (leaves d)) → Done (answerOf d) t'
+      → d ≡ F (u .bench)
+      → (t' : List ℕ) → t' ≡ packedInto t (leaves d)
+      → (tableBytes ≤ length t → Tabled (leaves d) → unpacked t' ≡ held (leaves d))
+      → Done (answerOf d) t'
   accepted-done keeps ok d is-d t' left back =
       let e : d ≡ F (unpacked t .bench) = is-d ∙ ap (λ (v : Unpacked). F (v .bench)) is-u in
       let there = eq-eqb (unpacked t .refusal) accepted (sym (ap (λ (v : Unpacked). v .refusal) is-u) ∙ ok) in (
@@ -83,6 +92,18 @@ module _ {A R : Type 0} (F : Bench → R) (answerOf : R → A) (leaves : R → B
           through (λ b. leaves (F b)) keeps t t' (λ long tabled. back long (rw e tabled) ∙ ap (λ v. held (leaves v)) e),
         ),
       )
+
+  -- the bench is not judged again, for each call leaves one that a table can hold
+  pub stored-done : ((b : Bench) → Tabled b → Tabled (leaves (F b))) → u .refusal ≡ accepted → (d : R)
+      → d ≡ F (u .bench)
+      → (t' : List ℕ) → t' ≡ laid t 0 (tableOf 32 (live (leaves d))) → Each InTypes (live (leaves d))
+      → Done (answerOf d) t'
+  stored-done keeps ok d is-d t' left typed =
+      let e : d ≡ F (unpacked t .bench) = is-d ∙ ap (λ (v : Unpacked). F (v .bench)) is-u in
+      let there : unpacked t .refusal ≡ accepted = sym (ap (λ (v : Unpacked). v .refusal) is-u) ∙ ok in
+      let tabled : Tabled (leaves d) = rw e (keeps (unpacked t .bench) (unpacked-tabled t there)) in
+      accepted-done keeps ok d is-d t' (left ∙ sym (packed-laid (leaves d) t tabled (accepted-long t there) .1))
+      (λ long tabled. ap unpacked left ∙ unpack-laid (leaves d) t tabled typed long)
 
 pub stays : (f : Bench → Bench) (t : List ℕ)
     → (unpacked t .refusal ≡ accepted → f (unpacked t .bench) ≡ unpacked t .bench) → leftBy f t ≡ t
@@ -96,11 +117,11 @@ stays f t same = by-test (eqb (unpacked t .refusal) accepted) refl
 -- what stands behind the table stays
 behind-packed : (t : List ℕ) (b : Bench) → drop tableBytes (packedInto t b) ≡ drop tableBytes t
 unfolding packedInto laid
-behind-packed t b = by-room (ltb (length t) tableBytes)
+behind-packed t b = by-test (eqb (packRefusal t b) accepted)
   where
-    by-room : (u : Bool) → drop tableBytes (if u then t else laid t 0 (tableOf 32 (live b))) ≡ drop tableBytes t
-    by-room true = refl
-    by-room false =
+    by-test : (u : Bool) → drop tableBytes (if u then laid t 0 (tableOf 32 (live b)) else t) ≡ drop tableBytes t
+    by-test false = refl
+    by-test true =
         let x = tableOf 32 (live b) in
         let long : length x ≡ 1536 = table-length 32 (live b) in
         let at : 0 + length x ≡ 1536 = omega arith in

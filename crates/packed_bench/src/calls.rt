@@ -4,13 +4,18 @@
 ghost use Prim.Native.Nat.{_≤_};
 ghost use mathlib.Core.Path.{_≡_};
 ghost use lib.ListN.{length};
+ghost use Rattle.basic_laws.specs.Each.{Each};
+ghost use Rattle.basic_laws.specs.Laid.{laid};
+ghost use Rattle.bench.specs.Bench.{live};
 ghost use Rattle.bench.specs.Calls.{addedTo, conversionFinished, copyFinished, powerCycled, looked};
 ghost use Rattle.bench.specs.Slot.{slotted, resetDone};
-ghost use Rattle.packed_bench.specs.Table.{tableBytes, held, unpacked, packedInto};
-ghost use Rattle.packed_bench.specs.Tabled.{Tabled};
+ghost use Rattle.packed_bench.specs.Table.{tableBytes, tableOf};
+ghost use Rattle.packed_bench.specs.Types.{InTypes};
 ghost use Rattle.packed_bench.specs.Answers.{noReset, resetSeen, noSlot, slotSeen};
 ghost use Rattle.packed_bench.specs.Through.{answeredOn, leftBy, After, unseen};
+use crate::entries;
 use crate::table;
+use bench::Bench;
 use bench::Changed;
 use bench::Looked;
 use device::Joining;
@@ -26,15 +31,26 @@ pub struct SlotSeen {
     pub line: bool,
 }
 
-// The bench after a call, packed where it came from, and the call's refusal.
+// The bench after a call, where the one before it was: a call leaves a bench that a table can hold, so that
+// it need not be judged.
+fn store(bench: Bench, t: &mut [u8])
+    requires { ⌜ tableBytes ≤ length (now t) ⌝ }
+    ensures written { λ r. ⌜ now (t .exit) ≡ laid (now (t .entry)) 0 (tableOf 32 (live bench)) ⌝ }
+    ensures typed { λ r. ⌜ Each InTypes (live bench) ⌝ }
+{
+    let devices = bench::records_of(bench);
+    entries::write(devices, bench::count_of(bench), t);
+}
+
+// The same, and the call's refusal.
 fn keep(done: Changed, t: &mut [u8]) -> u8
+    requires { ⌜ tableBytes ≤ length (now t) ⌝ }
     ensures answer { λ r. ⌜ r ≡ done .refusal ⌝ }
-    ensures written { λ r. ⌜ now (t .exit) ≡ packedInto (now (t .entry)) (done .bench) ⌝ }
-    ensures after { λ r. ⌜ (tableBytes ≤ length (now (t .entry)) → Tabled (done .bench)
-        → unpacked (now (t .exit)) ≡ held (done .bench)) ⌝ }
+    ensures written { λ r. ⌜ now (t .exit) ≡ laid (now (t .entry)) 0 (tableOf 32 (live (done .bench))) ⌝ }
+    ensures typed { λ r. ⌜ Each InTypes (live (done .bench)) ⌝ }
 {
     let bench = done.bench;
-    table::pack(bench, t);
+    store(bench, t);
     done.refusal
 }
 
@@ -54,7 +70,7 @@ pub fn reset(t: &mut [u8]) -> ResetSeen
     }
     let done = bench::reset(there.bench);
     let bench = done.bench;
-    table::pack(bench, t);
+    store(bench, t);
     ResetSeen {
         refusal: done.refusal,
         presence: done.presence,
@@ -77,7 +93,7 @@ pub fn slot(t: &mut [u8], bit: bool) -> SlotSeen
     }
     let done = bench::slot(there.bench, bit);
     let bench = done.bench;
-    table::pack(bench, t);
+    store(bench, t);
     SlotSeen {
         refusal: done.refusal,
         line: done.line,

@@ -1,22 +1,14 @@
--- Every bench that calls have made is one that a table can hold, and the table of the empty bench is zeros.
+-- Every bench that calls have made is one that a table can hold.
 --     after-tabled       after every history, refused calls included
---     zeros-empty        1,536 zeros hold the empty bench
 use mathlib.Core.List.{List, [], _∷_}
-use mathlib.Core.Path.{_≡_, refl}
-use lib.Dec.{lit≤}
-use lib.ListN.{replicate}
 use Rattle.basic_laws.specs.Fold.{fold}
-use Rattle.basic_laws.specs.Same.{same}
 use Rattle.commands.specs.Commands.{searchRom, alarmSearch}
-use Rattle.bench.specs.Bench.{emptyBench}
 use Rattle.bench.specs.declared.Bench.{Bench}
 use Rattle.history_laws.specs.History.{Call, add, reset, slot, finishConversion, finishCopy, powerCycle, search}
 use Rattle.history_laws.specs.History.{searchAlarms, read, write, readPins, Ledger, apply, step, start, ledger, after}
 use Rattle.history_laws.specs.Kept.{read-keeps, write-keeps, outcome-keeps, pins-keep}
-use Rattle.packed_bench.specs.Bytes.{codeFromBytes}
-use Rattle.packed_bench.specs.Packed.{fieldsOf}
-use Rattle.packed_bench.specs.Table.{tableBytes, tableOf, devicesIn, codesFit, held, unpacked}
 use Rattle.packed_bench.specs.Tabled.{Tabled}
+use Rattle.packed_bench.specs.RunsLaws.{empty-tabled}
 use Rattle.packed_bench.specs.ThroughLaws.{slot-keeps, reset-keeps, added-keeps, conversion-keeps, copy-keeps}
 use Rattle.packed_bench.specs.ThroughLaws.{cycle-keeps}
 
@@ -38,13 +30,6 @@ unfolding fold
 tabled-from [] l t = t
 tabled-from (c ∷ h) l t = tabled-from h (step l c) (tabled-step (l .bench) c t)
 
-empty-tabled : Tabled emptyBench
-empty-tabled = record { places = refl; few = lit≤ tt; codes-sound = tt; codes-distinct = tt; rest-vacant = refl }
-
 pub after-tabled : (h : List Call) → Tabled (after h)
 unfolding ledger
 after-tabled h = tabled-from h start empty-tabled
-
-pub zeros-empty : unpacked (replicate tableBytes 0) ≡ held emptyBench
-unfolding unpacked devicesIn fieldsOf codeFromBytes tableOf same codesFit
-zeros-empty = refl

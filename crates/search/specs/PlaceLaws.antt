@@ -4,7 +4,7 @@
 use Prim.Native.Nat.{ℕ, zero, suc, _<_}
 use mathlib.Core.Logic.{_⊎_, inl, inr, ⊎-elim}
 use mathlib.Core.Path.{_≡_, refl, sym, ap, _∙_}
-use mathlib.Core.Bool.{Bool, true, false, not, _&&_, _||_, and-true, and-assoc, true≢false, false≢true}
+use mathlib.Core.Bool.{Bool, true, false, not, _&&_, _||_, and-true, and-assoc, false≢true}
 use mathlib.Core.List.{List, [], _∷_, map}
 use borrow.Author.Tests.{lt-ltb, ltb-true, eqb-true}
 use lib.Dec.{eqb, ltb}
@@ -25,14 +25,14 @@ use Rattle.device.specs.declared.Stage.{Stage}
 use Rattle.device.specs.declared.Stage.the-variants.{AwaitRom, SendRom, Match, Search, AwaitFunction, TakeSettings}
 use Rattle.device.specs.declared.Stage.the-variants.{SendScratchpad, SendStatus, SendPower, Quiet}
 use Rattle.bench.specs.Bench.{live, free}
+use Rattle.bench.specs.Settling.{settledOf}
 use Rattle.bench.specs.Slot.{lineBit, heard, slotted}
 use Rattle.bench.specs.declared.Bench.{Bench}
 use Rattle.bench.specs.declared.Slotted.{Slotted}
 use Rattle.bench.specs.Laws.{heard-live}
 use Rattle.search.specs.Place.{chosen, placed}
 use Rattle.device.specs.Stages.{quietAt, firstOf, startsAt}
-use Rattle.search.specs.Standing.{fits, oneAt, zeroSentAt, settledOf, surveyStart}
-use Rattle.search.specs.Standing.{surveyedWith}
+use Rattle.search.specs.Standing.{fits, oneAt, zeroSentAt, surveyStart, surveyedWith}
 use Rattle.search.specs.declared.place.Placed.{Placed}
 use Rattle.search.specs.declared.place.Survey.{Survey}
 
@@ -41,15 +41,6 @@ use Rattle.search.specs.declared.place.Survey.{Survey}
 is-false : (a : Bool) → not a ≡ true → a ≡ false
 is-false true e = absurd (false≢true e)
 is-false false e = refl
-
-is-true : (a : Bool) → not a ≡ false → a ≡ true
-is-true true e = refl
-is-true false e = absurd (true≢false e)
-
-module _ (j : ℕ) (x : Bool) (d : Device) where
-  pub settled-quiet : not (quietAt (d .stage)) ≡ false → settledOf j x d ≡ d
-  unfolding settledOf
-  settled-quiet h = rw (is-true (quietAt (d .stage)) h)
 
 -- a device that fits is quiet, or at the first slot of the place
 stage-cases : (j : ℕ) (P : Stage → Type 0) → P Quiet → (j < 64 → P (Search j SendBit)) → (s : Stage)

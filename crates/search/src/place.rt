@@ -4,15 +4,12 @@ ghost use mathlib.Core.Bool.{_&&_};
 ghost use mathlib.Core.Path.{_≡_};
 ghost use lib.ListN.{take};
 ghost use Rattle.basic_laws.specs.Fold.{fold};
-ghost use Rattle.basic_laws.specs.Front.{mapFront};
 ghost use Rattle.search.specs.Place.{chosen, placed};
-ghost use Rattle.search.specs.Standing.{surveyStart, surveyedWith, settledOf};
+ghost use Rattle.search.specs.Standing.{surveyStart, surveyedWith};
 use bench::Bench;
 use bench::wire;
 use bench::wire::Devices;
 use device::Device;
-use device::Phase;
-use device::rom_commands;
 use device::stages;
 
 // What the slots gave: what the two reads showed, the bit taken, what the line showed then, and the bench
@@ -77,38 +74,6 @@ fn look_over(devices: Devices, count: u8, place: u8) -> Survey
     s
 }
 
-// A device after the three slots, of which the last showed this bit.
-fn settled(d: Device, place: u8, bit: bool) -> Device
-    ensures answer { λ r. ⌜ r ≡ settledOf place bit d ⌝ }
-{
-    let stage = d.stage;
-    if stages::is_quiet(stage) {
-        return d;
-    }
-    device::with_stage(
-        d,
-        rom_commands::after_search(d.code, place, Phase::TakeBit, bit),
-    )
-}
-
-// Every device after them. A quiet one is left as it stands.
-fn settle(devices: Devices, count: u8, place: u8, bit: bool) -> Devices
-    ensures answer { λ r. ⌜ r ≡ mapFront (settledOf place bit) count devices ⌝ }
-{
-    let mut next = devices;
-    let taken = wire::places(count);
-    let mut i: usize = 0;
-    while i < taken {
-        let d = next[i];
-        let stage = d.stage;
-        if !stages::is_quiet(stage) {
-            next[i] = settled(d, place, bit);
-        }
-        i += 1;
-    }
-    next
-}
-
 // The bit to take where the two reads showed a bit and its complement, not both 1.
 fn choose(bit: bool, complement: bool, plan: bool) -> bool
     ensures answer { λ r. ⌜ r ≡ chosen bit complement plan ⌝ }
@@ -162,7 +127,7 @@ pub fn slots_at(bench: Bench, place: u8, plan: bool) -> Placed
     if both(s.fits, !both(s.ones, s.zeros)) {
         let bit = choose(s.ones, s.zeros, plan);
         return Placed {
-            bench: bench::of_records(settle(devices, count, place, bit), count),
+            bench: bench::settle(bench, place, bit),
             first: s.ones,
             second: s.zeros,
             taken: bit,

@@ -3,7 +3,7 @@ use mathlib.Core.Path.{_∙_}
 use borrow.Author.Needs.{needs}
 use denote.Ref.{now}
 use Rattle.bench.specs.Calls.{addedTo}
-use Rattle.packed_bench.specs.ThroughLaws.{added-keeps, refused-done, accepted-done}
+use Rattle.packed_bench.specs.ThroughLaws.{added-keeps, accepted-room, refused-done, stored-done}
 use Rattle.packed_bench.proofs.calls.add.Statement.{statement}
 use Rattle.packed_bench.proofs.calls.add.Tie as tie
 
@@ -24,7 +24,10 @@ add-requires : tie.Need-add-requires
 add-requires c κs = search needs
 
 keep-requires : tie.Need-keep-requires
-keep-requires c κs = search needs
+keep-requires c κs =
+    let d = c .before in
+    let u = d .before .before in
+    accepted-room _ (u .unpack .result) (u .unpack .ensures) (d .before .if1 .left)
 
 same-length-2 : tie.Need-same-length-2
 same-length-2 c = search needs
@@ -36,7 +39,7 @@ returns-2 c =
     let u = d .before .before in
     let a = u .before .before .before .args in
     let done =
-    accepted-done (λ b. addedTo b (a .new)) (λ r. r .refusal) (λ r. r .bench) (λ n. n) (now (a .t)) (u .unpack .result)
+    stored-done (λ b. addedTo b (a .new)) (λ r. r .refusal) (λ r. r .bench) (λ n. n) (now (a .t)) (u .unpack .result)
     (u .unpack .ensures) (added-keeps (a .new)) (d .before .if1 .left)
     (d .add .result) (d .add .ensures) _ (k .keep .ensures .1 .0) (k .keep .ensures .1 .1) in
     (k .keep .ensures .0 ∙ done .0, done .1)

@@ -3,7 +3,7 @@ use borrow.Author.Needs.{needs}
 use denote.Ref.{now}
 use Rattle.bench.specs.Slot.{resetDone}
 use Rattle.packed_bench.specs.Answers.{noReset, resetSeen}
-use Rattle.packed_bench.specs.ThroughLaws.{reset-keeps, refused-done, accepted-done}
+use Rattle.packed_bench.specs.ThroughLaws.{reset-keeps, accepted-room, refused-done, stored-done}
 use Rattle.packed_bench.proofs.calls.reset.Statement.{statement}
 use Rattle.packed_bench.proofs.calls.reset.Tie as tie
 
@@ -23,8 +23,11 @@ returns c =
 reset-requires : tie.Need-reset-requires
 reset-requires c κs = search needs
 
-pack-requires : tie.Need-pack-requires
-pack-requires c κs = search needs
+store-requires : tie.Need-store-requires
+store-requires c κs =
+    let d = c .before .before in
+    let u = d .before .before in
+    accepted-room _ (u .unpack .result) (u .unpack .ensures) (d .before .if1 .left)
 
 same-length-2 : tie.Need-same-length-2
 same-length-2 c = search needs
@@ -35,9 +38,9 @@ returns-2 c =
     let d = k .before .before .before in
     let u = d .before .before in
     let a = u .before .before .before .args in
-    accepted-done (λ b. resetDone b) resetSeen (λ r. r .bench) noReset (now (a .t)) (u .unpack .result)
+    stored-done (λ b. resetDone b) resetSeen (λ r. r .bench) noReset (now (a .t)) (u .unpack .result)
     (u .unpack .ensures) reset-keeps (d .before .if1 .left)
-    (d .reset .result) (d .reset .ensures) _ (k .pack .ensures .1 .0) (k .pack .ensures .1 .1)
+    (d .reset .result) (d .reset .ensures) _ (k .store .ensures .0) (k .store .ensures .1)
 
 pub reset-spec : {M : Type 1} → statement M
 reset-spec =
@@ -47,6 +50,6 @@ reset-spec =
     same-length
     returns
     reset-requires
-    pack-requires
+    store-requires
     same-length-2
     returns-2)

@@ -3,7 +3,7 @@ use borrow.Author.Needs.{needs}
 use denote.Ref.{now}
 use Rattle.bench.specs.Slot.{slotted}
 use Rattle.packed_bench.specs.Answers.{noSlot, slotSeen}
-use Rattle.packed_bench.specs.ThroughLaws.{slot-keeps, refused-done, accepted-done}
+use Rattle.packed_bench.specs.ThroughLaws.{slot-keeps, accepted-room, refused-done, stored-done}
 use Rattle.packed_bench.proofs.calls.slot.Statement.{statement}
 use Rattle.packed_bench.proofs.calls.slot.Tie as tie
 
@@ -23,8 +23,11 @@ returns c =
 slot-requires : tie.Need-slot-requires
 slot-requires c κs = search needs
 
-pack-requires : tie.Need-pack-requires
-pack-requires c κs = search needs
+store-requires : tie.Need-store-requires
+store-requires c κs =
+    let d = c .before .before in
+    let u = d .before .before in
+    accepted-room _ (u .unpack .result) (u .unpack .ensures) (d .before .if1 .left)
 
 same-length-2 : tie.Need-same-length-2
 same-length-2 c = search needs
@@ -35,9 +38,9 @@ returns-2 c =
     let d = k .before .before .before in
     let u = d .before .before in
     let a = u .before .before .before .args in
-    accepted-done (λ b. slotted b (a .bit)) slotSeen (λ r. r .bench) noSlot (now (a .t)) (u .unpack .result)
+    stored-done (λ b. slotted b (a .bit)) slotSeen (λ r. r .bench) noSlot (now (a .t)) (u .unpack .result)
     (u .unpack .ensures) (slot-keeps (a .bit)) (d .before .if1 .left)
-    (d .slot .result) (d .slot .ensures) _ (k .pack .ensures .1 .0) (k .pack .ensures .1 .1)
+    (d .slot .result) (d .slot .ensures) _ (k .store .ensures .0) (k .store .ensures .1)
 
 pub slot-spec : {M : Type 1} → statement M
 slot-spec =
@@ -47,6 +50,6 @@ slot-spec =
     same-length
     returns
     slot-requires
-    pack-requires
+    store-requires
     same-length-2
     returns-2)

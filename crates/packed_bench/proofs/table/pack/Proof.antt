@@ -1,21 +1,52 @@
--- Too few bytes stay as they are; else the table is written, and what the types of the records hold is what its way
--- back asks for.
+-- Too few bytes stay as they are, and so do all where the records make no bench; else the table is written.
+use mathlib.Core.List.{List}
+use mathlib.Core.Path.{_≡_, _∙_, sym, ap}
 use native.Mathlib.Omega.{arith}
 use borrow.Author.Needs.{needs}
-use borrow.Author.Tests.{lt-ltb, le-ltb}
 use denote.Ref.{now}
-use lib.ListN.{length}
-use Rattle.packed_bench.specs.Table.{tableBytes, packedInto}
-use Rattle.packed_bench.specs.TableLaws.{unpack-pack}
+use lib.ListN.{take}
+use Rattle.refusals.specs.Refusals.{accepted, noRoom}
+use Rattle.basic_laws.specs.Laid.{laid}
+use Rattle.device.specs.declared.Device.{Device}
+use Rattle.bench.specs.Bench.{live}
+use Rattle.bench.specs.Records.{madeOf}
+use Rattle.bench.specs.declared.Made.{Made}
+use Rattle.packed_bench.specs.Table.{tableOf, unpacked}
+use Rattle.packed_bench.specs.TableLaws.{pack-short, pack-refused, pack-done, packed-back}
 use Rattle.packed_bench.proofs.table.pack.Statement.{statement}
 use Rattle.packed_bench.proofs.table.pack.Tie as tie
 
 returns : tie.Need-returns
-unfolding packedInto
 returns c =
-    let t = now (c .before .before .args .t) in
-    let short = lt-ltb (length t) tableBytes (c .if1 .taken) in
-    (rw short, (rw short, (λ long held. absurd (omega (arith, c .if1 .taken)))))
+    let a = c .before .before .args in
+    let e = pack-short (a .bench) (now (a .t)) (c .if1 .taken) in
+    (e .0, (e .1, λ (z : noRoom ≡ accepted). absurd (omega (arith, z))))
+
+records-of-requires : tie.Need-records-of-requires
+records-of-requires c κs = search needs
+
+count-of-requires : tie.Need-count-of-requires
+count-of-requires c κs = search needs
+
+of-records-requires : tie.Need-of-records-requires
+of-records-requires c κs = search needs
+
+-- the refusal is that of the bench's own records
+module _ (c : tie.After-of-records) where
+  judged : c .of-records .result .refusal ≡ (let b = c .before .before .before .before .before .args .bench in
+      madeOf (b .devices) (b .count) .refusal)
+  judged =
+      let n = c .before in
+      let r = n .before in
+      ap (λ (m : Made). m .refusal) (c .of-records .ensures) ∙ rw (n .count-of .ensures, r .records-of .ensures)
+
+returns-2 : tie.Need-returns-2
+returns-2 c =
+    let o = c .before in
+    let a = o .before .before .before .before .before .args in
+    let e = pack-refused (a .bench) (now (a .t)) (o .before .before .before .if1 .left) (o .of-records .result .refusal)
+    (judged o) (c .if2 .taken) in
+    (e .0, (e .1, λ z. absurd (c .if2 .taken z)))
 
 write-requires : tie.Need-write-requires
 write-requires c κs = search needs
@@ -23,22 +54,38 @@ write-requires c κs = search needs
 same-length : tie.Need-same-length
 same-length c = search needs
 
-returns-2 : tie.Need-returns-2
-unfolding packedInto
-returns-2 c =
+returns-3 : tie.Need-returns-3
+returns-3 c =
     let w = c .before .before in
-    let e = w .before .before in
-    let s = e .before .before in
-    let t = now (s .args .t) in
-    let room = le-ltb (length t) tableBytes (e .if1 .left) in
-    let written = w .write .ensures .0 in (
-      rw room,
+    let ok = w .before .before in
+    let o = ok .before in
+    let n = o .before in
+    let r = n .before in
+    let a = r .before .before .before .args in
+    let t = now (a .t) in
+    let long = r .before .if1 .left in
+    let are : take (n .count-of .result) (r .records-of .result) ≡ live (a .bench) =
+    rw (n .count-of .ensures, r .records-of .ensures) in
+    let wrote = w .write .ensures .0 ∙ ap (λ (ds : List Device). laid t 0 (tableOf 32 ds)) are in
+    let typed = rw are at (w .write .ensures .1) in
+    let e = pack-done (a .bench) t long (o .of-records .result .refusal) (judged o) (ok .if2 .left) in (
+      e .0,
       (
-        rw room written,
-        (λ long tabled. rw written
-            (rw room at (unpack-pack (s .args .bench) t tabled (w .write .ensures .1) long))),
+        wrote ∙ e .1,
+        λ z. ap unpacked wrote
+            ∙ packed-back (a .bench) t typed long (sym (judged o) ∙ ok .if2 .left),
       ),
     )
 
 pub pack-spec : {M : Type 1} → statement M
-pack-spec = tie.close (tie.spec returns write-requires same-length returns-2)
+pack-spec =
+    tie.close
+    (tie.spec
+    returns
+    records-of-requires
+    count-of-requires
+    of-records-requires
+    returns-2
+    write-requires
+    same-length
+    returns-3)

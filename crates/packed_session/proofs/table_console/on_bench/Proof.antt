@@ -10,6 +10,7 @@ use Rattle.packed_session.specs.TableAnswers.{refusedOnTable}
 use Rattle.packed_session.specs.KeptLaws.{answered-keeps}
 use Rattle.packed_session.specs.OnBenchLaws.{refused-told, answered-told}
 use borrow.Author.Needs.{needs}
+use Rattle.packed_bench.specs.TableLaws.{packed-kept}
 use Rattle.packed_session.proofs.table_console.on_bench.Statement.{statement}
 use Rattle.packed_session.proofs.table_console.on_bench.Tie as tie
 
@@ -60,7 +61,8 @@ returns-2 c =
     answered-told (λ b. answered b (asked l)) (λ n. refusedOnTable n (asked l)) (now (s .args .t)) (now (s .args .out))
     (s .pre) (u .unpack .result) (u .unpack .ensures) (answered-keeps (asked l)) (e .if1 .left) (n .answer .result)
     _ _ (rw enough at (n .answer .ensures .0)) (rw enough at (n .answer .ensures .1 .0))
-    (k .pack .ensures .1 .0) (k .pack .ensures .1 .1)
+    (k .pack .ensures .1 .0) (packed-kept _ (now (s .args .t)) _ (k .pack .result) (k .pack .ensures .0)
+    (k .pack .ensures .1 .1))
 
 pub on-bench-spec : {M : Type 1} → statement M
 on-bench-spec =

@@ -13,6 +13,7 @@ use Rattle.packed_session.specs.TableAnswers.{refusedOnTable}
 use Rattle.packed_session.specs.OnBenchLaws.{refused-told, answered-told}
 use Rattle.packed_session.specs.TableSettingsLaws.{settings-keep}
 use borrow.Author.Needs.{needs}
+use Rattle.packed_bench.specs.TableLaws.{packed-kept}
 use Rattle.packed_session.proofs.table_settings.write.Statement.{statement}
 use Rattle.packed_session.proofs.table_settings.write.Tie as tie
 
@@ -70,7 +71,8 @@ returns-2 c =
     (λ n. refusedOnTable n (Read (s .args .code))) (now (s .args .t)) (now (s .args .out)) (s .pre)
     (u .unpack .result) (u .unpack .ensures)
     (settings-keep (s .args .store) (s .args .code)) (e .if1 .left) (n .access .result) _ _ told left
-    (k .pack .ensures .1 .0) (k .pack .ensures .1 .1)
+    (k .pack .ensures .1 .0) (packed-kept _ (now (s .args .t)) _ (k .pack .result) (k .pack .ensures .0)
+    (k .pack .ensures .1 .1))
 
 pub write-spec : {M : Type 1} → statement M
 write-spec =

@@ -27,13 +27,9 @@ choose-requires c κs = search needs
 settle-requires : tie.Need-settle-requires
 settle-requires c κs = search needs
 
-of-records-requires : tie.Need-of-records-requires
-of-records-requires c κs = search needs
-
 returns : tie.Need-returns
 returns c =
-    let settle = c .before in
-    let choose = settle .before in
+    let choose = c .before in
     let if1 = choose .before in
     let outer = if1 .before in
     let inner = outer .before in
@@ -42,8 +38,7 @@ returns c =
     let records = count .before in
     let a = records .before .args in
     rw (
-      c .of-records .ensures,
-      settle .settle .ensures,
+      c .settle .ensures,
       choose .choose .ensures,
       look .look-over .ensures,
       count .count-of .ensures,
@@ -75,7 +70,6 @@ slots-at-spec =
     both-requires-2
     choose-requires
     settle-requires
-    of-records-requires
     returns
     by-slots-requires
     returns-2)
