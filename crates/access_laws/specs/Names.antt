@@ -5,6 +5,8 @@
 --     namesOf name n k             the names: n the codes on the bench, k those listed
 --     recorded recording o         the bytes of the recording that the search has written: as many as it tells
 --     NamesClaim                   the claim, for every history, with the premises of demand 3
+--     FramesClaim                  that the bytes that a search has written, refused or not, are read back as its
+--                                  frames, after every history
 use Prim.Native.Nat.{ℕ, _≤_}
 use mathlib.Core.Bool.{true}
 use mathlib.Core.List.{List, [], _∷_, map}
@@ -13,6 +15,8 @@ use lib.ListN.{length, take}
 use Rattle.basic_laws.specs.Each.{Each}
 use Rattle.commands.specs.Commands.{searchRom, alarmSearch}
 use Rattle.text.specs.Lines.{linesOf}
+use Rattle.frame.specs.ReadLine.{carries}
+use Rattle.frame.specs.Recording.{readAll}
 use Rattle.naming.specs.declared.Name.{Name}
 use Rattle.naming.specs.declared.Name.the-variants.{Empty, Search, Alarm, Nobody}
 use Rattle.naming.specs.declared.Named.{Named}
@@ -45,3 +49,16 @@ NamesClaim =
     (h : List Call) → Each Typed h → free (after h) ≡ true → (places : ℕ) (recording : List ℕ) → fewestPlaces ≤ places
     → fewestBytes ≤ length recording
     → RecordingNamed h places recording
+
+-- what a search by this command has recorded is read back as its frames
+abbrev pub ReadAs : ℕ → List Call → ℕ → List ℕ → Type 0
+ReadAs command h places recording =
+    let o = searchOutcome command (after h) places (length recording) in
+    readAll (recorded recording o) ≡ map carries (o .frames)
+
+pub record RecordingRead (h : List Call) (places : ℕ) (recording : List ℕ) : Type 0 where
+  pub search : ReadAs searchRom h places recording
+  pub alarm-search : ReadAs alarmSearch h places recording
+
+abbrev pub FramesClaim : Type 0
+FramesClaim = (h : List Call) → Each Typed h → (places : ℕ) (recording : List ℕ) → RecordingRead h places recording

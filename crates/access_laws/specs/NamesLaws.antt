@@ -1,19 +1,20 @@
--- The recording of a search, read back, names what was listed: `recording-named`. A pass shows its command and then
--- allowed triples, whose sent bits are the code (`PassShown`); those are the slots that the naming reads; and the lines
--- of a recording are read as the frames that were written (`read-back`).
+-- The recording of a search is read back as its frames: `recording-read`. It names what was listed: `recording-named`.
+-- A pass shows its command and then allowed triples, whose sent bits are the code (`PassShown`); those are the slots
+-- that the naming reads; and the lines of a recording are read as the frames that were written (`read-back`).
 --     Fits c     the bits of a sound code
 use Prim.Native.Nat.{ℕ, suc, _*_, _^_, _<_, _≤_}
-use mathlib.Core.Bool.{Bool, true, false}
+use mathlib.Core.Bool.{Bool, true, false, not, _||_}
+use Rattle.basic_laws.specs.Choice.{if_then_else_}
 use mathlib.Core.List.{List, [], _∷_, _++_, map}
 use mathlib.Core.Path.{_≡_, refl, sym, ap, _∙_}
 use native.Mathlib.Omega.{arith}
-use borrow.Author.Tests.{eqb-true, lt-ltb}
+use borrow.Author.Tests.{eqb-true, lt-ltb, ltb-false}
 use lib.Dec.{lit≤, ltb}
 use lib.ListN.{length, length-append, length-map}
 use Rattle.basic_laws.specs.Bits.{bitsOf, numberOf}
 use Rattle.basic_laws.specs.BitsLaws.{bits-length, number-bits}
 use Rattle.commands.specs.Commands.{searchRom, alarmSearch}
-use Rattle.refusals.specs.Refusals.{accepted}
+use Rattle.refusals.specs.Refusals.{accepted, noRoom, wireBusy}
 use Rattle.rom.specs.Code.{codeBits, codeRefusal, sound}
 use Rattle.frame.specs.declared.Frame.{Frame}
 use Rattle.frame.specs.Frames.{Recorded, blankFrame, mostSlots}
@@ -38,8 +39,8 @@ use Rattle.bench.specs.declared.Bench.{Bench}
 use Rattle.master_rules.specs.OnTheBench as bench
 use Rattle.master_rules.specs.OnTheBench.{flaggedCodes}
 use Rattle.bench.specs.Slot.{resetDone}
-use Rattle.master_rules.specs.Search.{fewestPlaces, fewestBytes, mostPasses, frameOf, foundOutcome, searchRun}
-use Rattle.master_rules.specs.Search.{searchOutcome, Outcome}
+use Rattle.master_rules.specs.Search.{fewestPlaces, fewestBytes, mostPasses, frameOf, refusedOutcome, lonelyOutcome}
+use Rattle.master_rules.specs.Search.{foundOutcome, searchRun, searchOutcome, Outcome}
 use Rattle.history_laws.specs.History.{after, added}
 use Rattle.history_laws.specs.Demand.{alarms}
 use Rattle.history_laws.specs.Corollaries.{bench-is-sound, codes-are-added}
@@ -48,11 +49,11 @@ use Rattle.master_rules.specs.SearchLaws.{passes-made, nobody-there}
 use Rattle.basic_laws.specs.LaidLaws.{laid-read}
 use Rattle.text.specs.Lines.{Line, linesOf}
 use Rattle.frame.specs.ReadLine.{carries, readLine}
-use Rattle.frame.specs.Recording.{writeAll, Writable, none, one}
+use Rattle.frame.specs.Recording.{readAll, writeAll, Writable, none, one}
 use Rattle.frame.specs.RecordingLaws.{read-back}
 use Rattle.search_laws.specs.Wire.{Search as SearchBy}
 use Rattle.master_rules.specs.Buses.{slotRule}
-use Rattle.access_laws.specs.Names.{namesOf, recorded, NamesClaim}
+use Rattle.access_laws.specs.Names.{namesOf, recorded, NamesClaim, FramesClaim}
 
 pub record Fits (c : Code) : Type 0 where
   pub long : length c ≡ 64
@@ -131,11 +132,19 @@ lines-named : (ls : List Line) → map lineNamed ls ≡ map readNamed (map readL
 lines-named [] = refl
 lines-named (l ∷ ls) = let i = lines-named ls in rw i
 
+recorded-text : (recording : List ℕ) (o : Outcome) → recorded recording o ≡ writeAll (o .frames)
+recorded-text recording o = laid-read recording 0 (writeAll (o .frames)) (omega arith)
+
+-- what a search has written is read back as its frames
+recorded-read : (recording : List ℕ) (o : Outcome) → Writable (o .frames)
+    → readAll (recorded recording o) ≡ map carries (o .frames)
+recorded-read recording o w = ap readAll (recorded-text recording o) ∙ read-back w
+
 -- what a search has written is named as its frames are
 recorded-named : (recording : List ℕ) (o : Outcome) → Writable (o .frames)
     → map lineNamed (linesOf (recorded recording o)) ≡ map named (o .frames)
 recorded-named recording o w =
-    let s : recorded recording o ≡ writeAll (o .frames) = laid-read recording 0 (writeAll (o .frames)) (omega arith) in
+    let s = recorded-text recording o in
     ap (λ x. map lineNamed (linesOf x)) s ∙ lines-named (linesOf (writeAll (o .frames)))
     ∙ ap (map readNamed) (read-back w) ∙ named-each (o .frames)
 
@@ -270,4 +279,42 @@ recording-named h t f places recording p q =
           (searched .writable) ∙ searched .names-are;
       alarm-search = recorded-named recording (searchOutcome alarmSearch (after h) places (length recording))
           (alarmed .writable) ∙ alarmed .names-are;
+    }
+
+-- ## Read back, whatever came of the search
+
+-- a search is refused, or has room on a free wire
+outcome-cases : (command : ℕ) (b : Bench) (places room : ℕ) (P : Outcome → Type 0) → P (refusedOutcome noRoom b)
+    → P (refusedOutcome wireBusy b)
+    → (fewestPlaces ≤ places → fewestBytes ≤ room → free b ≡ true → P (searchOutcome command b places room))
+    → P (searchOutcome command b places room)
+unfolding searchOutcome
+outcome-cases command b places room P short busy made =
+    by-tests (ltb places fewestPlaces) refl (ltb room fewestBytes) refl (free b) refl (λ p q f. made p q f)
+  where
+    by-tests : (t : Bool) → ltb places fewestPlaces ≡ t → (u : Bool) → ltb room fewestBytes ≡ u → (v : Bool)
+        → free b ≡ v
+        → (let o : Outcome = if t || u then refusedOutcome noRoom b else if not v then refusedOutcome wireBusy b
+        else if not (resetDone b .presence) then lonelyOutcome (resetDone b .bench)
+        else foundOutcome (searchRun command b) in
+        (fewestPlaces ≤ places → fewestBytes ≤ room → free b ≡ true → P o) → P o)
+    by-tests true d u e v f m = short
+    by-tests false d true e v f m = short
+    by-tests false d false e false f m = busy
+    by-tests false d false e true f m = m (ltb-false places fewestPlaces d) (ltb-false room fewestBytes e) f
+
+pub recording-read : FramesClaim
+recording-read h t places recording =
+    let s = bench-is-sound h t in
+    let l = codes-fit h t in
+    let are = codes-are-added h t in
+    let room = length recording in
+    record {
+      search = recorded-read recording (searchOutcome searchRom (after h) places room)
+          (outcome-cases searchRom (after h) places room (λ o. Writable (o .frames)) none none
+          (λ p q f. search-reads (after h) s f l places room p q (added h) are .writable));
+      alarm-search = recorded-read recording (searchOutcome alarmSearch (after h) places room)
+          (outcome-cases alarmSearch (after h) places room (λ o. Writable (o .frames)) none none
+          (λ p q f. alarm-reads (after h) s f l places room p q (added h) (alarms h) are
+          (flagged-are-alarms h t) .writable));
     }
