@@ -1,4 +1,5 @@
 -- Too few bytes stay as they are, and so do all where the records make no bench; else the table is written.
+use Prim.Native.Nat.{ℕ}
 use mathlib.Core.List.{List}
 use mathlib.Core.Path.{_≡_, _∙_, sym, ap}
 use native.Mathlib.Omega.{arith}
@@ -31,14 +32,18 @@ count-of-requires c κs = search needs
 of-records-requires : tie.Need-of-records-requires
 of-records-requires c κs = search needs
 
--- the refusal is that of the bench's own records
+-- the records that are judged are those of the bench
 module _ (c : tie.After-of-records) where
   judged : c .of-records .result .refusal ≡ (let b = c .before .before .before .before .before .args .bench in
       madeOf (b .devices) (b .count) .refusal)
   judged =
       let n = c .before in
       let r = n .before in
-      ap (λ (m : Made). m .refusal) (c .of-records .ensures) ∙ rw (n .count-of .ensures, r .records-of .ensures)
+      let b = c .before .before .before .before .before .args .bench in
+      let own : madeOf (r .records-of .result) (n .count-of .result) ≡ madeOf (b .devices) (b .count) =
+      ap (λ (k : ℕ). madeOf (r .records-of .result) k) (n .count-of .ensures)
+      ∙ ap (λ (ds : List Device). madeOf ds (b .count)) (r .records-of .ensures) in
+      ap (λ (m : Made). m .refusal) (c .of-records .ensures ∙ own)
 
 returns-2 : tie.Need-returns-2
 returns-2 c =
