@@ -4,6 +4,7 @@
 --     LeastShared pins s     s is the least pin number that two have, or none where no two have one
 --     PinsRight b s o        what the call came to, o, on a bench b whose search comes to s
 --     PinsClaim              that, after every history
+--     PinsPromise            and on a bench to which any history leads
 -- Which codes a search lists, and in which order, is demand 3's.
 use Prim.Native.Nat.{ℕ, _<_, _≤_}
 use mathlib.Core.Bool.{true}
@@ -56,3 +57,7 @@ pub record PinsRight (b : Bench) (s : Outcome) (o : PinsOutcome) : Type 0 where
 abbrev pub PinsClaim : Type 0
 PinsClaim = (h : List Call) → Each Typed h → free (after h) ≡ true → (places : ℕ) → fewestPlaces ≤ places
     → PinsRight (after h) (searchOutcome searchRom (after h) fewestPlaces fewestBytes) (pinsOutcome (after h) places)
+
+abbrev pub PinsPromise : Bench → ℕ → Type 0
+PinsPromise b places = (h : List Call) → Each Typed h → after h ≡ b → free b ≡ true → fewestPlaces ≤ places
+    → PinsRight b (searchOutcome searchRom b fewestPlaces fewestBytes) (pinsOutcome b places)

@@ -56,7 +56,7 @@ use Rattle.history_laws.specs.Kept.{read-keeps, outcome-keeps}
 use Rattle.history_laws.specs.Theorem.{demand-3}
 use Rattle.access_laws.specs.Bytewise.{Readable, readable-after, readable-slot, readable-reset}
 use Rattle.access_laws.specs.Lasting.{lasts-after}
-use Rattle.access_laws.specs.Pinning.{pinsAtPlace, pinsAt, readOn, LeastShared, PinsClaim}
+use Rattle.access_laws.specs.Pinning.{pinsAtPlace, pinsAt, readOn, LeastShared, PinsClaim, PinsPromise}
 use Rattle.access_laws.specs.ReadLaws.{pad-sound, read-answered}
 use Rattle.access_laws.specs.Shown.{answeredWith}
 use Rattle.access_laws.specs.SearchLaws.{search-kept}
@@ -315,6 +315,9 @@ pins-claim h t f places wide =
       bench-is = refl;
       devices-kept = r .same-after .kept;
     }
+
+pub pins-promised : (b : Bench) (places : ℕ) → PinsPromise b places
+pins-promised b places h t e f wide = rw (← e) (pins-claim h t (rw (← e) at f) places wide)
 
 -- refused or not, the call changes nothing but stages
 pub pins-kept : (h : List Call) → Each Typed h → (places : ℕ)

@@ -8,6 +8,7 @@ ghost use Rattle.master_rules.specs.Pins.{isPinned, havePin, sharedPin, pinsSte
 ghost use Rattle.master_rules.specs.Pins.{pinsSearched, pinsOutcome, pinnedOf, pinsListAfter};
 ghost use Rattle.commands.specs.Commands.{searchRom};
 ghost use Rattle.master_rules.specs.Search.{searchOutcome};
+ghost use Rattle.access_laws.specs.Pinning.{PinsPromise};
 ghost use Rattle.pins.specs.Reading.{Holds, countedPin};
 use bench::Bench;
 use master_rules::Pinned;
@@ -184,6 +185,7 @@ pub fn read_pins(bench: Bench, list: &mut [u64]) -> Pinned
     ensures answer { λ r. ⌜ r ≡ pinnedOf (pinsOutcome bench (length (now (list .entry)))) ⌝ }
     ensures listed { λ r. ⌜ now (list .exit) ≡ pinsListAfter (now (list .entry))
         (pinsOutcome bench (length (now (list .entry)))) ⌝ }
+    ensures history { λ r. ⌜ PinsPromise bench (length (now (list .entry))) ⌝ }
 {
     if list.len() < FEWEST_PLACES {
         return refuse(refusals::NO_ROOM, bench);

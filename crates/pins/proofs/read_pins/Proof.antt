@@ -1,7 +1,9 @@
--- Without room the refusal; with room the search and its reads.
+-- Without room the refusal; with room the search and its reads. What the call comes to after every history is the claim
+-- of `access_laws`.
 use denote.Ref.{now}
 use lib.ListN.{length}
 use Rattle.basic_laws.specs.LaidLaws.{laid-none}
+use Rattle.access_laws.specs.PinningLaws.{pins-promised}
 use Rattle.pins.specs.OutcomeLaws.{few-places, enough-places}
 use borrow.Author.Needs.{needs}
 use Rattle.pins.proofs.read_pins.Statement.{statement}
@@ -13,10 +15,8 @@ refuse-requires c κs = search needs
 returns : tie.Need-returns
 returns c =
     let a = c .before .before .before .args in
-    rw (few-places (a .bench) (length (now (a .list))) (c .before .if1 .taken)) (
-      c .refuse .ensures,
-      laid-none (now (a .list)) 0,
-    )
+    let few = few-places (a .bench) (length (now (a .list))) (c .before .if1 .taken) in
+    (rw few (c .refuse .ensures), (rw few (laid-none (now (a .list)) 0), pins-promised _ _))
 
 slice-aggregate-search-and-read : tie.Need-slice-aggregate-search-and-read
 slice-aggregate-search-and-read c = search needs
@@ -35,7 +35,8 @@ returns-2 c =
     let else = c .before .before .before .before .before .before .before .before in
     let a = else .before .before .args in
     let done = c .before .before .before .before .search-and-read .ensures in
-    rw (enough-places (a .bench) (length (now (a .list))) (else .if1 .left)) (done .0, done .1)
+    let enough = enough-places (a .bench) (length (now (a .list))) (else .if1 .left) in
+    (rw enough (done .0), (rw enough (done .1), pins-promised _ _))
 
 pub read-pins-spec : {M : Type 1} → statement M
 read-pins-spec =

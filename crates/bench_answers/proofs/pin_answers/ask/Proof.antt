@@ -21,7 +21,7 @@ slice-reshare-prefix-say c =
     let read = c .before .before .before .before .before .before in
     let a = read .before .before .before .before .args in
     codes-within (a .bench) (now (a .list)) (read .read-pins .last .1 .0) (read .read-pins .result)
-    (read .read-pins .ensures .0) (read .read-pins .ensures .1)
+    (read .read-pins .ensures .0) (read .read-pins .ensures .1 .0)
 
 slice-aggregate-say : tie.Need-slice-aggregate-say
 slice-aggregate-say c =
@@ -29,7 +29,7 @@ slice-aggregate-say c =
     let a = read .before .before .before .before .args in
     sym (length-take-le (read .read-pins .result .codes) (read .read-pins .last .1 .0)
     (codes-within (a .bench) (now (a .list)) (read .read-pins .last .1 .0) (read .read-pins .result)
-    (read .read-pins .ensures .0) (read .read-pins .ensures .1)))
+    (read .read-pins .ensures .0) (read .read-pins .ensures .1 .0)))
 
 slice-aggregate-say-2 : tie.Need-slice-aggregate-say-2
 slice-aggregate-say-2 c =
@@ -37,18 +37,18 @@ slice-aggregate-say-2 c =
     let a = read .before .before .before .before .args in
     sym (length-take-le (read .read-pins .result .codes) (read .read-pins .result .pins)
     (pins-within (a .bench) (now (a .list)) (read .read-pins .last .1 .0) (read .read-pins .result)
-    (read .read-pins .ensures .0) (read .read-pins .ensures .1)))
+    (read .read-pins .ensures .0) (read .read-pins .ensures .1 .0)))
 
 say-requires : tie.Need-say-requires
 say-requires c κs =
     let read = c .before .before .before .before .before .before .before .before .before in
     let a = read .before .before .before .before .args in
     let few = asked-few (a .bench) (now (a .list)) (read .read-pins .last .1 .0) (read .read-pins .result)
-    (read .read-pins .ensures .0) (read .read-pins .ensures .1) in (
+    (read .read-pins .ensures .0) (read .read-pins .ensures .1 .0) in (
       few .0,
       few .1,
       asked-short (a .bench) (now (a .list)) (read .read-pins .last .1 .0) (read .read-pins .result)
-          (read .read-pins .ensures .0) (read .read-pins .ensures .1) (search needs),
+          (read .read-pins .ensures .0) (read .read-pins .ensures .1 .0) (search needs),
       read .before .before .before .before .pre,
     )
 
@@ -64,7 +64,7 @@ returns c =
     let a = read .before .before .before .before .args in
     let say = c .before .before .say in
     says-asked (a .bench) (now (a .list)) (read .read-pins .last .1 .0) (read .read-pins .result)
-    (read .read-pins .ensures .0) (read .read-pins .ensures .1) (now (a .out)) (say .last .1 .1 .1 .1 .1 .0)
+    (read .read-pins .ensures .0) (read .read-pins .ensures .1 .0) (now (a .out)) (say .last .1 .1 .1 .1 .1 .0)
     (say .result) (say .ensures)
 
 pub ask-spec : {M : Type 1} → statement M
