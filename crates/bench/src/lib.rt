@@ -1,18 +1,19 @@
 // A bench of up to 32 thermometers on one wire. The bench goes in by value and comes back in the
 // answer; its fields are private, so that only these calls make or change one. `of_records` makes one of
 // records that were kept elsewhere, where a table can hold them.
-mod records;
 pub mod settling;
 pub mod wire;
 
-ghost use Prim.Native.Nat.{_<_};
+ghost use Prim.Native.Nat.{_<_, _≤_};
 ghost use mathlib.Core.Bool.{_&&_};
+ghost use mathlib.Core.List.{_++_};
 ghost use mathlib.Core.Path.{_≡_};
+ghost use lib.ListN.{take, drop};
 ghost use Rattle.refusals.specs.Refusals.{notATable};
 ghost use Rattle.device.specs.Offer.{offerOf};
 ghost use Rattle.bench.specs.Bench.{vacant, emptyBench, placeOf, free};
 ghost use Rattle.bench.specs.Slot.{slotted, resetDone};
-ghost use Rattle.bench.specs.Records.{madeOf};
+ghost use Rattle.bench.specs.Records.{absent, codesFit, madeOf};
 ghost use Rattle.bench.specs.Settling.{settledBench};
 ghost use Rattle.bench.specs.Calls.{putLast, addedTo, deviceAt, putBack, conversionFinished, copyFinished};
 ghost use Rattle.bench.specs.Calls.{powerCycled, looked};
@@ -353,6 +354,58 @@ pub fn count_of(bench: Bench) -> u8
     bench.count
 }
 
+// Whether no device from a place on has this code.
+fn is_absent(devices: Devices, count: usize, from: usize, code: u64) -> bool
+    requires { ⌜ count ≤ 32 ⌝ }
+    ensures answer { λ r. ⌜ r ≡ absent code (drop from (take count devices)) ⌝ }
+{
+    let mut i = from;
+    while i < count {
+        let d = devices[i];
+        let own = d.code;
+        if own == code {
+            return false;
+        }
+        i += 1;
+    }
+    true
+}
+
+// Whether each code is sound, and no two are the same.
+fn codes_fit(devices: Devices, count: usize) -> bool
+    requires { ⌜ count ≤ 32 ⌝ }
+    ensures answer { λ r. ⌜ r ≡ codesFit (take count devices) ⌝ }
+{
+    let mut i: usize = 0;
+    while i < count {
+        let d = devices[i];
+        let code = d.code;
+        let refusal = rom::refusal_of(code);
+        if refusal != refusals::ACCEPTED {
+            return false;
+        }
+        if !is_absent(devices, count, i + 1, code) {
+            return false;
+        }
+        i += 1;
+    }
+    true
+}
+
+// The first records of a table, in the first places of another.
+fn over(places: Devices, devices: Devices, count: usize) -> Devices
+    requires { ⌜ count ≤ 32 ⌝ }
+    ensures answer { λ r. ⌜ r ≡ take count devices ++ drop count places ⌝ }
+{
+    let mut next = places;
+    let mut i: usize = 0;
+    while i < count {
+        next[i] = devices[i];
+        i += 1;
+    }
+    next
+}
+
 fn no_bench() -> Made
     ensures answer { λ r. ⌜ r ≡ record { refusal = notATable; bench = emptyBench } ⌝ }
 {
@@ -371,7 +424,7 @@ pub fn of_records(devices: Devices, count: u8) -> Made
     if wire::PLACES < taken {
         return no_bench();
     }
-    let fit = records::codes_fit(devices, taken);
+    let fit = codes_fit(devices, taken);
     if !fit {
         return no_bench();
     }
@@ -380,7 +433,7 @@ pub fn of_records(devices: Devices, count: u8) -> Made
     Made {
         refusal: refusals::ACCEPTED,
         bench: Bench {
-            devices: records::over(places, devices, taken),
+            devices: over(places, devices, taken),
             count,
         },
     }

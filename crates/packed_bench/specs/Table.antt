@@ -58,6 +58,13 @@ holds t ds = same (tableOf 32 ds) (take tableBytes t) && codesFit ds
 abbrev pub isTable : List ℕ → Bool
 isTable t = holds t (devicesIn 32 t)
 
+-- the records in bytes, none where they are too few for a table; and the bytes with these records in front
+abbrev pub recordsIn : List ℕ → List Device
+recordsIn t = if ltb (length t) tableBytes then [] else devicesIn 32 t
+
+abbrev pub writtenOver : List ℕ → List Device → List ℕ
+writtenOver t ds = if ltb (length t) tableBytes then t else laid t 0 (tableOf 32 ds)
+
 -- ## The bench
 
 abbrev pub notUnpacked : ℕ → Unpacked

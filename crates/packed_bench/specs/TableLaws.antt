@@ -38,8 +38,16 @@ use Rattle.bench.specs.declared.Bench.{Bench}
 use Rattle.bench.specs.declared.Made.{Made}
 use Rattle.packed_bench.specs.declared.table.Unpacked.{Unpacked}
 use Rattle.packed_bench.specs.Table.{tableBytes, entryBytes, tableOf, inUse, devicesIn, isTable, notUnpacked}
-use Rattle.packed_bench.specs.Table.{held, unpacked, packRefusal, packedInto}
+use Rattle.packed_bench.specs.Table.{recordsIn, writtenOver, held, unpacked, packRefusal, packedInto}
 use Rattle.packed_bench.specs.Tabled.{Tabled}
+
+-- ## Bytes that are enough for a table
+
+pub records-in : (t : List ℕ) → tableBytes ≤ length t → recordsIn t ≡ devicesIn 32 t
+records-in t enough = rw (le-ltb (length t) tableBytes enough)
+
+pub written-over : (t : List ℕ) (ds : List Device) → tableBytes ≤ length t → writtenOver t ds ≡ laid t 0 (tableOf 32 ds)
+written-over t ds enough = rw (le-ltb (length t) tableBytes enough)
 
 -- ## An unused entry: nothing is read from it on
 

@@ -7,7 +7,9 @@ ghost use Rattle.basic_laws.specs.Laid.{laid};
 ghost use Rattle.bench.specs.Bench.{vacant};
 ghost use Rattle.packed_bench.specs.Types.{InTypes};
 ghost use Rattle.packed_bench.specs.Table.{tableBytes, entryBytes, tableOf, devicesIn};
+ghost use Rattle.packed_bench.specs.Table.{writtenOver, recordsIn};
 use crate::packing;
+use crate::table::TABLE_BYTES;
 use bench::wire::Devices;
 use device::Device;
 
@@ -56,7 +58,7 @@ fn entry_of(devices: Devices, count: usize, place: usize) -> [u8; 48]
 }
 
 // The table of the first records at the front of what is lent; all behind it stays.
-pub fn write(devices: Devices, count: u8, t: &mut [u8])
+fn write_entries(devices: Devices, count: u8, t: &mut [u8])
     requires { ⌜ tableBytes ≤ length (now t) ⌝ }
     ensures written { λ r. ⌜ now (t .exit) ≡ laid (now (t .entry)) 0 (tableOf 32 (take count devices)) ⌝ }
     ensures typed { λ r. ⌜ Each InTypes (take count devices) ⌝ }
@@ -69,8 +71,19 @@ pub fn write(devices: Devices, count: u8, t: &mut [u8])
     }
 }
 
+// The same, and nothing where the bytes are too few for a table.
+pub fn write(devices: Devices, count: u8, t: &mut [u8])
+    ensures written { λ r. ⌜ now (t .exit) ≡ writtenOver (now (t .entry)) (take count devices) ⌝ }
+    ensures typed { λ r. ⌜ (tableBytes ≤ length (now (t .entry)) → Each InTypes (take count devices)) ⌝ }
+{
+    if t.len() < TABLE_BYTES {
+        return;
+    }
+    write_entries(devices, count, t);
+}
+
 // Whatever the bytes are.
-pub fn read(t: &[u8]) -> Found
+fn read_entries(t: &[u8]) -> Found
     requires { ⌜ tableBytes ≤ length (now t) ⌝ }
     ensures answer { λ r. ⌜ take (r .count) (r .devices) ≡ devicesIn 32 (now (t .entry)) ⌝ }
     ensures few { λ r. ⌜ r .count ≤ 32 ⌝ }
@@ -90,4 +103,18 @@ pub fn read(t: &[u8]) -> Found
         i += 1;
     }
     Found { devices, count: 32 }
+}
+
+// The same, and none where the bytes are too few for a table.
+pub fn read(t: &[u8]) -> Found
+    ensures answer { λ r. ⌜ take (r .count) (r .devices) ≡ recordsIn (now (t .entry)) ⌝ }
+    ensures few { λ r. ⌜ r .count ≤ 32 ⌝ }
+{
+    if t.len() < TABLE_BYTES {
+        return Found {
+            devices: bench::records_of(bench::new()),
+            count: 0,
+        };
+    }
+    read_entries(t)
 }

@@ -3,6 +3,7 @@ use mathlib.Core.Path.{_∙_, ap}
 use borrow.Author.Needs.{needs}
 use denote.Ref.{now}
 use Rattle.basic_laws.specs.Each.{Each}
+use Rattle.packed_bench.specs.TableLaws.{written-over}
 use Rattle.packed_bench.proofs.calls.store.Statement.{statement}
 use Rattle.packed_bench.proofs.calls.store.Tie as tie
 
@@ -23,7 +24,10 @@ returns c =
     let w = c .before .before in
     let n = w .before .before in
     let r = n .before in
-    rw (← n .count-of .ensures, ← r .records-of .ensures) (w .write .ensures .0, w .write .ensures .1)
+    rw (← n .count-of .ensures, ← r .records-of .ensures) (
+      w .write .ensures .0 ∙ written-over _ _ (r .before .before .pre),
+      w .write .ensures .1 (r .before .before .pre),
+    )
 
 pub store-spec : {M : Type 1} → statement M
 store-spec =

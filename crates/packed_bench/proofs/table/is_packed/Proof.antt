@@ -1,12 +1,16 @@
 -- The bytes written again are the definition's, over zeros as long as a table; the test is the definition's too.
+use Prim.Native.Nat.{ℕ, _≤_}
+use mathlib.Core.List.{List}
 use mathlib.Core.Path.{_∙_, ap, refl}
 use borrow.Author.Needs.{needs}
 use denote.Ref.{now}
-use lib.ListN.{take}
+use lib.Dec.{lit≤}
+use lib.ListN.{length, take, replicate, length-replicate}
 use lib.Seq.{length-take-le}
 use Rattle.basic_laws.specs.Same.{same}
 use Rattle.packed_bench.specs.Table.{tableBytes}
 use Rattle.packed_bench.specs.LoopLaws.{laid-whole}
+use Rattle.packed_bench.specs.TableLaws.{written-over}
 use Rattle.packed_bench.proofs.table.is_packed.Statement.{statement}
 use Rattle.packed_bench.proofs.table.is_packed.Tie as tie
 
@@ -29,8 +33,10 @@ returns : tie.Need-returns
 returns c =
     let w = c .before .before .before .before in
     let s = w .before .before .before .before in
+    let zeros : List ℕ = replicate tableBytes 0 in
+    let enough : tableBytes ≤ length zeros = rw (length-replicate {A = ℕ} tableBytes 0) (lit≤ tt) in
     c .same .ensures ∙ ap (λ l. same l (take tableBytes (now (s .args .t)))) (w .write .ensures .0
-    ∙ laid-whole _ _ refl)
+    ∙ written-over zeros _ enough ∙ laid-whole zeros _ refl)
 
 pub is-packed-spec : {M : Type 1} → statement M
 is-packed-spec =

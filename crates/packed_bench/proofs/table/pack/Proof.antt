@@ -13,7 +13,7 @@ use Rattle.bench.specs.Bench.{live}
 use Rattle.bench.specs.Records.{madeOf}
 use Rattle.bench.specs.declared.Made.{Made}
 use Rattle.packed_bench.specs.Table.{tableOf, unpacked}
-use Rattle.packed_bench.specs.TableLaws.{pack-short, pack-refused, pack-done, packed-back}
+use Rattle.packed_bench.specs.TableLaws.{written-over, pack-short, pack-refused, pack-done, packed-back}
 use Rattle.packed_bench.proofs.table.pack.Statement.{statement}
 use Rattle.packed_bench.proofs.table.pack.Tie as tie
 
@@ -71,8 +71,8 @@ returns-3 c =
     let long = r .before .if1 .left in
     let are : take (n .count-of .result) (r .records-of .result) ≡ live (a .bench) =
     rw (n .count-of .ensures, r .records-of .ensures) in
-    let wrote = w .write .ensures .0 ∙ ap (λ (ds : List Device). laid t 0 (tableOf 32 ds)) are in
-    let typed = rw are at (w .write .ensures .1) in
+    let wrote = w .write .ensures .0 ∙ written-over t _ long ∙ ap (λ (ds : List Device). laid t 0 (tableOf 32 ds)) are in
+    let typed = rw are at (w .write .ensures .1 long) in
     let e = pack-done (a .bench) t long (o .of-records .result .refusal) (judged o) (ok .if2 .left) in (
       e .0,
       (

@@ -3,7 +3,7 @@ use mathlib.Core.Path.{_∙_, sym}
 use borrow.Author.Needs.{needs}
 use borrow.Author.Tests.{not-true, not-false}
 use denote.Ref.{now}
-use Rattle.packed_bench.specs.TableLaws.{unpack-short, unpack-other, unpack-made}
+use Rattle.packed_bench.specs.TableLaws.{records-in, unpack-short, unpack-other, unpack-made}
 use Rattle.packed_bench.proofs.table.unpack.Statement.{statement}
 use Rattle.packed_bench.proofs.table.unpack.Tie as tie
 
@@ -31,7 +31,8 @@ returns-2 c =
     let t = now (r .before .before .before .args .t) in
     let f = r .read .result in
     c .refuse2 .ensures
-    ∙ unpack-other t (r .before .if1 .left) (f .devices) (f .count) (r .read .ensures .0) (sym (k .is-packed .ensures)
+    ∙ unpack-other t (r .before .if1 .left) (f .devices) (f .count)
+    (r .read .ensures .0 ∙ records-in t (r .before .if1 .left)) (sym (k .is-packed .ensures)
     ∙ not-true (k .is-packed .result) (c .before .if2 .taken))
 
 of-records-requires : tie.Need-of-records-requires
@@ -44,7 +45,8 @@ returns-3 c =
     let r = k .before in
     let t = now (r .before .before .before .args .t) in
     let f = r .read .result in
-    unpack-made t (r .before .if1 .left) (f .devices) (f .count) (r .read .ensures .0) (r .read .ensures .1)
+    unpack-made t (r .before .if1 .left) (f .devices) (f .count)
+    (r .read .ensures .0 ∙ records-in t (r .before .if1 .left)) (r .read .ensures .1)
     (sym (k .is-packed .ensures) ∙ not-false (k .is-packed .result) (e .if2 .left)) (c .before .of-records .result)
     (c .before .of-records .ensures)
 

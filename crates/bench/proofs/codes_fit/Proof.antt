@@ -11,8 +11,8 @@ use Rattle.refusals.specs.Refusals.{accepted}
 use Rattle.rom.specs.Code.{sound}
 use Rattle.bench.specs.Records.{absent, codesFit}
 use Rattle.bench.specs.RecordsLaws.{codes-unsound, codes-twice, codes-onward, codes-end}
-use Rattle.bench.proofs.records.codes_fit.Statement.{statement}
-use Rattle.bench.proofs.records.codes_fit.Tie as tie
+use Rattle.bench.proofs.codes_fit.Statement.{statement}
+use Rattle.bench.proofs.codes_fit.Tie as tie
 
 abbrev Inv-loop : tie.InvT-loop
 Inv-loop count devices i₀ i = codesFit (drop i (take count devices)) ≡ codesFit (take count devices)

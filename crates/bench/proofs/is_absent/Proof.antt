@@ -10,8 +10,8 @@ use lib.ListN.{length, length-take, take, drop}
 use lib.Seq.{getD-take}
 use Rattle.basic_laws.specs.FoldLaws.{all-passes, all-fails, all-end}
 use Rattle.bench.specs.Records.{absent}
-use Rattle.bench.proofs.records.is_absent.Statement.{statement}
-use Rattle.bench.proofs.records.is_absent.Tie as tie
+use Rattle.bench.proofs.is_absent.Statement.{statement}
+use Rattle.bench.proofs.is_absent.Tie as tie
 
 abbrev Inv-loop : tie.InvT-loop
 Inv-loop count from code devices i₀ i = absent code (drop i (take count devices))

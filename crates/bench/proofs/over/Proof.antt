@@ -6,8 +6,8 @@ use native.Mathlib.Omega.{arith}
 use borrow.Author.Needs.{needs}
 use lib.ListN.{length, take, drop, set}
 use Rattle.bench.specs.RecordsLaws.{over-more}
-use Rattle.bench.proofs.records.over.Statement.{statement}
-use Rattle.bench.proofs.records.over.Tie as tie
+use Rattle.bench.proofs.over.Statement.{statement}
+use Rattle.bench.proofs.over.Tie as tie
 
 abbrev Inv-loop : tie.InvT-loop
 Inv-loop count devices next₀ i₀ next i = (i ≤ count) × (next ≡ take i devices ++ drop i next₀)
