@@ -1,19 +1,21 @@
 // Mends a recording that went through an editor: reads it from standard input, and writes what is left of
 // it to standard output, and to standard error the number of each line that was not kept with the report
 // on it. It only moves bytes; what becomes of a line is decided by the libraries.
-ghost use Prim.Native.Nat.{_≤_};
+ghost use Prim.Native.Nat.{_+_, _-_, _*_, _%_, _^_, _<_, _≤_};
 ghost use mathlib.Core.Path.{_≡_};
+ghost use mathlib.Core.List.{_++_};
 ghost use lib.ListN.{length, take};
-ghost use Rattle.pieces.specs.Pieces.{Stepped, Ran, Sayable};
-ghost use Rattle.mending.specs.Mending.{mendedBytes};
-ghost use Rattle.mending.specs.Claims.{mostHeldOfMending};
-ghost use Rattle.mending.specs.MendingText.{pieceAnswer, pieceKept};
-ghost use Rattle.mending.specs.Notice.{noticesAnswer, Tellable};
+ghost use Rattle.pieces.specs.Carried.{carriedIn, mostCarried, behind};
+ghost use Rattle.pieces.specs.Pieces.{saidWhole, carried};
+ghost use Rattle.mending.specs.Mending.{mendedBytes, mendedText, reports};
+ghost use Rattle.mending.specs.Claims.{mostHeldOfMending, reportSaid};
+ghost use Rattle.mending.specs.Notice.{noticesOf, linesAfter, mostTold, RoomToMend};
 use libc::STDERR_FILENO;
 use libc::STDIN_FILENO;
 use libc::STDOUT_FILENO;
 use mending::answers;
 use mending::texts;
+use pieces::Carried;
 
 // 4 KiB of a recording, behind what is carried over from before. What is left of a piece, and the report
 // on its lines, take no more.
@@ -22,12 +24,13 @@ const PIECE: usize = 4353;
 // What is told of the lines of a piece takes at most 25 bytes for each of its bytes.
 const TOLD: usize = 108825;
 
-// What came of a piece: whether to go on, how many bytes are carried over, and how many lines there were
-// so far.
-struct Piece {
-    more: bool,
-    held: usize,
+// A run so far: what is carried over, how many lines there were, how many bytes the last read brought, and
+// how many reads may follow.
+struct Run {
+    carried: Carried,
     lines: u64,
+    came: usize,
+    reads: u64,
 }
 
 // Reads once, behind the bytes that are carried over, and answers how many bytes there are now.
@@ -40,121 +43,127 @@ fn read_behind(buffer: &mut [u8], held: usize) -> usize
     held + io::count(got, &buffer[held..])
 }
 
-// Hands on what is left of a piece, or of what was carried to the end.
-fn write_left(left: &[u8]) -> bool
-    requires { ⌜ Sayable mendedBytes (now left) ⌝ }
+// Hands on what is left of the lines of a piece that have their feed.
+fn write_left(piece: &[u8], left: &[u8]) -> bool
+    requires { ⌜ now left ≡ saidWhole mendedBytes (now piece) ⌝ }
 {
     io::write_all(STDOUT_FILENO, left)
 }
 
-// Hands on what is told of lines by their reports, behind so many lines before.
-fn write_told(told: &[u8], report: &[u8], before: u64)
-    requires { ⌜ Tellable before (now report) (now told) ⌝ }
+// Hands on what is told of them, behind so many lines before.
+fn write_told(piece: &[u8], before: u64, told: &[u8])
+    requires { ⌜ now told ≡ noticesOf before (saidWhole reportSaid (now piece)) ⌝ }
 {
     io::write_all(STDERR_FILENO, told);
 }
 
-// Tells of each line by its report; the answer is how many lines there are now.
-fn tell_by(report: &[u8], before: u64, told: &mut [u8]) -> u64
-    ensures answer { λ r. ⌜ r ≡ noticesAnswer before (now (report .entry)) (now (told .entry)) .lines ⌝ }
+// The same of what was carried to the end of the input.
+fn write_last(carried: Carried, before: u64, left: &[u8], told: &[u8])
+    requires { ⌜ (now left ≡ mendedText (carriedIn carried))
+        × (now told ≡ noticesOf before (reports (carriedIn carried))) ⌝ }
+{
+    io::write_all(STDERR_FILENO, told);
+    io::write_all(STDOUT_FILENO, left);
+}
+
+// Tells of the lines of a piece by their reports; the answer is how many lines there are now.
+fn tell_piece(piece: &[u8], report: &[u8], before: u64, told: &mut [u8]) -> u64
+    requires { ⌜ (now report ≡ saidWhole reportSaid (now piece))
+        × (mostTold * length (now report) ≤ length (now told)) ⌝ }
+    ensures answer { λ r. ⌜ r ≡ linesAfter before (saidWhole reportSaid (now (piece .entry))) ⌝ }
 {
     let noticed = answers::notices(told, report, before);
     let end = noticed.written;
-    write_told(&told[..end], report, before);
+    write_told(piece, before, &told[..end]);
     noticed.lines
 }
 
-fn tell_lines(report: &[u8], before: u64) -> u64 {
-    let mut told = [0u8; TOLD];
-    tell_by(report, before, &mut told)
-}
-
-// Mends the lines that have their feed.
-fn mend_piece(bytes: &mut [u8], left: &mut [u8], report: &mut [u8], lines: u64) -> Piece
-    ensures answer { λ r. ⌜ (r .held ≡ pieceAnswer (now (bytes .entry)) (now (left .entry)) (now (report .entry)) .held)
-        × (r .held ≤ length (now (bytes .entry))) ⌝ }
-    ensures kept { λ r. ⌜ now (bytes .exit) ≡ pieceKept (now (bytes .entry)) (now (left .entry))
-        (now (report .entry)) ⌝ }
-{
-    let fed = texts::feed(bytes, left, report);
-    let end = fed.written;
-    let count = fed.lines;
-    let told = tell_lines(&report[..count], lines);
-    Piece {
-        more: write_left(&left[..end]),
-        held: fed.held,
-        lines: told,
-    }
-}
-
-// One piece. At the end of the input, and where the output takes no more, there is none after it.
-fn next_piece(
-    buffer: &mut [u8],
+// Mends the lines of a piece that have their feed. So many of its bytes were carried.
+fn mend_piece(
+    run: Run,
+    piece: &[u8],
     held: usize,
     left: &mut [u8],
     report: &mut [u8],
-    lines: u64,
-) -> Piece
-    requires { ⌜ (held ≤ length (now buffer)) × (length (now buffer) ≤ length (now left))
-        × (length (now buffer) ≤ length (now report)) ⌝ }
-    ensures answer { λ r. ⌜ r .held ≤ length (now (buffer .entry)) ⌝ }
-    ensures kept { λ r. ⌜ Stepped mostHeldOfMending (take held (now (buffer .entry)))
-        (take (r .held) (now (buffer .exit))) ⌝ }
+    told: &mut [u8],
+) -> Run
+    requires { ⌜ (held ≤ length (now piece)) × RoomToMend (now piece) (now left) (now report) (now told) ⌝ }
+    ensures carries { λ r. ⌜ carriedIn (r .carried) ≡ carried mostHeldOfMending (now (piece .entry)) ⌝ }
+    ensures lines { λ r. ⌜ r .lines ≡ linesAfter (run .lines) (saidWhole reportSaid (now (piece .entry))) ⌝ }
+    ensures came { λ r. ⌜ r .came ≡ length (now (piece .entry)) - held ⌝ }
+    ensures reads { λ r. ⌜ (0 < run .reads → r .reads < run .reads) ⌝ }
 {
-    let filled = read_behind(buffer, held);
-    if filled == held {
-        return Piece {
-            more: false,
-            held,
-            lines,
-        };
+    let fed = texts::feed(piece, left, report);
+    let count = fed.lines;
+    let lines = tell_piece(piece, &report[..count], run.lines, told);
+    let end = fed.written;
+    let wrote = write_left(piece, &left[..end]);
+    let carried = fed.carried;
+    let came = piece.len() - held;
+    Run {
+        carried,
+        lines,
+        came,
+        reads: pieces::reads_left(run.reads, came, wrote),
     }
-    mend_piece(&mut buffer[..filled], left, report, lines)
 }
 
-// A proved loop has to end, and nothing says that a recording does: so the turns are counted down from
-// a number that no run uses up.
-fn mend_pieces(buffer: &mut [u8], left: &mut [u8], report: &mut [u8]) -> Piece
-    requires { ⌜ (length (now buffer) ≤ length (now left)) × (length (now buffer) ≤ length (now report)) ⌝ }
-    ensures answer { λ r. ⌜ r .held ≤ length (now (buffer .entry)) ⌝ }
-    ensures kept { λ r. ⌜ Ran mostHeldOfMending (take (r .held) (now (buffer .exit))) ⌝ }
+// One read. What came stands in the buffer behind what was carried.
+fn next_piece(
+    run: Run,
+    buffer: &mut [u8],
+    left: &mut [u8],
+    report: &mut [u8],
+    told: &mut [u8],
+) -> Run
+    requires { ⌜ (mostCarried ≤ length (now buffer)) × RoomToMend (now buffer) (now left) (now report) (now told) ⌝ }
+    ensures carries { λ r. ⌜ carriedIn (r .carried)
+        ≡ carried mostHeldOfMending (carriedIn (run .carried)
+        ++ behind (carriedIn (run .carried)) (r .came) (now (buffer .exit))) ⌝ }
+    ensures lines { λ r. ⌜ r .lines ≡ linesAfter (run .lines)
+        (saidWhole reportSaid (carriedIn (run .carried)
+        ++ behind (carriedIn (run .carried)) (r .came) (now (buffer .exit)))) ⌝ }
+    ensures reads { λ r. ⌜ (0 < run .reads → r .reads < run .reads) ⌝ }
 {
-    let mut piece = Piece {
-        more: true,
-        held: 0,
-        lines: 0,
-    };
-    let mut turns = u64::MAX;
-    while turns > 0 {
-        piece = next_piece(buffer, piece.held, left, report, piece.lines);
-        if !piece.more {
-            return piece;
-        }
-        turns -= 1;
-    }
-    piece
+    let put = pieces::put_back(run.carried, buffer);
+    let held = put.next;
+    let filled = read_behind(buffer, held);
+    mend_piece(run, &buffer[..filled], held, left, report, told)
 }
 
 // What is carried to the end of the input: a last line without a feed.
-fn mend_last(bytes: &[u8], left: &mut [u8], report: &mut [u8], lines: u64) {
-    let last = texts::mend(bytes, left, report);
-    let end = last.written;
+fn mend_last(run: Run, buffer: &mut [u8], left: &mut [u8], report: &mut [u8], told: &mut [u8])
+    requires { ⌜ (mostCarried ≤ length (now buffer)) × RoomToMend (now buffer) (now left) (now report) (now told) ⌝ }
+{
+    let put = pieces::put_back(run.carried, buffer);
+    let held = put.next;
+    let last = texts::mend(&buffer[..held], left, report);
     let count = last.lines;
-    tell_lines(&report[..count], lines);
-    write_left(&left[..end]);
+    let noticed = answers::notices(told, &report[..count], run.lines);
+    let end = last.written;
+    let told_end = noticed.written;
+    write_last(run.carried, run.lines, &left[..end], &told[..told_end]);
 }
 
-fn mend_recording(buffer: &mut [u8], left: &mut [u8], report: &mut [u8])
-    requires { ⌜ (length (now buffer) ≤ length (now left)) × (length (now buffer) ≤ length (now report)) ⌝ }
+fn mend_recording(buffer: &mut [u8], left: &mut [u8], report: &mut [u8], told: &mut [u8])
+    requires { ⌜ (mostCarried ≤ length (now buffer)) × RoomToMend (now buffer) (now left) (now report) (now told) ⌝ }
 {
-    let piece = mend_pieces(buffer, left, report);
-    let held = piece.held;
-    mend_last(&buffer[..held], left, report, piece.lines);
+    let mut run = Run {
+        carried: pieces::nothing(),
+        lines: 0,
+        came: 0,
+        reads: u64::MAX,
+    };
+    while run.reads > 0 {
+        run = next_piece(run, buffer, left, report, told);
+    }
+    mend_last(run, buffer, left, report, told);
 }
 
 fn main() {
     let mut buffer = [0u8; PIECE];
     let mut left = [0u8; PIECE];
     let mut report = [0u8; PIECE];
-    mend_recording(&mut buffer, &mut left, &mut report);
+    let mut told = [0u8; TOLD];
+    mend_recording(&mut buffer, &mut left, &mut report, &mut told);
 }

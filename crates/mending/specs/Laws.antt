@@ -1,14 +1,13 @@
 -- The walk over the lines that have their feed is two walks of `pieces`, one of the text and one of the report.
 --     Through s p            how far the lines that have their feed go
-use Prim.Native.Nat.{ℕ, _+_, _-_, _<_, _≤_}
+use Prim.Native.Nat.{ℕ, _+_, _-_, _<_, _≤_, min}
 use mathlib.Core.Path.{_≡_, refl, sym, ap, _∙_}
 use mathlib.Core.Bool.{Bool, true, false, and-false}
 use mathlib.Core.List.{List, [], _∷_, _++_, append-assoc, append-nil}
 use native.Mathlib.Omega.{arith}
 use borrow.Author.Tests.{le-leb, lt-leb}
 use lib.Dec.{eqb, leb}
-use lib.ListN.{length, take, drop, length-append, length-take, length-drop, drop-of-length-le}
-use lib.Seq.{take-append-seam}
+use lib.ListN.{length, take, drop, length-append, length-drop, length-map, drop-of-length-le}
 use Rattle.basic_laws.specs.Choice.{if_then_else_}
 use Rattle.basic_laws.specs.Laid.{laid}
 use Rattle.basic_laws.specs.LaidLaws.{laid-none, laid-read}
@@ -17,19 +16,21 @@ use Rattle.text.specs.Lines.{Line, lineFeed, longer, linesOf, linesBytes, feedA
 use Rattle.text.specs.declared.laying.Written.{Written}
 use Rattle.text.specs.Laying.{layAnswer, layLeaves}
 use Rattle.text.specs.LayingLaws.{lay-behind}
-use Rattle.pieces.specs.Pieces.{sayAll, said, whole, rest, saidWhole, carried, Sayable, of-lines, of-all}
+use Rattle.pieces.specs.declared.Carried.{Carried}
+use Rattle.pieces.specs.Carried.{carriedIn, mostCarried}
+use Rattle.pieces.specs.Pieces.{sayAll, said, whole, rest, saidWhole, carried}
 use Rattle.pieces.specs.Cuts.{parts, rest-plain, alone-open}
 use Rattle.pieces.specs.Walk.{Told, Running, running-start, here-room, here-within, running-more, running-done}
 use Rattle.pieces.specs.Walk.{running-open}
-use Rattle.mending.specs.Mending.{mendedBytes, lineMended, mendedText, reportByte}
+use Rattle.mending.specs.Mending.{mendedBytes, lineMended, mendedText, reportByte, reports}
 use Rattle.mending.specs.Claims.{mostHeldOfMending, reportSaid}
 use Rattle.mending.specs.ClaimsLaws.{mended-short, report-short, reports-said}
 use Rattle.mending.specs.LineLaws.{open-dropped, report-told}
 use Rattle.mending.specs.declared.texts.LinesMended.{LinesMended}
 use Rattle.mending.specs.declared.texts.PieceMended.{PieceMended}
 use Rattle.mending.specs.declared.texts.TextMended.{TextMended}
-use Rattle.mending.specs.MendingText.{textRoom, textAnswer, textWritten, textReported, TextWithin, pieceAnswer}
-use Rattle.mending.specs.MendingText.{pieceKept, pieceWritten, pieceReported, PieceWithin}
+use Rattle.mending.specs.MendingText.{textRoom, textAnswer, textWritten, textReported, TextWithin, PieceAnswer}
+use Rattle.mending.specs.MendingText.{pieceWritten, pieceReported}
 
 pub record Through (s : List ℕ) (p : LinesMended) : Type 0 where
   pub text : Told mendedBytes 1 s record { written = p .written; next = p .next }
@@ -148,20 +149,36 @@ module _ (s out report : List ℕ) where
     (refl, refl),
   )
 
-  pub piece-short : length out < length s
-      → ((record { refusal = noRoom; written = 0; lines = 0; held = 0 } ≡ pieceAnswer s out report)
-      × PieceWithin s out report record { refusal = noRoom; written = 0; lines = 0; held = 0 })
-      × ((s ≡ pieceKept s out report) × ((out ≡ pieceWritten s out report) × (report ≡ pieceReported s out report)))
-  piece-short h = rw (lt-leb (length s) (length out) h)
-      ((refl, record { text = omega arith; noted = omega arith; carries = omega arith }), (refl, (refl, refl)))
+  -- a piece for which there is no room
+  module _ (none : textRoom s out report ≡ false) (r : PieceMended)
+      (e : (r .refusal ≡ noRoom) × (r .written ≡ 0) × (r .lines ≡ 0) × (carriedIn (r .carried) ≡ [])) where
+    pub piece-none : PieceAnswer s out report r
+        × ((out ≡ pieceWritten s out report) × (report ≡ pieceReported s out report))
+    piece-none =
+        let w = e .1 in
+        let l = e .2 in (
+          record {
+            refusal = rw none (e .0);
+            written = rw none w;
+            lines = rw none l;
+            carries = rw none (e .3);
+            text-within = omega arith;
+            noted-within = omega arith;
+          },
+          (rw none refl, rw none refl),
+        )
 
-  pub piece-few : length report < length (linesOf s)
-      → ((record { refusal = noRoom; written = 0; lines = 0; held = 0 } ≡ pieceAnswer s out report)
-      × PieceWithin s out report record { refusal = noRoom; written = 0; lines = 0; held = 0 })
-      × ((s ≡ pieceKept s out report) × ((out ≡ pieceWritten s out report) × (report ≡ pieceReported s out report)))
-  piece-few h =
-      rw (lt-leb (length (linesOf s)) (length report) h, and-false (leb (length s) (length out)))
-      ((refl, record { text = omega arith; noted = omega arith; carries = omega arith }), (refl, (refl, refl)))
+  pub room-short : length out < length s → textRoom s out report ≡ false
+  room-short h = rw (lt-leb (length s) (length out) h) refl
+
+  pub room-few : length report < length (linesOf s) → textRoom s out report ≡ false
+  room-few h = rw (lt-leb (length (linesOf s)) (length report) h) (and-false (leb (length s) (length out)))
+
+  pub room-there : length s ≤ length out → length (linesOf s) ≤ length report → textRoom s out report ≡ true
+  room-there room places = rw (
+    le-leb (length s) (length out) room,
+    le-leb (length (linesOf s)) (length report) places,
+  ) refl
 
   module _ (room : length s ≤ length out) (places : length (linesOf s) ≤ length report) (p : LinesMended)
       (through : Through s p) where
@@ -176,30 +193,23 @@ module _ (s out report : List ℕ) where
         let c = through .noted .text in
         (omega arith, omega arith)
 
-    pub piece-done : (held : ℕ) (kept : List ℕ) → held ≡ length (take mostHeldOfMending (drop (p .next) s))
-        → kept ≡ laid s 0 (take mostHeldOfMending (drop (p .next) s)) →
-        let r : PieceMended = record { refusal = accepted; written = p .written; lines = p .lines; held = held } in
-        ((r ≡ pieceAnswer s out report) × PieceWithin s out report r)
-        × ((kept ≡ pieceKept s out report) × ((laid out 0 (saidWhole mendedBytes s) ≡ pieceWritten s out report)
-        × (laid report 0 (saidWhole reportSaid s) ≡ pieceReported s out report)))
-    piece-done held kept h k =
-        let a = rw (through .text .left) at h in
+    pub piece-done : (c : Carried) → carriedIn c ≡ take (min mostHeldOfMending mostCarried) (drop (p .next) s) →
+        let r : PieceMended = record { refusal = accepted; written = p .written; lines = p .lines; carried = c } in
+        PieceAnswer s out report r × ((laid out 0 (saidWhole mendedBytes s) ≡ pieceWritten s out report)
+        × (laid report 0 (saidWhole reportSaid s) ≡ pieceReported s out report))
+    piece-done c k =
+        let e = room-there room places in
         let b = rw (through .text .left) at k in
-        let size = length-take mostHeldOfMending (drop (p .next) s) in
-        let back = length-drop (p .next) s in
-        let lines = noted-within in
-        let ok : PieceWithin s out report record {
-          refusal = accepted;
-          written = p .written;
-          lines = p .lines;
-          held = held;
-        } = record { text = written-within; noted = lines .1; carries = omega arith } in
-        rw (
-          le-leb (length s) (length out) room,
-          le-leb (length (linesOf s)) (length report) places,
-        ) (
-          (rw (through .text .text, lines .0, a) refl, ok),
-          (b, (refl, refl)),
+        let lines = noted-within in (
+          record {
+            refusal = rw e refl;
+            written = rw e (through .text .text);
+            lines = rw e (lines .0);
+            carries = rw e b;
+            text-within = written-within;
+            noted-within = lines .1;
+          },
+          (rw e refl, rw e refl),
         )
 
     -- what is said for the whole is that of the lines with a feed, and that of the rest
@@ -278,50 +288,46 @@ module _ (s out report : List ℕ) where
 
 -- ## A program that reads behind what is carried
 
+front : (out x : List ℕ) → take (length x) (laid out 0 x) ≡ x
+front out x = laid-read out 0 x (omega arith)
+
 module _ (s out report : List ℕ) where
-  front : (x : List ℕ) → take (length x) (laid out 0 x) ≡ x
-  front x = laid-read out 0 x (omega arith)
+  -- with room for all that comes of a piece, its call lays what is left of its whole lines and the report on them, and
+  -- carries over the rest
+  module _ (there : textRoom s out report ≡ true) where
+    pub piece-said : (r : PieceMended) → PieceAnswer s out report r → (after : List ℕ)
+        → after ≡ pieceWritten s out report → take (r .written) after ≡ saidWhole mendedBytes s
+    piece-said r answer after k =
+        let count : r .written ≡ length (saidWhole mendedBytes s) = answer .written ∙ rw there refl in
+        let laid-there : after ≡ laid out 0 (saidWhole mendedBytes s) = k ∙ rw there refl in
+        rw (count, laid-there) (front out (saidWhole mendedBytes s))
 
-  -- what a call left at the front of its output may be handed out, so much of it as the call answered
-  pub piece-said : (n : ℕ) (after : List ℕ) → n ≡ pieceAnswer s out report .written → after ≡ pieceWritten s out report
-      → Sayable mendedBytes (take n after)
-  unfolding sayAll whole linesOf
-  piece-said n after h k = by-test (textRoom s out report) refl
-    where
-      by-test : (t : Bool) → textRoom s out report ≡ t → Sayable mendedBytes (take n after)
-      by-test true e =
-          let count : n ≡ length (saidWhole mendedBytes s) = h ∙ rw e refl in
-          let laid-there : after ≡ laid out 0 (saidWhole mendedBytes s) = k ∙ rw e refl in
-          of-lines s (rw (count, laid-there) (front (saidWhole mendedBytes s)))
-      by-test false e = let none : n ≡ 0 = h ∙ rw e refl in of-lines [] (rw none refl)
+    pub piece-noted : (r : PieceMended) → PieceAnswer s out report r → (after : List ℕ)
+        → after ≡ pieceReported s out report → take (r .lines) after ≡ saidWhole reportSaid s
+    piece-noted r answer after k =
+        let count : r .lines ≡ length (saidWhole reportSaid s) =
+        answer .lines ∙ rw there (sym (notes-length (whole (linesOf s)))) in
+        let laid-there : after ≡ laid report 0 (saidWhole reportSaid s) = k ∙ rw there refl in
+        rw (count, laid-there) (front report (saidWhole reportSaid s))
 
-  pub text-said : (n : ℕ) (after : List ℕ) → n ≡ textAnswer s out report .written → after ≡ textWritten s out report
-      → Sayable mendedBytes (take n after)
-  unfolding sayAll linesOf
-  text-said n after h k = by-test (textRoom s out report) refl
-    where
-      by-test : (t : Bool) → textRoom s out report ≡ t → Sayable mendedBytes (take n after)
-      by-test true e =
-          let count : n ≡ length (mendedText s) = h ∙ rw e refl in
-          let laid-there : after ≡ laid out 0 (mendedText s) = k ∙ rw e refl in
-          of-all s (rw (count, laid-there) (front (mendedText s)))
-      by-test false e = let none : n ≡ 0 = h ∙ rw e refl in of-all [] (rw none refl)
+    pub piece-carries : (r : PieceMended) → PieceAnswer s out report r
+        → carriedIn (r .carried) ≡ carried mostHeldOfMending s
+    piece-carries r answer = answer .carries ∙ rw there refl
 
-  -- what a call leaves at the front of its buffer is what is carried over, whatever stands behind the piece
-  pub front-held : length s ≤ length out → length (linesOf s) ≤ length report → (held : ℕ) (kept behind : List ℕ)
-      → held ≡ pieceAnswer s out report .held → kept ≡ pieceKept s out report
-      → take held (kept ++ behind) ≡ carried mostHeldOfMending s
-  unfolding laid
-  front-held room places held kept behind h k =
-      let x = carried mostHeldOfMending s in
-      let size : held ≡ length x = h ∙ rw (
-        le-leb (length s) (length out) room,
-        le-leb (length (linesOf s)) (length report) places,
-      ) refl in
-      let laid-there : kept ≡ x ++ drop (0 + length x) s =
-      k ∙ rw (le-leb (length s) (length out) room, le-leb (length (linesOf s)) (length report) places) refl in
-      rw (size, laid-there, append-assoc x (drop (0 + length x) s) behind)
-      (take-append-seam x (drop (0 + length x) s ++ behind))
+    pub text-said : (r : TextMended) → r ≡ textAnswer s out report → (after : List ℕ) → after ≡ textWritten s out report
+        → take (r .written) after ≡ mendedText s
+    text-said r e after k =
+        let count : r .written ≡ length (mendedText s) = ap (λ (t : TextMended). t .written) e ∙ rw there refl in
+        let laid-there : after ≡ laid out 0 (mendedText s) = k ∙ rw there refl in
+        rw (count, laid-there) (front out (mendedText s))
+
+    pub text-noted : (r : TextMended) → r ≡ textAnswer s out report → (after : List ℕ)
+        → after ≡ textReported s out report → take (r .lines) after ≡ reports s
+    text-noted r e after k =
+        let count : r .lines ≡ length (reports s) =
+        ap (λ (t : TextMended). t .lines) e ∙ rw there (sym (length-map (linesOf s) reportByte)) in
+        let laid-there : after ≡ laid report 0 (reports s) = k ∙ rw there refl in
+        rw (count, laid-there) (front report (reports s))
 
 -- a text has no more lines than bytes
 pub lines-few : (s : List ℕ) → length (linesOf s) ≤ length s

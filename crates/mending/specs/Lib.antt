@@ -9,3 +9,4 @@ pub mod Laws
 pub mod Notice
 pub mod NoticeLaws
 pub mod NoticesLaws
+pub mod RoomLaws

@@ -2,18 +2,19 @@
 -- where the output is shorter than the text or the report has fewer places than the text has lines.
 --     textRoom s out report                              whether there is room
 --     textAnswer, textWritten, textReported              of a whole text: the answer, the output, the report
---     pieceAnswer, pieceKept, pieceWritten, pieceReported        of a piece: the answer, its own buffer, the output,
---                                                                the report
---     TextWithin, PieceWithin                            that what is answered is within the buffers
+--     PieceAnswer, pieceWritten, pieceReported           of a piece: the answer, the output, the report
+--     TextWithin                                         that what is answered is within the buffers
 use Prim.Native.Nat.{ℕ, _≤_}
+use mathlib.Core.Path.{_≡_}
 use mathlib.Core.Bool.{Bool, _&&_}
-use mathlib.Core.List.{List}
+use mathlib.Core.List.{List, []}
 use lib.Dec.{leb}
 use lib.ListN.{length}
 use Rattle.basic_laws.specs.Choice.{if_then_else_}
 use Rattle.basic_laws.specs.Laid.{laid}
 use Rattle.refusals.specs.Refusals.{accepted, noRoom}
 use Rattle.text.specs.Lines.{linesOf}
+use Rattle.pieces.specs.Carried.{carriedIn}
 use Rattle.pieces.specs.Pieces.{whole, saidWhole, carried}
 use Rattle.mending.specs.Mending.{mendedBytes, mendedText, reports}
 use Rattle.mending.specs.Claims.{mostHeldOfMending, reportSaid}
@@ -40,18 +41,13 @@ module _ (s out report : List ℕ) where
 
   -- ## A piece: its lines that have their feed; what is left of it is carried over
 
-  abbrev pub pieceAnswer : PieceMended
-  pieceAnswer =
-      if textRoom then record {
-        refusal = accepted;
-        written = length (saidWhole mendedBytes s);
-        lines = length (whole (linesOf s));
-        held = length (carried mostHeldOfMending s);
-      }
-      else record { refusal = noRoom; written = 0; lines = 0; held = 0 }
-
-  abbrev pub pieceKept : List ℕ
-  pieceKept = if textRoom then laid s 0 (carried mostHeldOfMending s) else s
+  pub record PieceAnswer (r : PieceMended) : Type 0 where
+    pub refusal : r .refusal ≡ (if textRoom then accepted else noRoom)
+    pub written : r .written ≡ (if textRoom then length (saidWhole mendedBytes s) else 0)
+    pub lines : r .lines ≡ (if textRoom then length (whole (linesOf s)) else 0)
+    pub carries : carriedIn (r .carried) ≡ (if textRoom then carried mostHeldOfMending s else [])
+    pub text-within : r .written ≤ length out
+    pub noted-within : r .lines ≤ length report
 
   abbrev pub pieceWritten : List ℕ
   pieceWritten = if textRoom then laid out 0 (saidWhole mendedBytes s) else out
@@ -63,8 +59,3 @@ module _ (s out report : List ℕ) where
 pub record TextWithin (out report : List ℕ) (r : TextMended) : Type 0 where
   pub text : r .written ≤ length out
   pub noted : r .lines ≤ length report
-
-pub record PieceWithin (s out report : List ℕ) (r : PieceMended) : Type 0 where
-  pub text : r .written ≤ length out
-  pub noted : r .lines ≤ length report
-  pub carries : r .held ≤ length s

@@ -4,11 +4,11 @@
 --     noticeOf n b                  the line; nothing for a line that was kept, whose byte is 0
 --     noticesOf n bs                what is told of lines by their bytes, one after the other, behind n lines before
 --                                   them
+--     linesAfter n bs               how many lines there are behind them, in 64 bits
 --     noticesAnswer, noticesLeaves  what a call on a report answers and leaves; refused with 1 unless the buffer has 25
 --                                   bytes for each line
---     Tellable n bs t               bytes that a program may hand out for them
-use Prim.Native.Nat.{ℕ, _+_, _/_, _%_, _^_}
-use mathlib.Core.Path.{_≡_}
+--     RoomToMend                    room for all that can come of a piece
+use Prim.Native.Nat.{ℕ, _+_, _*_, _/_, _%_, _^_, _≤_}
 use mathlib.Core.Bool.{Bool}
 use mathlib.Core.List.{List, [], _∷_, _++_}
 use lib.Dec.{eqb, leb}
@@ -36,6 +36,9 @@ unfoldable pub noticesOf : ℕ → List ℕ → List ℕ
 noticesOf n [] = []
 noticesOf n (b ∷ bs) = noticeOf (lineNumber n) b ++ noticesOf (n + 1) bs
 
+abbrev pub linesAfter : ℕ → List ℕ → ℕ
+linesAfter n bs = (n + length bs) % 2 ^ 64
+
 -- the most that is told of a line: twenty digits, a space, three digits, a feed
 abbrev pub mostTold : ℕ
 mostTold = 25
@@ -50,15 +53,16 @@ module _ (before : ℕ) (report out : List ℕ) where
       if noticesRoom then record {
         refusal = accepted;
         written = length (noticesOf before report);
-        lines = (before + length report) % 2 ^ 64;
+        lines = linesAfter before report;
       }
       else record { refusal = noRoom; written = 0; lines = 0 }
 
   abbrev pub noticesLeaves : List ℕ
   noticesLeaves = if noticesRoom then laid out 0 (noticesOf before report) else out
 
--- bytes that a program may hand out for a report behind so many lines: what is told of its lines, or nothing where
--- there was no room
-pub data Tellable (before : ℕ) (report t : List ℕ) : Type 0 where
-  of-report : t ≡ noticesOf before report → Tellable before report t
-  no-room : t ≡ [] → Tellable before report t
+-- room for all that can come of so many bytes as these: what is left of them, a report for each of their lines, and
+-- what is told of it
+pub record RoomToMend (s left report told : List ℕ) : Type 0 where
+  pub text : length s ≤ length left
+  pub noted : length s ≤ length report
+  pub notices : mostTold * length s ≤ length told

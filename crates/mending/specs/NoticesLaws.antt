@@ -6,8 +6,10 @@ use mathlib.Core.Path.{_≡_, refl, sym, ap, _∙_}
 use mathlib.Core.Bool.{Bool, true, false}
 use mathlib.Core.List.{List, [], _∷_, _++_, append-assoc, append-nil}
 use native.Mathlib.Omega.{arith}
+use native.Mathlib.Nat.{le-div-iff-mul-le}
 use native.Mathlib.Numerals.{add-one}
 use borrow.Author.Tests.{le-leb, lt-leb}
+use lib.Dec.{lit<}
 use lib.ListN.{length, take, getD, length-append}
 use lib.Seq.{take-suc, take-all, length-take-le}
 use Rattle.basic_laws.specs.Laid.{laid}
@@ -18,8 +20,8 @@ use Rattle.text.specs.Laying.{layAnswer, layLeaves}
 use Rattle.text.specs.LayingLaws.{lay-fits, lay-behind}
 use Rattle.mending.specs.declared.answers.Noticed.{Noticed}
 use Rattle.mending.specs.NoticeLaws.{notice-most}
-use Rattle.mending.specs.Notice.{noticeOf, lineNumber, noticesOf, mostTold, noticesRoom, noticesAnswer}
-use Rattle.mending.specs.Notice.{noticesLeaves, Tellable, of-report, no-room}
+use Rattle.mending.specs.Notice.{noticeOf, lineNumber, noticesOf, mostTold, noticesRoom, linesAfter}
+use Rattle.mending.specs.Notice.{noticesAnswer, noticesLeaves}
 
 -- ## A report in parts
 
@@ -136,15 +138,18 @@ pub notices-short : (before : ℕ) (report out : List ℕ) → length out / most
     × (out ≡ noticesLeaves before report out)
 notices-short before report out h = rw (lt-leb (length report) (length out / mostTold) h) ((refl, omega arith), refl)
 
--- what a call left at the front of its buffer may be handed out, so much of it as the call answered
-pub notices-tellable : (before : ℕ) (report out : List ℕ) (n : ℕ) (after : List ℕ)
-    → n ≡ noticesAnswer before report out .written → after ≡ noticesLeaves before report out
-    → Tellable before report (take n after)
-notices-tellable before report out n after h k = by-test (noticesRoom before report out) refl
-  where
-    by-test : (t : Bool) → noticesRoom before report out ≡ t → Tellable before report (take n after)
-    by-test true e =
-        let count : n ≡ length (noticesOf before report) = h ∙ rw e refl in
-        let there : after ≡ laid out 0 (noticesOf before report) = k ∙ rw e refl in
-        of-report (rw (count, there) (laid-read out 0 (noticesOf before report) (omega arith)))
-    by-test false e = let none : n ≡ 0 = h ∙ rw e refl in no-room (rw none refl)
+-- with room for all that can be told, a call lays what is told of the lines of its report, and counts them
+module _ (before : ℕ) (report out : List ℕ) (wide : mostTold * length report ≤ length out) (r : Noticed) (e : r
+    ≡ noticesAnswer before report out) where
+  there : noticesRoom before report out ≡ true
+  there = le-leb (length report) (length out / mostTold) (le-div-iff-mul-le (lit< tt) .1 (omega arith))
+
+  pub notices-told : (after : List ℕ) → after ≡ noticesLeaves before report out
+      → take (r .written) after ≡ noticesOf before report
+  notices-told after k =
+      let count : r .written ≡ length (noticesOf before report) = ap (λ (n : Noticed). n .written) e ∙ rw there refl in
+      let laid-there : after ≡ laid out 0 (noticesOf before report) = k ∙ rw there refl in
+      rw (count, laid-there) (laid-read out 0 (noticesOf before report) (omega arith))
+
+  pub notices-counted : r .lines ≡ linesAfter before report
+  notices-counted = ap (λ (n : Noticed). n .lines) e ∙ rw there refl

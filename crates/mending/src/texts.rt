@@ -2,18 +2,21 @@
 // the same for a recording of any length, in pieces cut anywhere.
 ghost use mathlib.Core.Path.{_≡_};
 ghost use mathlib.Core.Bool.{false};
+ghost use mathlib.Core.List.{[]};
 ghost use Prim.Native.Nat.{_≤_};
 ghost use lib.ListN.{length};
 ghost use Rattle.basic_laws.specs.Laid.{laid};
 ghost use Rattle.refusals.specs.Refusals.{noRoom};
 ghost use Rattle.text.specs.Lines.{linesOf};
 ghost use Rattle.text.specs.Laying.{layLeaves};
+ghost use Rattle.pieces.specs.Carried.{carriedIn};
 ghost use Rattle.pieces.specs.Pieces.{saidWhole};
 ghost use Rattle.mending.specs.Mending.{mendedBytes};
 ghost use Rattle.mending.specs.Claims.{reportSaid};
-ghost use Rattle.mending.specs.MendingText.{textAnswer, textWritten, textReported, TextWithin, pieceAnswer};
-ghost use Rattle.mending.specs.MendingText.{pieceKept, pieceWritten, pieceReported, PieceWithin};
+ghost use Rattle.mending.specs.MendingText.{textAnswer, textWritten, textReported, TextWithin, PieceAnswer};
+ghost use Rattle.mending.specs.MendingText.{pieceWritten, pieceReported};
 ghost use Rattle.mending.specs.Laws.{Through};
+use pieces::Carried;
 use text::laying;
 
 // As much of an unfinished line as tells that it is over-long: one character more than is mended.
@@ -33,8 +36,7 @@ pub struct PieceMended {
     pub refusal: u8,
     pub written: usize,
     pub lines: usize,
-    // how many bytes of an unfinished line stand at the front of the piece's buffer
-    pub held: usize,
+    pub carried: Carried,
 }
 
 // How far the lines with a feed go.
@@ -81,21 +83,19 @@ fn mend_whole(s: &[u8], out: &mut [u8], report: &mut [u8]) -> LinesMended
 }
 
 fn no_room() -> PieceMended
-    ensures { λ r. ⌜ r ≡ record { refusal = noRoom; written = 0; lines = 0; held = 0 } ⌝ }
+    ensures { λ r. ⌜ (r .refusal ≡ noRoom) × (r .written ≡ 0) × (r .lines ≡ 0) × (carriedIn (r .carried) ≡ []) ⌝ }
 {
     PieceMended {
         refusal: refusals::NO_ROOM,
         written: 0,
         lines: 0,
-        held: 0,
+        carried: pieces::nothing(),
     }
 }
 
-// One piece: its lines that have their feed, and what is carried over moved to the front.
-pub fn feed(s: &mut [u8], out: &mut [u8], report: &mut [u8]) -> PieceMended
-    ensures answer { λ r. ⌜ (r ≡ pieceAnswer (now (s .entry)) (now (out .entry)) (now (report .entry)))
-        × PieceWithin (now (s .entry)) (now (out .entry)) (now (report .entry)) r ⌝ }
-    ensures kept { λ r. ⌜ now (s .exit) ≡ pieceKept (now (s .entry)) (now (out .entry)) (now (report .entry)) ⌝ }
+// One piece: its lines that have their feed, and what is carried over.
+pub fn feed(s: &[u8], out: &mut [u8], report: &mut [u8]) -> PieceMended
+    ensures answer { λ r. ⌜ PieceAnswer (now (s .entry)) (now (out .entry)) (now (report .entry)) r ⌝ }
     ensures written { λ r. ⌜ now (out .exit) ≡ pieceWritten (now (s .entry)) (now (out .entry))
         (now (report .entry)) ⌝ }
     ensures reported { λ r. ⌜ now (report .exit)
@@ -109,12 +109,12 @@ pub fn feed(s: &mut [u8], out: &mut [u8], report: &mut [u8]) -> PieceMended
         return no_room();
     }
     let done = mend_whole(s, out, report);
-    let held = pieces::keep_front(s, done.next, MOST_HELD);
+    let carried = pieces::carry(s, done.next, MOST_HELD);
     PieceMended {
         refusal: refusals::ACCEPTED,
         written: done.written,
         lines: done.lines,
-        held,
+        carried,
     }
 }
 

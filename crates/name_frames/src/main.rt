@@ -1,14 +1,17 @@
 // Names the frames of a recording: reads it from standard input and prints one line for each of its
 // lines. It only moves bytes; what is printed is decided by the library.
 ghost use mathlib.Core.Path.{_≡_};
-ghost use Prim.Native.Nat.{_*_, _≤_};
+ghost use mathlib.Core.List.{_++_};
+ghost use Prim.Native.Nat.{_-_, _*_, _<_, _≤_};
 ghost use lib.ListN.{length, take};
-ghost use Rattle.pieces.specs.Pieces.{feedAnswer, feedKept, feedWritten, finishWritten, Stepped, Ran, Sayable};
+ghost use Rattle.pieces.specs.Carried.{carriedIn, mostCarried, behind};
+ghost use Rattle.pieces.specs.Pieces.{said, saidWhole, carried};
 ghost use Rattle.naming.specs.Printing.{printedLine};
 ghost use Rattle.naming.specs.Streaming.{mostPrinted, mostHeldOfRecording};
 use libc::STDIN_FILENO;
 use libc::STDOUT_FILENO;
 use naming::streaming;
+use pieces::Carried;
 
 // 64 KiB of a recording, behind what is carried over from before.
 const PIECE: usize = 65671;
@@ -16,10 +19,11 @@ const PIECE: usize = 65671;
 // Ten times as much, which has room for all that a piece can print.
 const TEXT: usize = 656710;
 
-// What came of a piece: whether to go on, and how many bytes are carried over.
-struct Piece {
-    more: bool,
-    held: usize,
+// A run so far: what is carried over, how many bytes the last read brought, and how many reads may follow.
+struct Run {
+    carried: Carried,
+    came: usize,
+    reads: u64,
 }
 
 // Reads once, behind the bytes that are carried over, and answers how many bytes there are now.
@@ -32,79 +36,76 @@ fn read_behind(buffer: &mut [u8], held: usize) -> usize
     held + io::count(got, &buffer[held..])
 }
 
-// Hands text to the output: that of the whole lines of a piece, or of what was left at the end.
-fn write_said(said: &[u8]) -> bool
-    requires { ⌜ Sayable printedLine (now said) ⌝ }
+// Hands to the output what is said for the whole lines of a piece.
+fn write_said(piece: &[u8], text: &[u8]) -> bool
+    requires { ⌜ now text ≡ saidWhole printedLine (now piece) ⌝ }
 {
-    io::write_all(STDOUT_FILENO, said)
+    io::write_all(STDOUT_FILENO, text)
 }
 
-// Prints the lines that have their feed.
-fn print_piece(bytes: &mut [u8], text: &mut [u8]) -> Piece
-    ensures answer { λ r. ⌜ (r .held ≡ feedAnswer printedLine mostPrinted mostHeldOfRecording (now (bytes .entry))
-        (now (text .entry)) .held) × (r .held ≤ length (now (bytes .entry))) ⌝ }
-    ensures kept { λ r. ⌜ now (bytes .exit) ≡ feedKept printedLine mostPrinted mostHeldOfRecording (now (bytes .entry))
-        (now (text .entry)) ⌝ }
-    ensures written { λ r. ⌜ now (text .exit)
-        ≡ feedWritten printedLine mostPrinted mostHeldOfRecording (now (bytes .entry)) (now (text .entry)) ⌝ }
+// Hands to the output what is said for what was carried to the end of the input.
+fn write_last(carried: Carried, text: &[u8])
+    requires { ⌜ now text ≡ said printedLine (carriedIn carried) ⌝ }
 {
-    let fed = streaming::feed(bytes, text);
+    io::write_all(STDOUT_FILENO, text);
+}
+
+// Prints the lines of a piece that have their feed. So many of its bytes were carried.
+fn print_piece(piece: &[u8], held: usize, reads: u64, text: &mut [u8]) -> Run
+    requires { ⌜ (held ≤ length (now piece)) × (mostPrinted * length (now piece) ≤ length (now text)) ⌝ }
+    ensures carries { λ r. ⌜ carriedIn (r .carried) ≡ carried mostHeldOfRecording (now (piece .entry)) ⌝ }
+    ensures came { λ r. ⌜ r .came ≡ length (now (piece .entry)) - held ⌝ }
+    ensures reads { λ r. ⌜ (0 < reads → r .reads < reads) ⌝ }
+{
+    let fed = streaming::feed(piece, text);
     let end = fed.written;
-    Piece {
-        more: write_said(&text[..end]),
-        held: fed.held,
+    let carried = fed.carried;
+    let came = piece.len() - held;
+    let wrote = write_said(piece, &text[..end]);
+    Run {
+        carried,
+        came,
+        reads: pieces::reads_left(reads, came, wrote),
     }
 }
 
-// One piece. At the end of the input, and where the output takes no more, there is none after it.
-fn next_piece(buffer: &mut [u8], held: usize, text: &mut [u8]) -> Piece
-    requires { ⌜ (held ≤ length (now buffer)) × (mostPrinted * length (now buffer) ≤ length (now text)) ⌝ }
-    ensures answer { λ r. ⌜ r .held ≤ length (now (buffer .entry)) ⌝ }
-    ensures kept { λ r. ⌜ Stepped mostHeldOfRecording (take held (now (buffer .entry)))
-        (take (r .held) (now (buffer .exit))) ⌝ }
+// One read. What came stands in the buffer behind what was carried.
+fn next_piece(run: Run, buffer: &mut [u8], text: &mut [u8]) -> Run
+    requires { ⌜ (mostCarried ≤ length (now buffer)) × (mostPrinted * length (now buffer) ≤ length (now text)) ⌝ }
+    ensures carries { λ r. ⌜ carriedIn (r .carried)
+        ≡ carried mostHeldOfRecording (carriedIn (run .carried)
+        ++ behind (carriedIn (run .carried)) (r .came) (now (buffer .exit))) ⌝ }
+    ensures reads { λ r. ⌜ (0 < run .reads → r .reads < run .reads) ⌝ }
 {
+    let put = pieces::put_back(run.carried, buffer);
+    let held = put.next;
     let filled = read_behind(buffer, held);
-    if filled == held {
-        return Piece { more: false, held };
-    }
-    print_piece(&mut buffer[..filled], text)
+    print_piece(&buffer[..filled], held, run.reads, text)
 }
 
-// A proved loop has to end, and nothing says that a recording does: so the turns are counted down from
-// a number that no run uses up.
-fn print_pieces(buffer: &mut [u8], text: &mut [u8]) -> usize
-    requires { ⌜ mostPrinted * length (now buffer) ≤ length (now text) ⌝ }
-    ensures answer { λ r. ⌜ r ≤ length (now (buffer .entry)) ⌝ }
-    ensures kept { λ r. ⌜ Ran mostHeldOfRecording (take r (now (buffer .exit))) ⌝ }
+// Prints what is carried to the end of the input: a last line without a feed.
+fn print_last(run: Run, buffer: &mut [u8], text: &mut [u8])
+    requires { ⌜ (mostCarried ≤ length (now buffer)) × (mostPrinted * length (now buffer) ≤ length (now text)) ⌝ }
 {
-    let mut held: usize = 0;
-    let mut turns = u64::MAX;
-    while turns > 0 {
-        let piece = next_piece(buffer, held, text);
-        held = piece.held;
-        if !piece.more {
-            return held;
-        }
-        turns -= 1;
-    }
-    held
-}
-
-// Prints what is left at the end of the input: a last line without a feed.
-fn print_last(bytes: &[u8], text: &mut [u8])
-    ensures written { λ r. ⌜ now (text .exit)
-        ≡ finishWritten printedLine mostPrinted (now (bytes .entry)) (now (text .entry)) ⌝ }
-{
-    let last = streaming::finish(bytes, text);
-    let end = last.next;
-    write_said(&text[..end]);
+    let put = pieces::put_back(run.carried, buffer);
+    let end = put.next;
+    let last = streaming::finish(&buffer[..end], text);
+    let text_end = last.next;
+    write_last(run.carried, &text[..text_end]);
 }
 
 fn print_recording(buffer: &mut [u8], text: &mut [u8])
-    requires { ⌜ mostPrinted * length (now buffer) ≤ length (now text) ⌝ }
+    requires { ⌜ (mostCarried ≤ length (now buffer)) × (mostPrinted * length (now buffer) ≤ length (now text)) ⌝ }
 {
-    let held = print_pieces(buffer, text);
-    print_last(&buffer[..held], text);
+    let mut run = Run {
+        carried: pieces::nothing(),
+        came: 0,
+        reads: u64::MAX,
+    };
+    while run.reads > 0 {
+        run = next_piece(run, buffer, text);
+    }
+    print_last(run, buffer, text);
 }
 
 fn main() {

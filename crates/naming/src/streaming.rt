@@ -1,11 +1,10 @@
 // Recordings of any length, in pieces cut anywhere: the program lends a buffer that holds what was
-// carried over from the pieces before and the newly read bytes behind it, and a buffer for the text.
+// carried over from the piece before and the newly read bytes behind it, and a buffer for the text.
 ghost use mathlib.Core.Path.{_≡_};
 ghost use Prim.Native.Nat.{_*_, _≤_};
 ghost use lib.ListN.{length};
 ghost use Rattle.basic_laws.specs.Laid.{laid};
-ghost use Rattle.pieces.specs.Pieces.{FeedWithin, saidWhole, feedAnswer, feedKept, feedWritten, finishAnswer};
-ghost use Rattle.pieces.specs.Pieces.{finishWritten};
+ghost use Rattle.pieces.specs.Pieces.{saidWhole, FeedAnswer, feedWritten, finishAnswer, finishWritten};
 ghost use Rattle.pieces.specs.Walk.{Told};
 ghost use Rattle.naming.specs.Printing.{printedLine};
 ghost use Rattle.naming.specs.Streaming.{mostPrinted, mostHeldOfRecording};
@@ -40,13 +39,11 @@ fn print_whole(s: &[u8], out: &mut [u8]) -> Progress
     Progress { written, next: at }
 }
 
-// One piece: the text of its whole lines, and what is carried over moved to the front. The buffer for
-// the text must have ten bytes for each byte of the piece.
-pub fn feed(s: &mut [u8], out: &mut [u8]) -> Fed
-    ensures answer { λ r. ⌜ (r ≡ feedAnswer printedLine mostPrinted mostHeldOfRecording (now (s .entry))
-        (now (out .entry))) × FeedWithin (now (s .entry)) (now (out .entry)) r ⌝ }
-    ensures kept { λ r. ⌜ now (s .exit) ≡ feedKept printedLine mostPrinted mostHeldOfRecording (now (s .entry))
-        (now (out .entry)) ⌝ }
+// One piece: the text of its whole lines, and what is carried over. The buffer for the text must have ten
+// bytes for each byte of the piece.
+pub fn feed(s: &[u8], out: &mut [u8]) -> Fed
+    ensures answer { λ r. ⌜ FeedAnswer printedLine mostPrinted mostHeldOfRecording (now (s .entry))
+        (now (out .entry)) r ⌝ }
     ensures written { λ r. ⌜ now (out .exit) ≡ feedWritten printedLine mostPrinted mostHeldOfRecording (now (s .entry))
         (now (out .entry)) ⌝ }
 {
@@ -54,15 +51,15 @@ pub fn feed(s: &mut [u8], out: &mut [u8]) -> Fed
         return Fed {
             refusal: refusals::NO_ROOM,
             written: 0,
-            held: 0,
+            carried: pieces::nothing(),
         };
     }
     let done = print_whole(s, out);
-    let held = pieces::keep_front(s, done.next, MOST_HELD);
+    let carried = pieces::carry(s, done.next, MOST_HELD);
     Fed {
         refusal: refusals::ACCEPTED,
         written: done.written,
-        held,
+        carried,
     }
 }
 

@@ -1,4 +1,5 @@
+pub mod Carried
+pub mod CarriedLaws
 pub mod Pieces
 pub mod Cuts
 pub mod Walk
-pub mod FrontLaws

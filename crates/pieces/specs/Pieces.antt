@@ -1,21 +1,18 @@
 -- A text of any length, read in pieces cut anywhere, whatever is said for a line. What is carried from one piece to the
 -- next is the line that has no feed yet, at most so many characters of it: so many must tell what the whole line says.
---     sayAll say ls                      what is said for lines, one after the other
---     said say s                         what is said for a whole text
---     whole ls                           the lines that have their feed
---     rest ls                            the characters of the line that has none; nothing where every line has its
---                                        feed
---     carried most s                     what is carried over from a piece
---     together cs                        the pieces put together
---     pieces say most u cs               what is said for the pieces cs, where u was carried over from those before; at
---                                        the end u itself is finished
---     Enough say most                    that the first characters, as many as are carried, tell what a line says
---     feedAnswer, feedKept, feedWritten  what a call on one piece answers and leaves
---     finishAnswer, finishWritten        what the call at the end of the text answers and leaves
---     FeedWithin s out f                 that what a call answers is within its buffers
---     Stepped, Ran                       what a program carries after one read, and after all so far
---     Sayable say t                      bytes that a program may hand to its output: what is said for the whole lines
---                                        of a piece, or for all that was left at the end
+--     sayAll say ls                what is said for lines, one after the other
+--     said say s                   what is said for a whole text
+--     whole ls                     the lines that have their feed
+--     rest ls                      the characters of the line that has none; nothing where every line has its feed
+--     carried most s               what is carried over from a piece
+--     together cs                  the pieces put together
+--     pieces say most u cs         what is said for the pieces cs, where u was carried over from those before; at the
+--                                  end u itself is finished
+--     Enough say most              that the first characters, as many as are carried, tell what a line says
+--     feedSaid, feedCarried        what is said for a piece, and what is carried over from it; nothing where there is
+--                                  no room
+--     FeedAnswer, feedWritten      what a call on one piece answers and leaves
+--     finishAnswer, finishWritten  what the call at the end of the text answers and leaves
 use Prim.Native.Nat.{ℕ, _/_, _<_, _≤_}
 use mathlib.Core.Path.{_≡_}
 use mathlib.Core.Bool.{Bool}
@@ -28,6 +25,7 @@ use Rattle.refusals.specs.Refusals.{accepted, noRoom}
 use Rattle.text.specs.Lines.{Line, linesOf}
 use Rattle.text.specs.declared.laying.Written.{Written}
 use Rattle.pieces.specs.declared.Fed.{Fed}
+use Rattle.pieces.specs.Carried.{carriedIn}
 
 unfoldable pub sayAll : (Line → List ℕ) → List Line → List ℕ
 sayAll say [] = []
@@ -74,19 +72,18 @@ abbrev pub roomFor : ℕ → List ℕ → List ℕ → Bool
 roomFor each s out = leb (length s) (length out / each)
 
 module _ (say : Line → List ℕ) (each most : ℕ) (s out : List ℕ) where
-  -- how much was said, and how much is carried over
-  abbrev pub feedAnswer : Fed
-  feedAnswer =
-      if roomFor each s out then record {
-        refusal = accepted;
-        written = length (saidWhole say s);
-        held = length (carried most s);
-      }
-      else record { refusal = noRoom; written = 0; held = 0 }
+  abbrev pub feedSaid : List ℕ
+  feedSaid = if roomFor each s out then saidWhole say s else []
 
-  -- the buffer of the piece: what is carried over stands at its front
-  abbrev pub feedKept : List ℕ
-  feedKept = if roomFor each s out then laid s 0 (carried most s) else s
+  abbrev pub feedCarried : List ℕ
+  feedCarried = if roomFor each s out then carried most s else []
+
+  -- how much was said, and what is carried over
+  pub record FeedAnswer (f : Fed) : Type 0 where
+    pub refusal : f .refusal ≡ (if roomFor each s out then accepted else noRoom)
+    pub written : f .written ≡ length feedSaid
+    pub carries : carriedIn (f .carried) ≡ feedCarried
+    pub within : f .written ≤ length out
 
   -- the buffer of what is said: that of the whole lines stands at its front
   abbrev pub feedWritten : List ℕ
@@ -101,26 +98,3 @@ module _ (say : Line → List ℕ) (each : ℕ) (s out : List ℕ) where
   -- the buffer of what is said
   abbrev pub finishWritten : List ℕ
   finishWritten = if roomFor each s out then laid out 0 (said say s) else out
-
--- what a caller needs of an answer to take the parts of its buffers: what was said is within its buffer, and what is
--- carried within the piece
-pub record FeedWithin (s out : List ℕ) (f : Fed) : Type 0 where
-  pub text : f .written ≤ length out
-  pub carries : f .held ≤ length s
-
--- ## What a program carries from read to read
-
--- what is carried after a read: what was carried before it, where nothing was read, or what the piece leaves that the
--- bytes x made
-pub data Stepped (most : ℕ) (u v : List ℕ) : Type 0 where
-  ended : v ≡ u → Stepped most u v
-  fed : (x : List ℕ) → v ≡ carried most (u ++ x) → Stepped most u v
-
--- what is carried after some reads, from nothing on
-pub data Ran (most : ℕ) : List ℕ → Type 0 where
-  start : Ran most []
-  more : {u v : List ℕ} → Ran most u → Stepped most u v → Ran most v
-
-pub data Sayable (say : Line → List ℕ) (t : List ℕ) : Type 0 where
-  of-lines : (s : List ℕ) → t ≡ saidWhole say s → Sayable say t
-  of-all : (s : List ℕ) → t ≡ said say s → Sayable say t

@@ -4,7 +4,7 @@
 -- definition has it.
 --     Told s p               how far the whole lines go, as a call learns it
 --     Running ..             the walk's invariant
-use Prim.Native.Nat.{ℕ, _+_, _-_, _*_, _/_, _<_, _≤_}
+use Prim.Native.Nat.{ℕ, _+_, _-_, _*_, _/_, _<_, _≤_, min}
 use mathlib.Core.Path.{_≡_, refl, sym, ap, _∙_}
 use mathlib.Core.Bool.{Bool, true, false}
 use mathlib.Core.List.{List, [], _∷_, _++_, append-assoc, append-nil}
@@ -12,7 +12,6 @@ use native.Mathlib.Omega.{arith}
 use native.Mathlib.Nat.{mul-add, mul-comm, mul-le-mul-left, le-div-iff-mul-le}
 use borrow.Author.Tests.{le-leb, lt-leb}
 use lib.ListN.{length, take, drop, length-append, length-take, length-drop, drop-of-length-le}
-use lib.Seq.{take-add, take-append-seam}
 use Rattle.basic_laws.specs.Laid.{laid}
 use Rattle.basic_laws.specs.LaidLaws.{laid-none, laid-more, laid-length, laid-then, laid-read}
 use Rattle.refusals.specs.Refusals.{accepted, noRoom}
@@ -21,9 +20,12 @@ use Rattle.text.specs.LinesLaws.{first-size, lines-fed, lines-open, lines-done}
 use Rattle.text.specs.declared.laying.Written.{Written}
 use Rattle.text.specs.Laying.{layAnswer, layLeaves}
 use Rattle.text.specs.LayingLaws.{lay-fits}
+use Rattle.pieces.specs.declared.Carried.{Carried}
+use Rattle.pieces.specs.declared.Fed.{Fed}
 use Rattle.pieces.specs.declared.Progress.{Progress}
-use Rattle.pieces.specs.Pieces.{sayAll, said, whole, rest, saidWhole, carried, roomFor, Sayable, of-lines, of-all}
-use Rattle.pieces.specs.Pieces.{FeedWithin, feedAnswer, feedKept, feedWritten, finishAnswer, finishWritten}
+use Rattle.pieces.specs.Carried.{carriedIn, mostCarried}
+use Rattle.pieces.specs.Pieces.{sayAll, said, whole, rest, saidWhole, carried, roomFor, FeedAnswer, feedWritten}
+use Rattle.pieces.specs.Pieces.{finishAnswer, finishWritten}
 use Rattle.pieces.specs.Cuts.{parts, rest-plain, alone-open}
 
 -- ## The first line from a place on, where more lines follow or none
@@ -174,11 +176,12 @@ room-each each n m some h = let k = le-div-iff-mul-le some .0 h in let c = mul-c
 -- ## The ends of the two calls
 
 module _ (say : Line → List ℕ) (each most : ℕ) (s out : List ℕ) (none : length out / each < length s) where
-  pub feed-short : ((record { refusal = noRoom; written = 0; held = 0 } ≡ feedAnswer say each most s out)
-      × FeedWithin s out record { refusal = noRoom; written = 0; held = 0 })
-      × ((s ≡ feedKept say each most s out) × (out ≡ feedWritten say each most s out))
-  feed-short = rw (lt-leb (length s) (length out / each) none)
-      ((refl, record { text = omega arith; carries = omega arith }), (refl, refl))
+  pub feed-short : (c : Carried) → carriedIn c ≡ [] →
+      let f : Fed = record { refusal = noRoom; written = 0; carried = c } in
+      FeedAnswer say each most s out f × (out ≡ feedWritten say each most s out)
+  feed-short c h =
+      let e = lt-leb (length s) (length out / each) none in
+      (record { refusal = rw e refl; written = rw e refl; carries = rw e h; within = omega arith }, rw e refl)
 
   pub finish-short : ((record { refusal = noRoom; next = 0 } ≡ finishAnswer say each s out) × (0 ≤ length out))
       × (out ≡ finishWritten say each s out)
@@ -195,17 +198,15 @@ module _ (say : Line → List ℕ) (each : ℕ) (some : 0 < each) (s out : List 
       let r = room-each each (length s) (length out) some room in
       omega arith
 
-  pub feed-done : (most held : ℕ) (kept : List ℕ) → held ≡ length (take most (drop (p .next) s))
-      → kept ≡ laid s 0 (take most (drop (p .next) s))
-      → ((record { refusal = accepted; written = p .written; held = held } ≡ feedAnswer say each most s out)
-      × FeedWithin s out record { refusal = accepted; written = p .written; held = held })
-      × ((kept ≡ feedKept say each most s out) × (after ≡ feedWritten say each most s out))
-  feed-done most held kept h k =
-      let a = rw (told .left) at h in let b = rw (told .left) at k in
-      let size = length-take most (drop (p .next) s) in let back = length-drop (p .next) s in
-      let within : FeedWithin s out record { refusal = accepted; written = p .written; held = held } =
-      record { text = told-fits; carries = omega arith } in
-      rw (le-leb (length s) (length out / each) room) ((rw (told .text, a) refl, within), (b, lines))
+  pub feed-done : (most : ℕ) → most ≤ mostCarried → (c : Carried)
+      → carriedIn c ≡ take (min most mostCarried) (drop (p .next) s) →
+      let f : Fed = record { refusal = accepted; written = p .written; carried = c } in
+      FeedAnswer say each most s out f × (after ≡ feedWritten say each most s out)
+  feed-done most few c k =
+      let e = le-leb (length s) (length out / each) room in
+      let least : min most mostCarried ≡ most = omega arith in
+      let b = rw (told .left, least) at k in
+      (record { refusal = rw e refl; written = rw e (told .text); carries = rw e b; within = told-fits }, rw e lines)
 
   -- every line had its feed
   pub finish-whole : length s ≤ p .next
@@ -256,56 +257,28 @@ module _ (say : Line → List ℕ) (each : ℕ) (some : 0 < each) (s out : List 
 
 -- ## A program that reads behind what is carried
 
--- what a call leaves at the front of its buffer is what is carried over, whatever stands behind the piece
-pub front-carried : (say : Line → List ℕ) (each most : ℕ) (s out : List ℕ) → length s ≤ length out / each
-    → (held : ℕ) (kept behind : List ℕ)
-    → held ≡ feedAnswer say each most s out .held → kept ≡ feedKept say each most s out
-    → take held (kept ++ behind) ≡ carried most s
-unfolding laid
-front-carried say each most s out room held kept behind h k =
-    let x = carried most s in
-    let test = le-leb (length s) (length out / each) room in
-    let size : held ≡ length x = h ∙ rw test refl in
-    let front : kept ≡ x ++ drop (0 + length x) s = k ∙ rw test refl in
-    rw (size, front, append-assoc x (drop (0 + length x) s) behind)
-    (take-append-seam x (drop (0 + length x) s ++ behind))
-
--- the bytes read stand behind those that were carried
-pub read-behind : (before after : List ℕ) (held filled : ℕ) → held ≤ filled → take held after ≡ take held before
-    → take filled after ≡ take held before ++ take (filled - held) (drop held after)
-read-behind before after held filled h same =
-    let sum : held + (filled - held) ≡ filled = omega arith in
-    ap (λ (n : ℕ). take n after) (sym sum) ∙ take-add held (filled - held) after
-    ∙ ap (λ (u : List ℕ). u ++ take (filled - held) (drop held after)) same
-
-pub room-part : (each n m : ℕ) → 0 < each → each * n ≤ m → n ≤ m / each
+room-part : (each n m : ℕ) → 0 < each → each * n ≤ m → n ≤ m / each
 room-part each n m some h = let c = mul-comm n each in le-div-iff-mul-le some .1 (omega arith)
 
--- what a call left at the front of the buffer of what is said may be handed out, so much of it as the call answered
-module _ (out x : List ℕ) where
-  front-laid : take (length x) (laid out 0 x) ≡ x
-  front-laid = laid-read out 0 x (omega arith)
+-- with room for all that a piece can say, its call lays what is said for its whole lines, and carries over the rest
+module _ (say : Line → List ℕ) (each : ℕ) (some : 0 < each) (s out : List ℕ) (wide : each * length s ≤ length out)
+    (after : List ℕ) where
+  room-test : roomFor each s out ≡ true
+  room-test = le-leb (length s) (length out / each) (room-part each (length s) (length out) some wide)
 
-pub feed-said : (say : Line → List ℕ) (each most : ℕ) (s out : List ℕ) (n : ℕ) (after : List ℕ)
-    → n ≡ feedAnswer say each most s out .written → after ≡ feedWritten say each most s out → Sayable say (take n after)
-unfolding sayAll whole linesOf
-feed-said say each most s out n after h k = by-test (roomFor each s out) refl
-  where
-    by-test : (t : Bool) → roomFor each s out ≡ t → Sayable say (take n after)
-    by-test true e =
-        let count : n ≡ length (saidWhole say s) = h ∙ rw e refl in
-        let front : after ≡ laid out 0 (saidWhole say s) = k ∙ rw e refl in
-        of-lines s (rw (count, front) (front-laid out (saidWhole say s)))
-    by-test false e = let none : n ≡ 0 = h ∙ rw e refl in of-lines [] (rw none refl)
+  pub feed-said : (most : ℕ) (f : Fed) → FeedAnswer say each most s out f → after ≡ feedWritten say each most s out
+      → take (f .written) after ≡ saidWhole say s
+  feed-said most f answer k =
+      let n : f .written ≡ length (saidWhole say s) = answer .written ∙ rw room-test refl in
+      let front : after ≡ laid out 0 (saidWhole say s) = k ∙ rw room-test refl in
+      rw (n, front) (laid-read out 0 (saidWhole say s) (omega arith))
 
-pub finish-said : (say : Line → List ℕ) (each : ℕ) (s out : List ℕ) (n : ℕ) (after : List ℕ)
-    → n ≡ finishAnswer say each s out .next → after ≡ finishWritten say each s out → Sayable say (take n after)
-unfolding sayAll linesOf
-finish-said say each s out n after h k = by-test (roomFor each s out) refl
-  where
-    by-test : (t : Bool) → roomFor each s out ≡ t → Sayable say (take n after)
-    by-test true e =
-        let count : n ≡ length (said say s) = h ∙ rw e refl in
-        let front : after ≡ laid out 0 (said say s) = k ∙ rw e refl in
-        of-all s (rw (count, front) (front-laid out (said say s)))
-    by-test false e = let none : n ≡ 0 = h ∙ rw e refl in of-all [] (rw none refl)
+  pub feed-carries : (most : ℕ) (f : Fed) → FeedAnswer say each most s out f → carriedIn (f .carried) ≡ carried most s
+  feed-carries most f answer = answer .carries ∙ rw room-test refl
+
+  pub finish-said : (w : Written) → w ≡ finishAnswer say each s out → after ≡ finishWritten say each s out
+      → take (w .next) after ≡ said say s
+  finish-said w h k =
+      let n : w .next ≡ length (said say s) = ap (λ (v : Written). v .next) h ∙ rw room-test refl in
+      let front : after ≡ laid out 0 (said say s) = k ∙ rw room-test refl in
+      rw (n, front) (laid-read out 0 (said say s) (omega arith))

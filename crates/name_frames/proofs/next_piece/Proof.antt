@@ -1,80 +1,77 @@
--- What is read stands behind the bytes that are carried, and what is carried over afterwards is what the piece that
--- they make leaves.
-use Prim.Native.Nat.{_-_, _/_, _≤_}
+-- What was read stands behind what was carried, and the two are the piece.
 use mathlib.Core.Path.{_≡_, ap, _∙_}
 use native.Mathlib.Omega.{arith}
+use native.Mathlib.Nat.{mul-le-mul-left}
 use denote.Ref.{now}
-use lib.Dec.{lit<}
-use lib.ListN.{length, take, drop, length-take}
+use lib.ListN.{length, take, length-take}
 use lib.Seq.{length-take-le}
-use Rattle.pieces.specs.Pieces.{carried, ended, fed}
-use Rattle.pieces.specs.Walk.{front-carried, read-behind, room-part}
-use Rattle.naming.specs.Printing.{printedLine}
+use Rattle.pieces.specs.Carried.{carriedIn}
+use Rattle.pieces.specs.CarriedLaws.{laid-taken, read-piece}
+use Rattle.pieces.specs.Pieces.{carried}
 use Rattle.naming.specs.Streaming.{mostPrinted, mostHeldOfRecording}
 use borrow.Author.Needs.{needs}
 use Rattle.name_frames.proofs.next_piece.Statement.{statement}
 use Rattle.name_frames.proofs.next_piece.Tie as tie
 
+put-back-requires : tie.Need-put-back-requires
+put-back-requires c κs = search needs
+
 read-behind-requires : tie.Need-read-behind-requires
-read-behind-requires c κs = search needs
+read-behind-requires c κs =
+    let put = c .before .before .before in
+    let a = put .before .before .before .before in
+    let u = carriedIn (a .args .run .carried) in
+    let few = put .put-back .ensures .1 .1 in
+    let front = laid-taken (now (a .args .buffer)) u (omega arith) (put .put-back .result) (put .put-back .last .1 .0)
+    (put .put-back .ensures .0) (put .put-back .ensures .1 .0) in
+    omega (arith, front .0)
+
+slice-reshare-prefix-print-piece : tie.Need-slice-reshare-prefix-print-piece
+slice-reshare-prefix-print-piece c = search needs
+
+slice-aggregate-print-piece : tie.Need-slice-aggregate-print-piece
+slice-aggregate-print-piece c = simp length-take (omega (arith, slice-reshare-prefix-print-piece (c .before)))
+
+print-piece-requires : tie.Need-print-piece-requires
+print-piece-requires c κs =
+    let read = c .before .before .before .before in
+    let a = c .before .before .before .before .before .before .before .before .before .before .before .before in
+    let held = read .read-behind .ensures .0 .0 in
+    let size : length (take (read .read-behind .result) (read .read-behind .last .0)) ≡ read .read-behind .result =
+    length-take-le (read .read-behind .result) (read .read-behind .last .0) (omega arith) in
+    let most = mul-le-mul-left {m = read .read-behind .result} {n = length (now (a .args .buffer))} mostPrinted
+    (omega arith) in
+    rw size (held, omega (arith, a .pre .1))
 
 same-length : tie.Need-same-length
 same-length c = search needs
 
-returns : tie.Need-returns
-returns c =
-    let read = c .before .before .before in
-    (read .before .before .before .before .pre .0, ended (read .read-behind .ensures .1))
-
-slice-relend-prefix-print-piece : tie.Need-slice-relend-prefix-print-piece
-slice-relend-prefix-print-piece c = search needs
-
-slice-aggregate-print-piece : tie.Need-slice-aggregate-print-piece
-slice-aggregate-print-piece c = simp length-take (omega (arith, slice-relend-prefix-print-piece (c .before)))
-
-print-piece-requires : tie.Need-print-piece-requires
-print-piece-requires c κs = search needs
-
 same-length-2 : tie.Need-same-length-2
 same-length-2 c = search needs
 
-same-length-3 : tie.Need-same-length-3
-same-length-3 c = search needs
-
-returns-2 : tie.Need-returns-2
-returns-2 c =
-    let printed = c .before .before .before .before in
-    let read = printed .before .before .before .before .before .before in
-    let a = read .before .before .before .before in
-    let held = a .args .held in
-    let filled = read .read-behind .result in
-    let before = now (a .args .buffer) in
-    let after = read .read-behind .last .0 in
-    let s = take filled after in
-    let within = read .read-behind .ensures .0 .1 in
-    let same = read .read-behind .kept .0 in
-    let size : length s ≡ filled = length-take-le filled after (omega arith) in
-    let wide = a .pre .1 in
-    let room : length s ≤ length (now (a .args .text)) / mostPrinted =
-    room-part mostPrinted (length s) (length (now (a .args .text))) (lit< tt) (omega arith) in
-    let left = front-carried printedLine mostPrinted mostHeldOfRecording s (now (a .args .text)) room
-    (printed .print-piece .result .held) (printed .print-piece .last .0) (drop filled after)
-    (printed .print-piece .ensures .0 .0) (printed .print-piece .ensures .1 .0) in
-    let piece = read-behind before after held filled (read .read-behind .ensures .0 .0)
-    (read .read-behind .ensures .1) in
-    let few = printed .print-piece .ensures .0 .1 in
-    (omega arith, fed (take (filled - held) (drop held after)) (left ∙ ap (carried mostHeldOfRecording) piece))
+returns : tie.Need-returns
+returns c =
+    let printed = c .before .before in
+    let read = c .before .before .before .before .before .before .before in
+    let put = c .before .before .before .before .before .before .before .before .before .before .before in
+    let a = c .before .before .before .before .before .before .before .before .before .before .before .before .before .before .before in
+    let u = carriedIn (a .args .run .carried) in
+    let few = put .put-back .ensures .1 .1 in
+    let piece = read-piece u (now (a .args .buffer)) (omega arith) (put .put-back .result) (put .put-back .last .1 .0)
+    (put .put-back .ensures .0) (put .put-back .ensures .1 .0) (read .read-behind .last .0)
+    (read .read-behind .result) (printed .print-piece .result .came) (read .read-behind .ensures .0 .0)
+    (omega arith) (read .read-behind .ensures .1) (printed .print-piece .ensures .1 .0) in
+    (printed .print-piece .ensures .0 ∙ ap (carried mostHeldOfRecording) piece, printed .print-piece .ensures .1 .1)
 
 pub next-piece-spec : {M : Type 1} → statement M
 next-piece-spec =
     tie.close
     (tie.spec
+    put-back-requires
     read-behind-requires
-    same-length
-    returns
-    slice-relend-prefix-print-piece
+    slice-reshare-prefix-print-piece
     slice-aggregate-print-piece
     print-piece-requires
+    same-length
     same-length-2
-    same-length-3
-    returns-2)
+    returns)

@@ -1,10 +1,12 @@
--- What is printed stands at the front of the text, within it, and what is carried over within the piece.
-use mathlib.Core.Path.{ap}
+-- The call has room for all that the piece can say, so that what it laid is what is said for the whole lines.
+use Prim.Native.Nat.{_-_}
+use mathlib.Core.Path.{refl}
 use native.Mathlib.Omega.{arith}
-use lib.ListN.{length-take}
 use denote.Ref.{now}
-use Rattle.pieces.specs.declared.Fed.{Fed}
-use Rattle.pieces.specs.Walk.{feed-said}
+use lib.Dec.{lit<}
+use lib.ListN.{length, length-take}
+use Rattle.pieces.specs.CarriedLaws.{reads-less}
+use Rattle.pieces.specs.Walk.{feed-said, feed-carries}
 use Rattle.naming.specs.Printing.{printedLine}
 use Rattle.naming.specs.Streaming.{mostPrinted, mostHeldOfRecording}
 use borrow.Author.Needs.{needs}
@@ -14,6 +16,9 @@ use Rattle.name_frames.proofs.print_piece.Tie as tie
 feed-requires : tie.Need-feed-requires
 feed-requires c κs = search needs
 
+sub-came : tie.Need-sub-came
+sub-came c = search needs
+
 slice-reshare-prefix-write-said : tie.Need-slice-reshare-prefix-write-said
 slice-reshare-prefix-write-said c = search needs
 
@@ -22,31 +27,40 @@ slice-aggregate-write-said c = simp length-take (omega (arith, slice-reshare-pre
 
 write-said-requires : tie.Need-write-said-requires
 write-said-requires c κs =
-    let fed = c .before .before .before .before .before in
-    let a = fed .before .before .before .before .before in
-    feed-said printedLine mostPrinted mostHeldOfRecording (now (a .args .bytes)) (now (a .args .text))
-    (fed .feed .result .written) (fed .feed .last .1 .0) (ap (λ (f : Fed). f .written) (fed .feed .ensures .0 .0))
-    (fed .feed .ensures .1 .1)
+    let fed = c .before .before .before .before in
+    let a = fed .before .before .before .before in
+    feed-said printedLine mostPrinted (lit< tt) (now (a .args .piece)) (now (a .args .text)) (a .pre .1)
+    (fed .feed .last .1 .0) mostHeldOfRecording (fed .feed .result) (fed .feed .ensures .0) (fed .feed .ensures .1)
+
+reads-left-requires : tie.Need-reads-left-requires
+reads-left-requires c κs = search needs
 
 same-length : tie.Need-same-length
 same-length c = search needs
 
-same-length-2 : tie.Need-same-length-2
-same-length-2 c = search needs
-
 returns : tie.Need-returns
 returns c =
     let fed = c .before .before .before .before .before .before in
-    ((ap (λ (f : Fed). f .held) (fed .feed .ensures .0 .0), fed .feed .ensures .0 .1 .carries), fed .feed .ensures .1)
+    let a = fed .before .before .before .before in
+    let left = c .reads-left .ensures in (
+      feed-carries printedLine mostPrinted (lit< tt) (now (a .args .piece)) (now (a .args .text)) (a .pre .1)
+          (fed .feed .last .1 .0) mostHeldOfRecording (fed .feed .result) (fed .feed .ensures .0),
+      (
+        refl,
+        λ some. rw left (reads-less (a .args .reads) (length (now (a .args .piece)) - a .args .held)
+            (c .before .write-said .result) some),
+      ),
+    )
 
 pub print-piece-spec : {M : Type 1} → statement M
 print-piece-spec =
     tie.close
     (tie.spec
     feed-requires
+    sub-came
     slice-reshare-prefix-write-said
     slice-aggregate-write-said
     write-said-requires
+    reads-left-requires
     same-length
-    same-length-2
     returns)
