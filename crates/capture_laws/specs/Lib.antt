@@ -14,3 +14,4 @@ pub mod RoomTheorem
 pub mod Cases
 pub mod Transcript
 pub mod TranscriptLaws
+pub mod CallLaws

@@ -5,25 +5,30 @@
 --                            out lent for it
 --     enoughRoom             the bytes that a buffer needs besides those of its piece
 --     Lent ps                each piece has a buffer with so much room
---     Reached r              the reader of a program after some pieces, none of them refused
---     Handed t               bytes that a program may hand to its output: what is handed on for the next piece, or for
---                            the end
+--     Waiting r              a reader between two pieces, none of those before it refused
+--     justRoom s             a buffer with just the room that a piece needs
+--     pieceText r s          what a waiting reader hands on for a piece, whatever the buffer
+--     pieceAfter r s         the reader after it
+--     endText r              what it hands on for the end
 use Prim.Native.Nat.{ℕ, _+_, _≤_}
 use mathlib.Core.Path.{_≡_}
 use mathlib.Core.Bool.{true}
 use mathlib.Core.List.{List, [], _∷_, _++_}
 use lib.Dec.{eqb}
-use lib.ListN.{length, take}
+use lib.ListN.{length, take, replicate}
 use Rattle.basic_laws.specs.Choice.{if_then_else_}
 use Rattle.basic_laws.specs.Each.{Each}
+use Rattle.basic_laws.specs.Fold.{all}
 use Rattle.refusals.specs.Refusals.{accepted}
+use Rattle.text.specs.Lines.{notFeed}
 use Rattle.frame.specs.Recording.{writeAll}
 use Rattle.captures.specs.declared.edges.Reader.{Reader}
 use Rattle.captures.specs.declared.edges.Answer.{Answer}
-use Rattle.captures.specs.Edges.{freshReader, feedAnswer, feedLeaves, endAnswer, endLeaves}
+use Rattle.captures.specs.Edges.{feedAnswer, feedLeaves, endAnswer, endLeaves, takenSoFar}
 use Rattle.captures.specs.declared.edge_printing.Printed.{Printed}
 use Rattle.captures.specs.EdgePrinting.{refusedLine, printedFor, printedLeaves}
-use Rattle.capture_laws.specs.Capture.{EdgeCourse, capture, courseEnded}
+use Rattle.capture_laws.specs.Capture.{EdgeCourse, capture, courseEnded, FrameSound}
+use Rattle.capture_laws.specs.FillLaws.{holding}
 use Rattle.capture_laws.specs.Taken.{Piece}
 
 -- the lines of the frames of a course, and that of its refusal
@@ -60,13 +65,22 @@ Lent ps = Each (λ p. enoughRoom + length (p .bytes) ≤ length (p .buffer)) ps
 
 -- ## Call after call
 
-pub data Reached : Reader → Type 0 where
-  start : Reached freshReader
-  more : {r : Reader} → Reached r → (p : Piece) → enoughRoom + length (p .bytes) ≤ length (p .buffer)
-      → ofPiece r p .going ≡ true → Reached (ofPiece r p .reader)
+-- a reader between two pieces: nothing stands in the buffer, a frame that a line can carry is open, and the unfinished
+-- line has no feed
+pub record Waiting (r : Reader) : Type 0 where
+  pub left : List ℕ
+  pub plain : all notFeed left ≡ true
+  pub sound : FrameSound (r .wire .frame)
+  pub is : r ≡ holding (r .wire) left 0
 
-pub data Handed (t : List ℕ) : Type 0 where
-  of-piece : {r : Reader} → Reached r → (p : Piece) → enoughRoom + length (p .bytes) ≤ length (p .buffer)
-      → t ≡ handedOn (feedAnswer r (p .buffer) (p .bytes)) (feedLeaves r (p .buffer) (p .bytes)) → Handed t
-  of-end : {r : Reader} → Reached r → (out : List ℕ) → enoughRoom ≤ length out
-      → t ≡ handedOn (endAnswer r out) (endLeaves r out) → Handed t
+abbrev pub justRoom : List ℕ → List ℕ
+justRoom s = replicate (enoughRoom + length s) 0
+
+unfoldable pub pieceText : Reader → List ℕ → List ℕ
+pieceText r s = handedOn (feedAnswer r (justRoom s) s) (feedLeaves r (justRoom s) s)
+
+unfoldable pub pieceAfter : Reader → List ℕ → Reader
+pieceAfter r s = takenSoFar (feedAnswer r (justRoom s) s .reader)
+
+unfoldable pub endText : Reader → List ℕ
+endText r = handedOn (endAnswer r (justRoom [])) (endLeaves r (justRoom []))

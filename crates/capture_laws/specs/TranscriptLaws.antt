@@ -161,7 +161,7 @@ text-behind fs c = by-test (eqb (c .refusal) accepted)
 -- ## Pieces one after the other
 
 -- the end, behind unfinished characters
-end-text : (w : Wire) (u out : List ℕ) → FrameSound (w .frame) → enoughRoom ≤ length out
+pub end-text : (w : Wire) (u out : List ℕ) → FrameSound (w .frame) → enoughRoom ≤ length out
     → handedOn (endAnswer (holding w u 0) out) (endLeaves (holding w u 0) out)
     ≡ textOf (courseEnded (courseStopped w accepted u))
 unfolding writeAll

@@ -2,10 +2,10 @@
 // frames as they are closed; at a refusal its line, and it stops. It only moves bytes; what is printed
 // is decided by the library.
 ghost use mathlib.Core.Path.{_≡_};
-ghost use mathlib.Core.Bool.{true};
-ghost use Prim.Native.Nat.{_+_, _≤_};
+ghost use mathlib.Core.Bool.{_&&_};
+ghost use Prim.Native.Nat.{_+_, _<_, _≤_};
 ghost use lib.ListN.{length, take};
-ghost use Rattle.capture_laws.specs.Transcript.{enoughRoom, Reached, Handed};
+ghost use Rattle.capture_laws.specs.Transcript.{enoughRoom, Waiting, pieceText, pieceAfter, endText};
 use captures::edge_printing;
 use captures::edges;
 use captures::edges::Reader;
@@ -18,93 +18,99 @@ const PIECE: usize = 65536;
 // 172 bytes more, which is room for the frames that a piece can close and for the line of a refusal.
 const TEXT: usize = 65708;
 
-// A run so far: the reader, and whether input may follow.
-struct Session {
+// A run so far: the reader, how many bytes the last read brought, and how many reads may follow.
+struct Run {
     reader: Reader,
-    going: bool,
+    came: usize,
+    reads: u64,
 }
 
-// Hands text to the output.
-fn write_handed(text: &[u8]) -> bool
-    requires { ⌜ Handed (now text) ⌝ }
+// Hands to the output what the reader hands on for a piece: so many bytes at the front of a buffer.
+fn write_piece(reader: Reader, piece: &[u8], text: &[u8], count: usize) -> bool
+    requires { ⌜ take count (now text) ≡ pieceText reader (now piece) ⌝ }
 {
-    io::write_all(STDOUT_FILENO, text)
-}
-
-// Hands on the first bytes of a buffer.
-fn write_front(bytes: &[u8], count: usize) -> bool
-    requires { ⌜ Handed (take count (now bytes)) ⌝ }
-{
-    if count <= bytes.len() {
-        return write_handed(&bytes[..count]);
+    if count <= text.len() {
+        return io::write_all(STDOUT_FILENO, &text[..count]);
     }
     false
 }
 
-// A piece of the capture. Where the output takes no more, none follows it.
-fn print_piece(reader: Reader, piece: &[u8], text: &mut [u8]) -> Session
-    requires { ⌜ Reached reader × (enoughRoom + length (now piece) ≤ length (now text)) ⌝ }
-    ensures answer { λ r. ⌜ (r .going ≡ true → Reached (r .reader)) ⌝ }
+// Hands to the output what the reader hands on for the end.
+fn write_end(reader: Reader, text: &[u8], count: usize)
+    requires { ⌜ take count (now text) ≡ endText reader ⌝ }
 {
-    let printed = edge_printing::print_piece(reader, piece, text);
-    let reader = printed.reader;
-    let wrote = write_front(text, printed.written);
-    if wrote {
-        return Session {
-            reader,
-            going: printed.going,
-        };
+    if count <= text.len() {
+        io::write_all(STDOUT_FILENO, &text[..count]);
     }
-    Session {
-        reader,
-        going: false,
+}
+
+fn both(a: bool, b: bool) -> bool
+    ensures { λ r. ⌜ r ≡ (a && b) ⌝ }
+{
+    if a { b } else { false }
+}
+
+// A piece of the capture. After a refusal, and where the output takes no more, none follows it.
+fn print_piece(run: Run, piece: &[u8], text: &mut [u8]) -> Run
+    requires { ⌜ Waiting (run .reader) × (enoughRoom + length (now piece) ≤ length (now text)) ⌝ }
+    ensures reader { λ r. ⌜ (0 < r .reads → (r .reader ≡ pieceAfter (run .reader) (now (piece .entry)))
+        × Waiting (r .reader)) ⌝ }
+    ensures came { λ r. ⌜ r .came ≡ length (now (piece .entry)) ⌝ }
+    ensures reads { λ r. ⌜ (0 < run .reads → r .reads < run .reads) ⌝ }
+{
+    let before = run.reader;
+    let printed = edge_printing::print_piece(before, piece, text);
+    let wrote = write_piece(before, piece, text, printed.written);
+    let after = printed.reader;
+    let came = piece.len();
+    Run {
+        reader: after,
+        came,
+        reads: pieces::reads_left(run.reads, came, both(wrote, printed.going)),
     }
 }
 
 // The end of the capture.
-fn print_end(reader: Reader, text: &mut [u8]) -> Session
-    requires { ⌜ Reached reader × (enoughRoom ≤ length (now text)) ⌝ }
-    ensures answer { λ r. ⌜ (r .going ≡ true → Reached (r .reader)) ⌝ }
+fn print_end(run: Run, text: &mut [u8]) -> Run
+    requires { ⌜ Waiting (run .reader) × (enoughRoom ≤ length (now text)) ⌝ }
+    ensures reads { λ r. ⌜ r .reads ≡ 0 ⌝ }
 {
-    let printed = edge_printing::print_end(reader, text);
+    let before = run.reader;
+    let printed = edge_printing::print_end(before, text);
+    write_end(before, text, printed.written);
     let reader = printed.reader;
-    write_front(text, printed.written);
-    Session {
+    Run {
         reader,
-        going: false,
+        came: 0,
+        reads: 0,
     }
 }
 
-// Reads once, and prints what has come.
-fn next_piece(reader: Reader, buffer: &mut [u8], text: &mut [u8]) -> Session
-    requires { ⌜ Reached reader × (enoughRoom + length (now buffer) ≤ length (now text)) ⌝ }
-    ensures answer { λ r. ⌜ (r .going ≡ true → Reached (r .reader)) ⌝ }
+// One read. What came stands at the front of the buffer.
+fn next_piece(run: Run, buffer: &mut [u8], text: &mut [u8]) -> Run
+    requires { ⌜ Waiting (run .reader) × (enoughRoom + length (now buffer) ≤ length (now text)) ⌝ }
+    ensures reader { λ r. ⌜ (0 < r .reads → (r .reader ≡ pieceAfter (run .reader) (take (r .came) (now (buffer .exit))))
+        × Waiting (r .reader)) ⌝ }
+    ensures reads { λ r. ⌜ (0 < run .reads → r .reads < run .reads) ⌝ }
 {
     let got = libc::read(STDIN_FILENO, buffer);
     let count = io::count(got, buffer);
     if count == 0 {
-        return print_end(reader, text);
+        return print_end(run, text);
     }
-    print_piece(reader, &buffer[..count], text)
+    print_piece(run, &buffer[..count], text)
 }
 
-// A proved loop has to end, and nothing says that a capture does: so the turns are counted down from a
-// number that no run uses up.
 fn print_capture(buffer: &mut [u8], text: &mut [u8])
     requires { ⌜ enoughRoom + length (now buffer) ≤ length (now text) ⌝ }
 {
-    let mut session = Session {
+    let mut run = Run {
         reader: edges::start(),
-        going: true,
+        came: 0,
+        reads: u64::MAX,
     };
-    let mut turns = u64::MAX;
-    while turns > 0 {
-        let reader = session.reader;
-        session = next_piece(reader, buffer, text);
-        if !session.going {
-            return;
-        }
-        turns -= 1;
+    while run.reads > 0 {
+        run = next_piece(run, buffer, text);
     }
 }
 

@@ -59,3 +59,12 @@ reads-less n k w some = by-tests (eqb k 0) w
     by-tests true u = some
     by-tests false true = omega arith
     by-tests false false = some
+
+-- reads follow only where the answer was written
+pub reads-on : (n k : ℕ) (w : Bool) → 0 < readsLeft n k w → w ≡ true
+reads-on n k true some = refl
+reads-on n k false some = by-test (eqb k 0) some
+  where
+    by-test : (t : Bool) → 0 < (if t then 0 else 0) → false ≡ true
+    by-test true h = absurd (omega arith)
+    by-test false h = absurd (omega arith)
