@@ -1,8 +1,12 @@
--- What is printed is within its buffer.
+-- The buffer has room for every answer, so that what stands at its front is the answer to what was read.
 use Prim.Native.Nat.{_≤_}
 use mathlib.Core.Path.{sym}
-use lib.ListN.{length}
+use native.Mathlib.Nat.{le-trans}
+use denote.Ref.{now}
+use lib.ListN.{length, take}
 use lib.Seq.{length-take-le}
+use Rattle.reading_programs.specs.Answers.{linesAnswer}
+use Rattle.reading_programs.specs.AnswersLaws.{answer-front}
 use borrow.Author.Needs.{needs}
 use Rattle.csv_to_readings.proofs.convert.Statement.{statement}
 use Rattle.csv_to_readings.proofs.convert.Tie as tie
@@ -19,18 +23,31 @@ slice-aggregate-to-lines c = search needs
 to-lines-requires : tie.Need-to-lines-requires
 to-lines-requires c κs = search needs
 
-slice-reshare-prefix-write-all : tie.Need-slice-reshare-prefix-write-all
-slice-reshare-prefix-write-all c = search needs
+slice-reshare-prefix-write-answer : tie.Need-slice-reshare-prefix-write-answer
+slice-reshare-prefix-write-answer c = search needs
 
-slice-aggregate-write-all : tie.Need-slice-aggregate-write-all
-slice-aggregate-write-all c =
-    let made = c .before .before .before in
-    let fits = made .to-lines .ensures .1 .1 in
-    let within : made .to-lines .result .next ≤ length (made .to-lines .last .1 .0) = search (needs, fits) in
-    sym (length-take-le (made .to-lines .result .next) (made .to-lines .last .1 .0) within)
+slice-aggregate-write-answer : tie.Need-slice-aggregate-write-answer
+slice-aggregate-write-answer c = search needs
 
-write-all-requires : tie.Need-write-all-requires
-write-all-requires c κs = search needs
+slice-reshare-prefix-write-answer-2 : tie.Need-slice-reshare-prefix-write-answer-2
+slice-reshare-prefix-write-answer-2 c = search needs
+
+slice-aggregate-write-answer-2 : tie.Need-slice-aggregate-write-answer-2
+slice-aggregate-write-answer-2 c =
+    let made = c .before .before .before .before .to-lines in
+    let fits = made .ensures .1 .1 .0 in
+    let within : made .result .next ≤ length (made .last .1 .0) = search (needs, fits) in
+    sym (length-take-le (made .result .next) (made .last .1 .0) within)
+
+write-answer-requires : tie.Need-write-answer-requires
+write-answer-requires c κs =
+    let made = c .before .before .before .before .to-lines in
+    let read = c .before .before .before .before .before .before .before .before .before .read-full in
+    let a = c .before .before .before .before .before .before .before .before .before .before .before .before .before in
+    let s = take (read .result) (read .last .1 .0) in
+    let brief = made .ensures .1 .1 .1 in
+    answer-front (now (a .args .text)) (linesAnswer s) (le-trans brief (a .pre)) (made .result) (made .last .1 .0)
+    (made .ensures .0) (made .ensures .1 .0)
 
 same-length : tie.Need-same-length
 same-length c = search needs
@@ -49,9 +66,11 @@ convert-spec =
     slice-reshare-prefix-to-lines
     slice-aggregate-to-lines
     to-lines-requires
-    slice-reshare-prefix-write-all
-    slice-aggregate-write-all
-    write-all-requires
+    slice-reshare-prefix-write-answer
+    slice-aggregate-write-answer
+    slice-reshare-prefix-write-answer-2
+    slice-aggregate-write-answer-2
+    write-answer-requires
     same-length
     same-length-2
     returns)

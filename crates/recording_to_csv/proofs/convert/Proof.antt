@@ -1,8 +1,14 @@
--- What is printed is within its buffer.
+-- The buffer has room for every answer, so that what stands at its front is the answer to what was read.
 use Prim.Native.Nat.{_≤_}
 use mathlib.Core.Path.{sym}
-use lib.ListN.{length}
+use native.Mathlib.Nat.{le-trans}
+use denote.Ref.{now}
+use lib.ListN.{length, take}
 use lib.Seq.{length-take-le}
+use Rattle.readings.specs.Csv.{csvText}
+use Rattle.reading_programs.specs.Answers.{rowsTold}
+use Rattle.reading_programs.specs.Latest.{recordingRead}
+use Rattle.reading_programs.specs.AnswersLaws.{answer-front}
 use borrow.Author.Needs.{needs}
 use Rattle.recording_to_csv.proofs.convert.Statement.{statement}
 use Rattle.recording_to_csv.proofs.convert.Tie as tie
@@ -31,18 +37,31 @@ slice-aggregate-to-csv c = search needs
 to-csv-requires : tie.Need-to-csv-requires
 to-csv-requires c κs = search needs
 
-slice-reshare-prefix-write-all : tie.Need-slice-reshare-prefix-write-all
-slice-reshare-prefix-write-all c = search needs
+slice-reshare-prefix-write-answer : tie.Need-slice-reshare-prefix-write-answer
+slice-reshare-prefix-write-answer c = search needs
 
-slice-aggregate-write-all-2 : tie.Need-slice-aggregate-write-all-2
-slice-aggregate-write-all-2 c =
-    let made = c .before .before .before in
-    let fits = made .to-csv .ensures .1 .1 in
-    let within : made .to-csv .result .next ≤ length (made .to-csv .last .1 .0) = search (needs, fits) in
-    sym (length-take-le (made .to-csv .result .next) (made .to-csv .last .1 .0) within)
+slice-aggregate-write-answer : tie.Need-slice-aggregate-write-answer
+slice-aggregate-write-answer c = search needs
 
-write-all-requires-2 : tie.Need-write-all-requires-2
-write-all-requires-2 c κs = search needs
+slice-reshare-prefix-write-answer-2 : tie.Need-slice-reshare-prefix-write-answer-2
+slice-reshare-prefix-write-answer-2 c = search needs
+
+slice-aggregate-write-answer-2 : tie.Need-slice-aggregate-write-answer-2
+slice-aggregate-write-answer-2 c =
+    let made = c .before .before .before .before .to-csv in
+    let fits = made .ensures .1 .1 .0 in
+    let within : made .result .next ≤ length (made .last .1 .0) = search (needs, fits) in
+    sym (length-take-le (made .result .next) (made .last .1 .0) within)
+
+write-answer-requires : tie.Need-write-answer-requires
+write-answer-requires c κs =
+    let made = c .before .before .before .before .to-csv in
+    let read = c .before .before .before .before .before .before .before .before .before .before .read-full in
+    let a = c .before .before .before .before .before .before .before .before .before .before .before .before .before .before in
+    let s = take (read .result) (read .last .1 .0) in
+    let brief = made .ensures .1 .1 .1 in
+    answer-front (now (a .args .text)) (rowsTold csvText (recordingRead s)) (le-trans brief (a .pre)) (made .result)
+    (made .last .1 .0) (made .ensures .0) (made .ensures .1 .0)
 
 same-length-2 : tie.Need-same-length-2
 same-length-2 c = search needs
@@ -65,9 +84,11 @@ convert-spec =
     slice-reshare-prefix-to-csv
     slice-aggregate-to-csv
     to-csv-requires
-    slice-reshare-prefix-write-all
-    slice-aggregate-write-all-2
-    write-all-requires-2
+    slice-reshare-prefix-write-answer
+    slice-aggregate-write-answer
+    slice-reshare-prefix-write-answer-2
+    slice-aggregate-write-answer-2
+    write-answer-requires
     same-length-2
     same-length-3
     returns-2)
