@@ -1,8 +1,10 @@
 // Shows where one recording leaves another: `compare_recordings REFERENCE OTHER`, two file names. It
 // only moves bytes; where they part, and what is printed, is decided by the libraries.
+ghost use mathlib.Core.Path.{_≡_};
 ghost use Prim.Native.Nat.{_≤_};
 ghost use lib.ListN.{length};
-ghost use Rattle.comparing.specs.Heading.{Showable};
+ghost use Rattle.comparing.specs.Departure.{partOf};
+ghost use Rattle.comparing.specs.Heading.{headingFor};
 use comparing::answers;
 use libc::STDERR_FILENO;
 use libc::STDOUT_FILENO;
@@ -14,6 +16,13 @@ const ROOM: usize = 2097153;
 
 // What was read of a file: whether all went well, and how many bytes stand at the front of the buffer.
 struct Loaded {
+    sound: bool,
+    count: usize,
+}
+
+// The file of an argument: its number, whether all went well, and how many bytes it has.
+struct File {
+    argument: usize,
     sound: bool,
     count: usize,
 }
@@ -78,24 +87,31 @@ fn load_named(name: &[u8], buffer: &mut [u8]) -> Loaded
 }
 
 // The file that an argument names.
-fn load(argument: usize, buffer: &mut [u8]) -> Loaded
-    ensures answer { λ r. ⌜ r .count ≤ length (now (buffer .entry)) ⌝ }
+fn load(argument: usize, buffer: &mut [u8]) -> File
+    ensures answer { λ r. ⌜ (r .argument ≡ argument) × (r .count ≤ length (now (buffer .entry))) ⌝ }
 {
     let mut name = io::buffer();
     let length = os::arg(argument, &mut name);
     if os::errno() != 0 {
         os::fail(b"file name");
-        return Loaded {
+        return File {
+            argument,
             sound: false,
             count: 0,
         };
     }
-    load_named(&name[..length], buffer)
+    let read = load_named(&name[..length], buffer);
+    File {
+        argument,
+        sound: read.sound,
+        count: read.count,
+    }
 }
 
-// Hands the answer to the output: its first line, and then the part.
-fn write_shown(heading: &[u8], part: &[u8])
-    requires { ⌜ Showable (now heading) (now part) ⌝ }
+// Hands the answer for two recordings to the output: its first line, and then the part.
+fn write_shown(reference: &[u8], other: &[u8], heading: &[u8], part: &[u8])
+    requires { ⌜ (now heading ≡ headingFor (now reference) (now other))
+        × (now part ≡ partOf (now reference) (now other)) ⌝ }
 {
     let written = io::write_all(STDOUT_FILENO, heading);
     if written {
@@ -103,14 +119,18 @@ fn write_shown(heading: &[u8], part: &[u8])
     }
 }
 
-fn show<'a>(reference: &'a [u8], other: &'a [u8]) {
+// The bytes of the first file are the reference, those of the second the other.
+fn show<'a>(first: File, reference: &'a [u8], second: File, other: &'a [u8])
+    requires { ⌜ (first .argument ≡ 1) × (length (now reference) ≡ first .count) × (second .argument ≡ 2)
+        × (length (now other) ≡ second .count) ⌝ }
+{
     let mut side: u8 = 0;
     let mut line: usize = 0;
     let part = comparing::part(reference, other, &mut side, &mut line);
     let mut text = [0u8; 64];
     let heading = answers::heading(&mut text, side, line);
     let end = heading.next;
-    write_shown(&text[..end], part);
+    write_shown(reference, other, &text[..end], part);
 }
 
 fn compare(reference: &mut [u8], other: &mut [u8]) {
@@ -124,7 +144,7 @@ fn compare(reference: &mut [u8], other: &mut [u8]) {
     }
     let end = first.count;
     let other_end = second.count;
-    show(&reference[..end], &other[..other_end]);
+    show(first, &reference[..end], second, &other[..other_end]);
 }
 
 fn compare_files() {

@@ -16,9 +16,9 @@ use Rattle.text.specs.Laying.{hasRoom}
 use Rattle.text.specs.declared.laying.Written.{Written}
 use Rattle.text.specs.Putting.{Puts, lineRoom, lineAnswer, lineLeaves}
 use Rattle.text.specs.PuttingLaws.{puts-field}
-use Rattle.comparing.specs.Departure.{departureOf, partOf, sideNumber}
+use Rattle.comparing.specs.Departure.{departureOf, sideNumber}
 use Rattle.comparing.specs.declared.Side.the-variants.{Other}
-use Rattle.comparing.specs.Heading.{sideWord, headingOf, Showable, of-two}
+use Rattle.comparing.specs.Heading.{sideWord, headingOf, headingFor}
 
 -- every word is short
 word-short : (side n : ℕ) → length (sideWord side n) ≤ 9
@@ -45,15 +45,14 @@ pub heading-puts : (side n : ℕ) {d : List ℕ} {d₁ : List ℕ} {at : ℕ} �
 unfolding headingOf
 heading-puts side n one two = puts-field (sideWord side n) space one two
 
--- what a call left at the front of its buffer, so much of it as the call answered, may be handed out with the part
-pub heading-shown : (reference other out : List ℕ) (side n : ℕ) (w : Written) (after part : List ℕ)
+-- what a call left at the front of its buffer, so much of it as the call answered
+pub heading-shown : (reference other out : List ℕ) (side n : ℕ) (w : Written) (after : List ℕ)
     → hasRoom out 0 lineRoom ≡ true
     → w ≡ lineAnswer out 0 (headingOf side n) → after ≡ lineLeaves out 0 (headingOf side n)
     → side ≡ sideNumber (departureOf reference other .side) → n ≡ departureOf reference other .line
-    → part ≡ partOf reference other
-    → Showable (take (w .next) after) part
-heading-shown reference other out side n w after part room answer leaves s l p =
+    → take (w .next) after ≡ headingFor reference other
+heading-shown reference other out side n w after room answer leaves s l =
     let x = headingOf side n in
     let size : w .next ≡ length x = ap (λ (v : Written). v .next) answer ∙ rw room (omega arith) in
     let front : take (w .next) after ≡ x = rw (size, leaves, room) (laid-read out 0 x (omega arith)) in
-    of-two reference other (front ∙ rw (s, l)) p
+    front ∙ rw (s, l)

@@ -1,4 +1,4 @@
--- What was read of each file is within its buffer.
+-- What was read of each file is within its buffer, and each recording is that of its own argument.
 use Prim.Native.Nat.{_≤_}
 use mathlib.Core.Path.{sym}
 use native.Mathlib.Omega.{arith}
@@ -34,21 +34,30 @@ slice-reshare-prefix-show c = search needs
 
 slice-aggregate-show : tie.Need-slice-aggregate-show
 slice-aggregate-show c =
-    let read = c .before .before .before .before .before .before .before .before .before .before .before in
-    let within : read .load .result .count ≤ length (read .load .last .1 .0) = omega arith in
-    sym (length-take-le (read .load .result .count) (read .load .last .1 .0) within)
+    let read = c .before .before .before .before .before .before .before .before .before .before .before .load in
+    let within : read .result .count ≤ length (read .last .1 .0) = omega arith in
+    sym (length-take-le (read .result .count) (read .last .1 .0) within)
 
 slice-reshare-prefix-show-2 : tie.Need-slice-reshare-prefix-show-2
 slice-reshare-prefix-show-2 c = search needs
 
 slice-aggregate-show-2 : tie.Need-slice-aggregate-show-2
 slice-aggregate-show-2 c =
-    let read = c .before .before .before .before .before .before in
-    let within : read .load2 .result .count ≤ length (read .load2 .last .1 .0) = omega arith in
-    sym (length-take-le (read .load2 .result .count) (read .load2 .last .1 .0) within)
+    let read = c .before .before .before .before .before .before .load2 in
+    let within : read .result .count ≤ length (read .last .1 .0) = omega arith in
+    sym (length-take-le (read .result .count) (read .last .1 .0) within)
 
 show-requires : tie.Need-show-requires
-show-requires c κs = search needs
+show-requires c κs =
+    let one = c .before .before .before .before .before .before .before .before .before .before .before .before .load in
+    let two = c .before .before .before .before .before .before .load2 in
+    let within : one .result .count ≤ length (one .last .1 .0) = omega arith in
+    let within-2 : two .result .count ≤ length (two .last .1 .0) = omega arith in (
+      one .ensures .0,
+      length-take-le (one .result .count) (one .last .1 .0) within,
+      two .ensures .0,
+      length-take-le (two .result .count) (two .last .1 .0) within-2,
+    )
 
 same-length-4 : tie.Need-same-length-4
 same-length-4 c = search needs

@@ -24,19 +24,21 @@ array-share-prefix-text c = search needs
 
 slice-aggregate-write-shown : tie.Need-slice-aggregate-write-shown
 slice-aggregate-write-shown c =
-    let line = c .before .before in
-    let within : line .heading .result .next ≤ length (line .heading .last .0) = omega arith in
-    sym (length-take-le (line .heading .result .next) (line .heading .last .0) within)
+    let line = c .before .before .heading in
+    let within : line .result .next ≤ length (line .last .0) = omega arith in
+    sym (length-take-le (line .result .next) (line .last .0) within)
 
 write-shown-requires : tie.Need-write-shown-requires
 write-shown-requires c κs =
-    let line = c .before .before in
-    let part = line .before .before in
-    let a = part .before .before .before .before .before .args in
-    let told = part .part .ensures in
-    heading-shown (now (a .reference)) (now (a .other)) (replicate 64 0) (part .part .last .1 .1 .0)
-    (part .part .last .1 .1 .1 .0) (line .heading .result) (line .heading .last .0) (now (part .part .result)) refl
-    (line .heading .ensures .0 .0) (line .heading .ensures .1) (told .1 .0) (told .1 .1 .0) (told .0)
+    let line = c .before .before .heading in
+    let part = c .before .before .before .before .part in
+    let a = c .before .before .before .before .before .before .before .before .before .args in
+    let told = part .ensures in (
+      heading-shown (now (a .reference)) (now (a .other)) (replicate 64 0) (part .last .1 .1 .0)
+          (part .last .1 .1 .1 .0) (line .result) (line .last .0) refl (line .ensures .0 .0) (line .ensures .1)
+          (told .1 .0) (told .1 .1 .0),
+      told .0,
+    )
 
 returns : tie.Need-returns
 returns c = search needs
