@@ -21,6 +21,7 @@
 --     SessionClaim C            that what is said does not depend on where the text was cut: it is what is said to the
 --                               lines of the whole text in turn
 --     runAt s line held         the run of a program: its state, and the line that stands at the front of a buffer
+--     Holding line held         so many characters of a line in a buffer of 81
 --     Reached C s r             a run that a program may come to from the state s
 --     Led C s r                 a run that some text has led to
 --     Standing C s v line held  where a program stands between two reads: in the state v, with so many characters of a
@@ -119,6 +120,10 @@ SessionClaim C = HeldEnough C → (s : C .State) (cs : List (List ℕ))
 
 abbrev pub runAt : {S : Type 0} → S → List ℕ → ℕ → Run S
 runAt s line held = record { state = s; held = take held line }
+
+pub record Holding (line : List ℕ) (held : ℕ) : Type 0 where
+  pub size : length line ≡ mostHeld
+  pub within : held ≤ mostHeld
 
 -- a run that begins, and one after the first line, or the part of a line, of whatever comes next
 pub data Reached (C : Console) (s : C .State) : Run (C .State) → Type 0 where

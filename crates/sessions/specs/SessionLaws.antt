@@ -25,6 +25,7 @@ use Rattle.sessions.specs.declared.gathering.Gathered.{Gathered}
 use Rattle.sessions.specs.Session.{Console, inTurn, Run, freshRun, grown, heldEnded, endSaid, ranAll, heardAll}
 use Rattle.sessions.specs.Session.{runAfter, saidOn, atEnd, session, HeldEnough, SessionClaim, ranLine, heardLine}
 use Rattle.sessions.specs.Session.{runAt, Reached, start, more, Led, Standing, Answerable, of-line, of-end}
+use Rattle.sessions.specs.Session.{Holding}
 
 -- what is cut twice is cut once
 take-again : (n : ℕ) (u v : List ℕ) → take n (take n u ++ v) ≡ take n (u ++ v)
@@ -268,13 +269,13 @@ pub record LineTaken (C : Console) (s v : C .State) (line : List ℕ) (held : �
   pub stands : (w : C .State) (n : ℕ) → length line' ≡ length line
       → runAt w line' n ≡ heldEnded C (runAt v line' (g .held)) (g .whole) → n ≤ g .held → Standing C s w line' n
 
-module _ {C : Console} {s v : C .State} {line : List ℕ} {held : ℕ} (stands : Standing C s v line held) (piece : List ℕ)
-    (at : ℕ)
+-- what the part of a line that goes on at a place of a piece comes to, gathered behind what is held
+module _ (C : Console) (v : C .State) {line : List ℕ} {held : ℕ} (holding : Holding line held) (piece : List ℕ) (at : ℕ)
     (g : Gathered) (answer : g ≡ taken line held piece at) (line' : List ℕ) (left : line'
     ≡ takenLeaves line held piece at) (before : at < length piece) where
   gathered-is : runAt v line' (g .held) ≡ grown (runAt v line held) (partAt piece at)
   gathered-is =
-      let holds = taken-holds line held (stands .size) (stands .within) piece at in
+      let holds = taken-holds line held (holding .size) (holding .within) piece at in
       rw (left, answer) (ap (λ (u : List ℕ). record { state = v; held = u }) holds)
 
   line-ran : heldEnded C (runAt v line' (g .held)) (g .whole) ≡ ranLine C (runAt v line held) (partAt piece at)
@@ -282,18 +283,18 @@ module _ {C : Console} {s v : C .State} {line : List ℕ} {held : ℕ} (stands :
       ap (λ (r : Run (C .State)). heldEnded C r (g .whole)) gathered-is
       ∙ ap (λ (h : Gathered). heldEnded C (grown (runAt v line held) (partAt piece at)) (h .whole)) answer
 
-  line-heard : endSaid C (runAt v line' (g .held)) (g .whole) ≡ heardLine C (runAt v line held) (partAt piece at)
+  pub line-heard : endSaid C (runAt v line' (g .held)) (g .whole) ≡ heardLine C (runAt v line held) (partAt piece at)
   line-heard =
       ap (λ (r : Run (C .State)). endSaid C r (g .whole)) gathered-is
       ∙ ap (λ (h : Gathered). endSaid C (grown (runAt v line held) (partAt piece at)) (h .whole)) answer
 
-  line-few : g .held ≤ mostHeld
-  line-few = rw answer (taken-few line held (stands .size) (stands .within) piece at)
+  pub line-few : g .held ≤ mostHeld
+  line-few = rw answer (taken-few line held (holding .size) (holding .within) piece at)
 
-  line-place : (at < g .next) × (g .next ≤ length piece)
+  pub line-place : (at < g .next) × (g .next ≤ length piece)
   line-place = rw answer (line-ends piece at before)
 
-  line-rest : (w : C .State) (n : ℕ) → runAt w line' n ≡ heldEnded C (runAt v line' (g .held)) (g .whole)
+  pub line-rest : (w : C .State) (n : ℕ) → runAt w line' n ≡ heldEnded C (runAt v line' (g .held)) (g .whole)
       → runAfter C (runAt v line held) (drop at piece) ≡ runAfter C (runAt w line' n) (drop (g .next) piece)
   unfolding ranAll
   line-rest w n is =
@@ -302,23 +303,36 @@ module _ {C : Console} {s v : C .State} {line : List ℕ} {held : ℕ} (stands :
       (sym answer)
       ∙ ap (λ (r : Run (C .State)). runAfter C r (drop (g .next) piece)) (sym (is ∙ line-ran))
 
+  pub line-holds : (n : ℕ) → length line' ≡ length line → n ≤ g .held → Holding line' n
+  line-holds n same few = record { size = same ∙ holding .size; within = let most = line-few in omega arith }
+
+module _ {C : Console} {s v : C .State} {line : List ℕ} {held : ℕ} (stands : Standing C s v line held) (piece : List ℕ)
+    (at : ℕ)
+    (g : Gathered) (answer : g ≡ taken line held piece at) (line' : List ℕ) (left : line'
+    ≡ takenLeaves line held piece at) (before : at < length piece) where
+  holding-so : Holding line held
+  holding-so = record { size = stands .size; within = stands .within }
+
   line-stands : (w : C .State) (n : ℕ) → length line' ≡ length line
       → runAt w line' n ≡ heldEnded C (runAt v line' (g .held)) (g .whole) → n ≤ g .held → Standing C s w line' n
   line-stands w n same is few = record {
     size = same ∙ stands .size;
-    within = let most = line-few in omega arith;
-    reached = rw (is, line-ran) (more (stands .reached) (drop at piece));
+    within = let most = line-few C v holding-so piece at g answer line' left before in omega arith;
+    reached = rw (is, line-ran C v holding-so piece at g answer line' left before)
+        (more (stands .reached) (drop at piece));
   }
 
   pub line-taken : LineTaken C s v line held piece at g line'
-  line-taken = record {
-    few = line-few;
-    answers = of-line (stands .reached) (drop at piece) line-heard;
-    on = line-place .0;
-    within = line-place .1;
-    rest = line-rest;
-    stands = line-stands;
-  }
+  line-taken =
+      let place = line-place C v holding-so piece at g answer line' left before in record {
+        few = line-few C v holding-so piece at g answer line' left before;
+        answers = of-line (stands .reached) (drop at piece)
+            (line-heard C v holding-so piece at g answer line' left before);
+        on = place .0;
+        within = place .1;
+        rest = line-rest C v holding-so piece at g answer line' left before;
+        stands = line-stands;
+      }
 
 -- what is said at the end to a line that is held
 pub end-answer : {C : Console} {s v : C .State} {line : List ℕ} {held : ℕ} → Standing C s v line held → 0 < held
@@ -332,3 +346,8 @@ end-answer {line = line} {held = held} stands some =
 -- a program that begins
 pub begins : {C : Console} (s : C .State) (line : List ℕ) → length line ≡ mostHeld → Standing C s s line 0
 begins s line size = record { size = size; within = omega arith; reached = start }
+
+-- what is said at the end where characters are held
+pub end-said : (C : Console) (v : C .State) (u : List ℕ) → 0 < length u
+    → C .says v record { chars = u; fed = false } ≡ atEnd C record { state = v; held = u }
+end-said C v u some = rw (lt-ltb 0 (length u) some) refl

@@ -1,8 +1,11 @@
 -- What the call leaves at the front of the buffer is what the console says to the line.
 use native.Mathlib.Omega.{arith}
 use denote.Ref.{now}
+use mathlib.Core.Path.{_∙_}
+use mathlib.Core.Bool.{true, false}
 use lib.ListN.{length-take}
 use Rattle.text.specs.Lines.{Line}
+use Rattle.thermostat_session.specs.ProbeSession.{probeConsole}
 use Rattle.thermostat_session.specs.ProbeSessionLaws.{said-front}
 use borrow.Author.Needs.{needs}
 use Rattle.thermostat_console.proofs.answer_line.Statement.{statement}
@@ -19,24 +22,22 @@ slice-aggregate-write-answer c = simp length-take (omega (arith, slice-reshare-p
 
 write-answer-requires : tie.Need-write-answer-requires
 write-answer-requires c κs =
-    let said = c .before .before .before in
-    let a = said .before .before .before .before in
-    let l : Line = record { chars = now (a .args .line); fed = a .args .fed } in
-    let front = said-front (a .args .probe) l (now (a .args .out)) (a .pre .0) (said .answer .result)
-    (said .answer .ensures .0) (said .answer .last .1 .1 .1 .0) (said .answer .ensures .1 .0)
-    (said .answer .ensures .1 .1) in
-    rw (front .0) (a .pre .1)
+    let said = c .before .before .before .answer in
+    let a = c .before .before .before .before .before .before .before in
+    let l : Line = record { chars = now (a .args .line); fed = true } in
+    said-front (a .args .probe) l (now (a .args .out)) (a .pre) (said .result) (said .ensures .0)
+    (said .last .1 .1 .1 .0) (said .ensures .1 .0) (said .ensures .1 .1) .0
 
 same-length : tie.Need-same-length
 same-length c = search needs
 
 returns : tie.Need-returns
 returns c =
-    let said = c .before .before .before .before .before in
-    let a = said .before .before .before .before in
-    let l : Line = record { chars = now (a .args .line); fed = a .args .fed } in
-    said-front (a .args .probe) l (now (a .args .out)) (a .pre .0) (said .answer .result) (said .answer .ensures .0)
-    (said .answer .last .1 .1 .1 .0) (said .answer .ensures .1 .0) (said .answer .ensures .1 .1) .1
+    let said = c .before .before .before .before .before .answer in
+    let a = c .before .before .before .before .before .before .before .before .before in
+    let l : Line = record { chars = now (a .args .line); fed = true } in
+    said-front (a .args .probe) l (now (a .args .out)) (a .pre) (said .result) (said .ensures .0)
+    (said .last .1 .1 .1 .0) (said .ensures .1 .0) (said .ensures .1 .1) .1
 
 pub answer-line-spec : {M : Type 1} → statement M
 answer-line-spec =

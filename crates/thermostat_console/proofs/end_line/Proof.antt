@@ -2,8 +2,8 @@
 use mathlib.Core.Path.{refl, ap}
 use native.Mathlib.Omega.{arith}
 use lib.Seq.{length-take-le}
-use Rattle.sessions.specs.Session.{freshRun}
 use Rattle.thermostat.specs.declared.Thermostat.{Thermostat}
+use Rattle.sessions.specs.Session.{freshRun}
 use borrow.Author.Needs.{needs}
 use Rattle.thermostat_console.proofs.end_line.Statement.{statement}
 use Rattle.thermostat_console.proofs.end_line.Tie as tie
@@ -12,19 +12,15 @@ slice-aggregate-answer-line : tie.Need-slice-aggregate-answer-line
 slice-aggregate-answer-line c = search (needs, length-take-le)
 
 answer-line-requires : tie.Need-answer-line-requires
-answer-line-requires c κs =
-    let fed = c .before .before in
-    let a = fed .before .before .before in
-    (a .pre .1, rw (fed .if1 .taken) at (a .pre .2))
+answer-line-requires c κs = search needs
 
 same-length : tie.Need-same-length
 same-length c = search needs
 
 returns : tie.Need-returns
 returns c =
-    let answered = c .before .before in
-    let fed = answered .before .before .before in
-    rw (fed .if1 .taken) (ap (λ (p : Thermostat). freshRun p) (answered .answer-line .ensures), omega arith)
+    rw (c .before .before .before .before .before .if1 .taken)
+    (ap (λ (v : Thermostat). freshRun v) (c .before .before .answer-line .ensures), omega arith)
 
 returns-2 : tie.Need-returns-2
 returns-2 c = rw (c .if1 .left) (refl, omega arith)
