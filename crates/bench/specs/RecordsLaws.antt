@@ -2,8 +2,8 @@
 --     codes-unsound, codes-twice, codes-onward, codes-end     the codes, one after another
 --     over-none, over-more                                    the first records in the places of another table
 --     made-many, made-unfit, made-done                        the ends of making a bench
-use Prim.Native.Nat.{ℕ, zero, suc, _+_, _-_, _<_, _≤_}
-use mathlib.Core.Path.{_≡_, refl, sym, ap, _∙_}
+use Prim.Native.Nat.{ℕ, zero, suc, _+_, _<_, _≤_}
+use mathlib.Core.Path.{_≡_, refl, ap}
 use mathlib.Core.Bool.{true, false, and-false}
 use mathlib.Core.List.{List, [], _∷_, _++_}
 use native.Mathlib.Omega.{arith}
@@ -68,8 +68,14 @@ module _ (ds : List Device) (n : ℕ) where
   made-unfit e = rw (e, and-false (leb n 32))
 
   pub made-done : length ds ≡ 32 → n ≤ 32 → codesFit (take n ds) ≡ true
-      → record { refusal = accepted; bench = record { devices = take n ds ++ drop n (replicate 32 vacant); count = n } }
-      ≡ madeOf ds n
+      → record {
+        refusal = accepted;
+        bench = record {
+          devices = take n ds ++ drop n
+              (replicate 32 vacant);
+          count = n;
+        };
+      } ≡ madeOf ds n
   made-done long h e =
       let size = length-take-le n ds (omega arith) in
       rw (le-leb n 32 h, e, size, drop-replicate n 32 vacant)

@@ -3,7 +3,7 @@
 use Prim.Native.Nat.{ℕ, _+_, _-_, _<_, _≤_}
 use mathlib.Core.Path.{_≡_, refl, sym, ap, _∙_}
 use mathlib.Core.Bool.{Bool, true, false}
-use mathlib.Core.List.{List, [], _∷_, _++_}
+use mathlib.Core.List.{List, [], _∷_}
 use native.Mathlib.Omega.{arith}
 use borrow.Author.Tests.{le-leb, lt-leb, leb-true, leb-false}
 use lib.Dec.{leb}
@@ -12,7 +12,6 @@ use Rattle.basic_laws.specs.Laid.{laid}
 use Rattle.refusals.specs.Refusals.{accepted, noRoom}
 use Rattle.text.specs.Lines.{linesOf}
 use Rattle.pieces.specs.Pieces.{together}
-use Rattle.frame.specs.declared.Frame.{Frame}
 use Rattle.frame.specs.Recording.{writeAll}
 use Rattle.frame.specs.RecordingLaws.{write-append}
 use Rattle.captures.specs.Rule.{untouched}
@@ -20,7 +19,7 @@ use Rattle.captures.specs.declared.edges.Answer.{Answer}
 use Rattle.captures.specs.Edges.{freshReader, refusedWith, Reading, fedBytes, answersOf, endAnswer, endLeaves}
 use Rattle.captures.specs.EdgesLaws.{end-again}
 use Rattle.capture_laws.specs.Capture.{EdgeCourse, capture, courseEnded, FrameSound}
-use Rattle.capture_laws.specs.Claims.{Filled, Closed}
+use Rattle.capture_laws.specs.Claims.{Filled}
 use Rattle.capture_laws.specs.StepLaws.{blank-sound, course-kept}
 use Rattle.capture_laws.specs.Fitting.{fitting, HeldIn, RoomClaim, fedIn}
 use Rattle.capture_laws.specs.FittingLaws.{fitting-longest, fitting-stop, fitting-last}
@@ -58,13 +57,14 @@ came-held : (out : List ℕ) (c : EdgeCourse) (x : Reading) → Came 0 out c x
 came-held out c x (fits h k) = all-held out c (answersOf (x .reader)) (x .out) (omega arith) (k .refusal) (k .written)
     (k .laid-out)
 came-held out c x (short h e) = front-held out c (answersOf (x .reader)) (x .out) (omega arith) (e .refusal)
-    (e .written) (e .laid-out)
+    (e .written)
+    (e .laid-out)
 
 fed-in : (out : List ℕ) (ss : List (List ℕ)) → fedIn out ss ≡ fedBytes freshReader out (together ss)
 fed-in out ss = any-cuts record { reader = freshReader; out = out } ss
 
-fed-held : (out : List ℕ) (ss : List (List ℕ)) → let x = fedIn out ss in
-    HeldIn 0 out (capture (together ss)) (answersOf (x .reader)) (x .out)
+fed-held : (out : List ℕ) (ss : List (List ℕ)) → let x =
+    fedIn out ss in HeldIn 0 out (capture (together ss)) (answersOf (x .reader)) (x .out)
 fed-held out ss =
     rw (fed-in out ss) (came-held out (capture (together ss)) (fedBytes freshReader out (together ss))
     (capture-came (together ss) out))
@@ -121,8 +121,8 @@ module _ (s out : List ℕ) where
   -- some were not
   short-ended : length out < length (writeAll (found .frames)) → Shortened 0 out found after → Ended
   short-ended h e =
-      let again = end-again (after .reader) (after .out) (λ z. let one : noRoom ≡ accepted = sym (e .refusal) ∙ z in
-      omega arith) in
+      let again = end-again (after .reader) (after .out)
+      (λ z. let one : noRoom ≡ accepted = sym (e .refusal) ∙ z in omega arith) in
       let more = ended-more found in
       let same = ended-behind found (λ fs. fitting room fs ≡ fitting room (found .frames)) refl
       (fitting-stop room (found .frames) (found .wire .frame ∷ []) (omega arith)) in

@@ -2,14 +2,13 @@
 --     TableCall                     one call, with its arguments
 --     TableAnswer                   what it answers: a refusal alone, or one with the presence or the line that was
 --                                   seen
---     Typed c                       the code of an adding has 64 bits, as its type has it
+--     CodeTyped c                   the code of an adding has 64 bits, as its type has it
 --     benchLeft, benchSays c b      the bench that a call leaves on the records, and what it answers
---     tableLeft, tableSays c t      the bytes that it leaves of lent ones, and what it answers, as the calls of `calls`
---                                   promise
---     benchAfter, benchAnswers h b  the bench after the calls h, and their answers, one after another, refused ones too
+--     tableLeft, tableSays c t      the bytes that it leaves of lent ones, and what it answers, as `calls` promises
+--     benchAfter, benchAnswers h b  the bench after the calls h, and the answers of all, refused ones too
 --     tableAfter, tableAnswers h t  the same of lent bytes
---     RunsClaim                     1,536 zeros hold the empty bench; and bytes that hold it hold, after every run of
---                                   calls, the bench after them, with the same answers
+--     RunsClaim                     1,536 zeros hold the empty bench; and bytes that hold it hold after every run of
+--                                   calls the bench after them, with the same answers
 use Prim.Native.Nat.{ℕ, _^_, _<_}
 use mathlib.Core.Bool.{Bool}
 use mathlib.Core.List.{List, [], _∷_}
@@ -43,13 +42,13 @@ pub data TableAnswer : Type 0 where
   ofReset : ResetSeen → TableAnswer
   ofSlot : SlotSeen → TableAnswer
 
-abbrev pub Typed : TableCall → Type 0
-Typed (add new) = new .code < 2 ^ 64
-Typed reset = Unit
-Typed (slot m) = Unit
-Typed (finishConversion code n) = Unit
-Typed (finishCopy code) = Unit
-Typed (powerCycle code) = Unit
+abbrev pub CodeTyped : TableCall → Type 0
+CodeTyped (add new) = new .code < 2 ^ 64
+CodeTyped reset = Unit
+CodeTyped (slot m) = Unit
+CodeTyped (finishConversion code n) = Unit
+CodeTyped (finishCopy code) = Unit
+CodeTyped (powerCycle code) = Unit
 
 -- ## One call
 
@@ -102,7 +101,7 @@ tableAnswers (c ∷ h) t = tableSays c t ∷ tableAnswers h (tableLeft c t)
 
 pub record RunsClaim : Type 0 where
   pub zeros : unpacked (replicate tableBytes 0) ≡ held emptyBench
-  pub left : (h : List TableCall) → Each Typed h → (t : List ℕ) → unpacked t ≡ held emptyBench
+  pub left : (h : List TableCall) → Each CodeTyped h → (t : List ℕ) → unpacked t ≡ held emptyBench
       → unpacked (tableAfter h t) ≡ held (benchAfter h emptyBench)
-  pub says : (h : List TableCall) → Each Typed h → (t : List ℕ) → unpacked t ≡ held emptyBench
+  pub says : (h : List TableCall) → Each CodeTyped h → (t : List ℕ) → unpacked t ≡ held emptyBench
       → tableAnswers h t ≡ benchAnswers h emptyBench

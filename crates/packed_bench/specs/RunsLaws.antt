@@ -3,18 +3,17 @@
 --     whole-invariant    nothing that can happen to a device takes from it that its numbers are of their types
 --     kept-step          each call leaves a bench that a table can hold, with numbers of their types
 --     runs-claim
-use Prim.Native.Nat.{ℕ, _^_, _<_, _≤_}
-use mathlib.Core.Bool.{Bool, true}
+use Prim.Native.Nat.{ℕ, _^_, _<_}
+use mathlib.Core.Bool.{true}
 use mathlib.Core.List.{List, [], _∷_}
-use mathlib.Core.Path.{_≡_, refl, sym, ap, _∙_}
+use mathlib.Core.Path.{_≡_, refl, ap, _∙_}
 use native.Mathlib.Omega.{arith}
 use borrow.Author.Tests.{eq-eqb}
 use lib.Dec.{lit≤}
-use lib.IntN.{ℤ}
 use lib.ListN.{getD, replicate}
 use Rattle.basic_laws.specs.Complement.{Fits16}
 use Rattle.basic_laws.specs.Each.{Each}
-use Rattle.basic_laws.specs.EachLaws.{each-snoc, each-mapped}
+use Rattle.basic_laws.specs.EachLaws.{each-snoc}
 use Rattle.basic_laws.specs.Same.{same}
 use Rattle.refusals.specs.Refusals.{accepted}
 use Rattle.family.specs.Layout.{configurationPlace}
@@ -25,20 +24,15 @@ use Rattle.temperature.specs.Register.{countOf}
 use Rattle.temperature.specs.declared.Reading.the-variants.{InSixteenths}
 use Rattle.temperature.specs.declared.Sixteenths.{Sixteenths}
 use Rattle.scratchpad.specs.Stored.{storedReading}
-use Rattle.device.specs.Finish.{conversionDone, copyDone}
-use Rattle.device.specs.Hear.{hearOf}
+use Rattle.device.specs.Finish.{conversionDone}
 use Rattle.device.specs.Laws.{hear-code, hear-page, power-up-fresh, joined-fresh, conversion-code, copy-only}
-use Rattle.device.specs.Power.{resetOf, powerUp, joined}
+use Rattle.device.specs.Power.{joined}
 use Rattle.device.specs.Record.{rowOf}
 use Rattle.device.specs.Sound.{Sound}
 use Rattle.device.specs.SoundLaws.{joined-sound, reset-sound, hear-sound, power-up-sound, conversion-sound, copy-sound}
-use Rattle.device.specs.declared.Activity.the-variants.{Copying}
 use Rattle.device.specs.declared.Device.{Device}
 use Rattle.device.specs.declared.Joining.{Joining}
-use Rattle.device.specs.declared.Page.{Page}
-use Rattle.device.specs.declared.Settings.{Settings}
 use Rattle.bench.specs.Bench.{live, emptyBench}
-use Rattle.bench.specs.Calls.{addedTo}
 use Rattle.bench.specs.Everywhere.{Invariant, heard-each, restarted-each, conversion-each, copy-each, cycle-each}
 use Rattle.bench.specs.Laws.{slot-cases, reset-cases, added-cases}
 use Rattle.bench.specs.Records.{codesFit}
@@ -50,13 +44,12 @@ use Rattle.packed_bench.specs.Types.{InTypes}
 use Rattle.packed_bench.specs.Table.{tableBytes, tableOf, devicesIn, held, unpacked, packedInto}
 use Rattle.packed_bench.specs.TableLaws.{unpack-pack}
 use Rattle.packed_bench.specs.Tabled.{Tabled}
-use Rattle.packed_bench.specs.Through.{leftBy}
 use Rattle.packed_bench.specs.ThroughLaws.{accepted-long, slot-keeps, reset-keeps, added-keeps, conversion-keeps}
 use Rattle.packed_bench.specs.ThroughLaws.{copy-keeps, cycle-keeps}
 use Rattle.packed_bench.specs.declared.table.Unpacked.{Unpacked}
-use Rattle.packed_bench.specs.Runs.{TableCall, add, reset, slot, finishConversion, finishCopy, powerCycle, Typed}
-use Rattle.packed_bench.specs.Runs.{benchLeft, benchSays, tableLeft, tableSays, benchAfter, benchAnswers}
-use Rattle.packed_bench.specs.Runs.{tableAfter, tableAnswers, RunsClaim}
+use Rattle.packed_bench.specs.Runs.{TableCall, add, reset, slot, finishConversion, finishCopy, powerCycle}
+use Rattle.packed_bench.specs.Runs.{CodeTyped, benchLeft, benchSays, tableLeft, tableSays, benchAfter}
+use Rattle.packed_bench.specs.Runs.{benchAnswers, tableAfter, tableAnswers, RunsClaim}
 
 -- ## The numbers of a device
 
@@ -81,7 +74,8 @@ whole-invariant = record {
     reading-fits = rw (hear-page d l) (w .reading-fits);
   };
   by-reset = λ d w. record {
-    sound = reset-sound d (w .sound);
+    sound = reset-sound d
+        (w .sound);
     code-fits = w .code-fits;
     reading-fits = w .reading-fits;
   };
@@ -126,7 +120,7 @@ record Kept (b : Bench) : Type 0 where
   pub tabled : Tabled b
   pub whole : Each Whole (live b)
 
-kept-step : (c : TableCall) (b : Bench) → Typed c → Kept b → Kept (benchLeft c b)
+kept-step : (c : TableCall) (b : Bench) → CodeTyped c → Kept b → Kept (benchLeft c b)
 kept-step (add new) b typed k = record {
   tabled = added-keeps new b (k .tabled);
   whole = added-cases b new (λ r. Each Whole (live (r .bench))) (k .tabled .places) (λ n r. k .whole)
@@ -159,7 +153,7 @@ module _ (c : TableCall) (t : List ℕ) (b : Bench) (holds : unpacked t ≡ held
   there : unpacked t .refusal ≡ accepted
   there = ap (λ (u : Unpacked). u .refusal) holds
 
-  left-step : Typed c → Kept b → unpacked (tableLeft c t) ≡ held (benchLeft c b)
+  left-step : CodeTyped c → Kept b → unpacked (tableLeft c t) ≡ held (benchLeft c b)
   left-step typed k =
       let next = kept-step c b typed k in
       let packs : tableLeft c t ≡ packedInto t (benchLeft c b) =
@@ -178,7 +172,7 @@ says-step (powerCycle code) t b holds = rw holds
 
 -- ## Every run
 
-run-left : (h : List TableCall) → Each Typed h → (t : List ℕ) (b : Bench) → unpacked t ≡ held b → Kept b
+run-left : (h : List TableCall) → Each CodeTyped h → (t : List ℕ) (b : Bench) → unpacked t ≡ held b → Kept b
     → unpacked (tableAfter h t) ≡ held (benchAfter h b)
 unfolding tableAfter benchAfter
 run-left [] typed t b holds k = holds
@@ -186,7 +180,7 @@ run-left (c ∷ h) typed t b holds k =
     run-left h (typed .1) (tableLeft c t) (benchLeft c b) (left-step c t b holds (typed .0) k)
     (kept-step c b (typed .0) k)
 
-run-says : (h : List TableCall) → Each Typed h → (t : List ℕ) (b : Bench) → unpacked t ≡ held b → Kept b
+run-says : (h : List TableCall) → Each CodeTyped h → (t : List ℕ) (b : Bench) → unpacked t ≡ held b → Kept b
     → tableAnswers h t ≡ benchAnswers h b
 unfolding tableAnswers benchAnswers
 run-says [] typed t b holds k = refl

@@ -17,3 +17,6 @@ pub mod Lists
 pub mod ListsLaws
 pub mod Trips
 pub mod TripsLaws
+pub mod KeptLaws
+pub mod ListRuns
+pub mod ListRunsLaws

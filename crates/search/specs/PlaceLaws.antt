@@ -15,9 +15,9 @@ use Rattle.basic_laws.specs.Fold.{fold, all}
 use Rattle.basic_laws.specs.Front.{mapFront}
 use Rattle.basic_laws.specs.Bits.{bitAt}
 use Rattle.refusals.specs.Refusals.{accepted}
-use Rattle.device.specs.Hear.{afterSearch, hearOf}
+use Rattle.device.specs.Hear.{hearOf}
 use Rattle.device.specs.Offer.{offerOf}
-use Rattle.device.specs.Record.{withStage, holdsWire}
+use Rattle.device.specs.Record.{holdsWire}
 use Rattle.device.specs.declared.Device.{Device}
 use Rattle.device.specs.declared.Phase.{Phase}
 use Rattle.device.specs.declared.Phase.the-variants.{SendBit, SendComplement, TakeBit}

@@ -1,10 +1,10 @@
 -- The loop's invariant: the places before i have the records, and the others are as they were.
 use Prim.Native.Nat.{_≤_, _<_, _-_}
 use mathlib.Core.List.{_++_}
-use mathlib.Core.Path.{_≡_, refl, ap, _∙_}
+use mathlib.Core.Path.{_≡_, refl}
 use native.Mathlib.Omega.{arith}
 use borrow.Author.Needs.{needs}
-use lib.ListN.{length, take, drop, set}
+use lib.ListN.{length, take, drop}
 use Rattle.bench.specs.RecordsLaws.{over-more}
 use Rattle.bench.proofs.over.Statement.{statement}
 use Rattle.bench.proofs.over.Tie as tie

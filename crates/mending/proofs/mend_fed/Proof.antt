@@ -11,7 +11,6 @@ use lib.ListN.{length, take, set, length-set}
 use lib.Seq.{take-suc-set, length-take-le}
 use Rattle.basic_laws.specs.Choice.{if_then_else_}
 use Rattle.text.specs.Lines.{Line, lineFeed}
-use Rattle.text.specs.declared.laying.Written.{Written}
 use Rattle.text.specs.Laying.{layAnswer, layLeaves}
 use Rattle.frame.specs.declared.frame_lines.LineRead.{LineRead}
 use Rattle.frame.specs.ReadLine.{readLine}

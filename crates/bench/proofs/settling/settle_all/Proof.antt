@@ -6,9 +6,9 @@ use mathlib.Core.Logic.{⊎-elim}
 use mathlib.Core.Path.{_≡_, _∙_, ap, sym}
 use native.Mathlib.Omega.{arith}
 use borrow.Author.Needs.{needs}
-use lib.ListN.{length, getD}
+use lib.ListN.{length}
 use Rattle.basic_laws.specs.Front.{mapFront}
-use Rattle.basic_laws.specs.FrontLaws.{front-none, front-more, front-length}
+use Rattle.basic_laws.specs.FrontLaws.{front-none, front-more}
 use Rattle.bench.specs.Taken.{front-most, front-kept}
 use Rattle.bench.specs.Settling.{settledOf, settled-quiet}
 use Rattle.bench.proofs.settling.settle_all.Statement.{statement}

@@ -1,8 +1,6 @@
 -- By the records of the bench.
-use mathlib.Core.Path.{_∙_, ap}
+use mathlib.Core.Path.{_∙_}
 use borrow.Author.Needs.{needs}
-use denote.Ref.{now}
-use Rattle.basic_laws.specs.Each.{Each}
 use Rattle.packed_bench.specs.TableLaws.{written-over}
 use Rattle.packed_bench.proofs.calls.store.Statement.{statement}
 use Rattle.packed_bench.proofs.calls.store.Tie as tie
