@@ -1,8 +1,11 @@
 -- What the call leaves at the front of the buffer is what the console says to the line.
 use native.Mathlib.Omega.{arith}
 use denote.Ref.{now}
+use mathlib.Core.Path.{_∙_}
+use mathlib.Core.Bool.{true, false}
 use lib.ListN.{length-take}
 use Rattle.text.specs.Lines.{Line}
+use Rattle.bench_session.specs.SettingsSession.{both, benchConsole}
 use Rattle.bench_session.specs.SettingsSessionLaws.{told-front}
 use borrow.Author.Needs.{needs}
 use Rattle.bench_console.proofs.answer_line.Statement.{statement}
@@ -19,25 +22,22 @@ slice-aggregate-write-answer c = simp length-take (omega (arith, slice-reshare-p
 
 write-answer-requires : tie.Need-write-answer-requires
 write-answer-requires c κs =
-    let told = c .before .before .before .before in
-    let a = told .before .before .before .before in
-    let l : Line = record { chars = now (a .args .line); fed = a .args .fed } in
-    let front = told-front (a .args .bench) (a .args .store) l (now (a .args .out)) (a .pre .0) (told .answer .result)
-    (told .answer .ensures .0) (told .answer .last .1 .1 .1 .1 .0) (told .answer .ensures .1 .0)
-    (told .answer .ensures .1 .1) in
-    rw (front .0) (a .pre .1)
+    let told = c .before .before .before .before .answer in
+    let a = c .before .before .before .before .before .before .before .before in
+    let l : Line = record { chars = now (a .args .line); fed = true } in
+    told-front (a .args .bench) (a .args .store) l (now (a .args .out)) (a .pre) (told .result) (told .ensures .0)
+    (told .last .1 .1 .1 .1 .0) (told .ensures .1 .0) (told .ensures .1 .1) .0
 
 same-length : tie.Need-same-length
 same-length c = search needs
 
 returns : tie.Need-returns
 returns c =
-    let told = c .before .before .before .before .before in
-    let a = told .before .before .before .before in
-    let l : Line = record { chars = now (a .args .line); fed = a .args .fed } in
-    told-front (a .args .bench) (a .args .store) l (now (a .args .out)) (a .pre .0) (told .answer .result)
-    (told .answer .ensures .0) (told .answer .last .1 .1 .1 .1 .0) (told .answer .ensures .1 .0)
-    (told .answer .ensures .1 .1) .1
+    let told = c .before .before .before .before .before .answer in
+    let a = c .before .before .before .before .before .before .before .before .before in
+    let l : Line = record { chars = now (a .args .line); fed = true } in
+    told-front (a .args .bench) (a .args .store) l (now (a .args .out)) (a .pre) (told .result) (told .ensures .0)
+    (told .last .1 .1 .1 .1 .0) (told .ensures .1 .0) (told .ensures .1 .1) .1
 
 pub answer-line-spec : {M : Type 1} → statement M
 answer-line-spec =

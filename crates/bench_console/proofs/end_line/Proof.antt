@@ -12,19 +12,15 @@ slice-aggregate-answer-line : tie.Need-slice-aggregate-answer-line
 slice-aggregate-answer-line c = search (needs, length-take-le)
 
 answer-line-requires : tie.Need-answer-line-requires
-answer-line-requires c κs =
-    let fed = c .before .before in
-    let a = fed .before .before .before in
-    (a .pre .1, rw (fed .if1 .taken) at (a .pre .2))
+answer-line-requires c κs = search needs
 
 same-length : tie.Need-same-length
 same-length c = search needs
 
 returns : tie.Need-returns
 returns c =
-    let answered = c .before .before .before .before .before in
-    let fed = answered .before .before .before in
-    rw (fed .if1 .taken) (ap (λ (v : Both). freshRun v) (answered .answer-line .ensures), omega arith)
+    rw (c .before .before .before .before .before .before .before .before .if1 .taken)
+    (ap (λ (v : Both). freshRun v) (c .before .before .before .before .before .answer-line .ensures), omega arith)
 
 returns-2 : tie.Need-returns-2
 returns-2 c = rw (c .if1 .left) (refl, omega arith)
