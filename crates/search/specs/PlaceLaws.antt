@@ -25,7 +25,7 @@ use Rattle.device.specs.declared.Stage.{Stage}
 use Rattle.device.specs.declared.Stage.the-variants.{AwaitRom, SendRom, Match, Search, AwaitFunction, TakeSettings}
 use Rattle.device.specs.declared.Stage.the-variants.{SendScratchpad, SendStatus, SendPower, Quiet}
 use Rattle.bench.specs.Bench.{live, free}
-use Rattle.bench.specs.Settling.{settledOf}
+use Rattle.bench.specs.Settling.{settledOf, settledBench}
 use Rattle.bench.specs.Slot.{lineBit, heard, slotted}
 use Rattle.bench.specs.declared.Bench.{Bench}
 use Rattle.bench.specs.declared.Slotted.{Slotted}
@@ -146,10 +146,6 @@ hears x d = hearOf d x
 
 abbrev supplies : Device → Bool
 supplies d = not (holdsWire d)
-
--- the bench whose devices are settled
-abbrev pub settledBench : ℕ → Bool → Bench → Bench
-settledBench j x b = record { devices = mapFront (settledOf j x) (b .count) (b .devices); count = b .count }
 
 module _ (j : ℕ) (b : Bench) (h : all (fits j) (live b) ≡ true) where
   free-now : free b ≡ true
