@@ -34,7 +34,7 @@ use Rattle.naming.specs.declared.Name.the-variants.{Empty, Search, Alarm
 use Rattle.naming.specs.declared.PassRead.{PassRead}
 use Rattle.naming.specs.Naming.{named, plain, refusedName, sends, tripleAllowed, triplesAllowed, thirds}
 use Rattle.naming.specs.Naming.{passSlots, passRead, coded, namedPass, isNobody, isPad, lowFirst, codeMatched}
-use Rattle.naming.specs.Naming.{padIn, rawOf, namedPad, readNamed, lineNamed, nameOfRead}
+use Rattle.naming.specs.Naming.{noReading, padIn, rawOf, namedPad, readNamed, lineNamed, nameOfRead}
 
 pub one-at-most : (b : Bool) → bitNumber b ≤ 1
 one-at-most true = omega arith
@@ -225,7 +225,8 @@ judged-small family pad = by-test (not (crcRight pad)) (allZeros pad) (not (kind
 coded-small : (n : Name) (c : ℕ) → coded n c .refusal < 100
 coded-small n c = by-test (eqb (codeRefusal c) accepted)
   where
-    by-test : (t : Bool) → (if t then record { refusal = accepted; name = n; code = c; raw = 0 }
+    by-test : (t : Bool)
+        → (if t then record { refusal = accepted; name = n; code = c; raw = 0; reading = noReading }
         else refusedName (codeRefusal c)) .refusal < 100
     by-test true = lit< tt
     by-test false = code-small c
@@ -242,7 +243,13 @@ scratchpad-small c pad = by-test (eqb (codeRefusal c) wrongCrc) (eqb (judged (fa
   where
     by-test : (t u : Bool)
         → (if t then refusedName wrongCrc else if u
-        then record { refusal = accepted; name = Pad; code = c; raw = rawOf pad }
+        then record {
+          refusal = accepted;
+          name = Pad;
+          code = c;
+          raw = rawOf pad;
+          reading = judged (familyOf c) pad .reading;
+        }
         else refusedName (judged (familyOf c) pad .refusal)) .refusal < 100
     by-test true u = lit< tt
     by-test false true = lit< tt

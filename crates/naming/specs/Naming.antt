@@ -1,5 +1,5 @@
--- What a frame is named (the scope, "Frames"): EMPTY, SEARCH, ALARM, NOBODY, PAD or OTHER, with the code and the raw
--- reading it shows, or the refusal 14, 5, 6, 7, 11 or 20, the first of these that anything in the frame gives. EMPTY,
+-- What a frame is named (the scope, "Frames"): EMPTY, SEARCH, ALARM, NOBODY, PAD or OTHER, with the code and the
+-- reading it shows, raw and without its undefined bits, or the refusal 14, 5, 6, 7, 11 or 20, the first of these that anything in the frame gives. EMPTY,
 -- NOBODY and OTHER give no refusal.
 --     nameNumber n           the number of a name, 1 to 6 in the scope's order
 --     named f                what a frame is named
@@ -9,6 +9,7 @@ use Prim.Native.Nat.{ℕ, _+_, _*_}
 use mathlib.Core.Bool.{Bool, true, false, not, _&&_, _||_}
 use mathlib.Core.List.{List, [], _∷_}
 use lib.Dec.{eqb}
+use lib.IntN.{pos}
 use lib.ListN.{take, drop, getD}
 use Rattle.basic_laws.specs.Choice.{if_then_else_}
 use Rattle.basic_laws.specs.Bits.{numberOf, bytesBits}
@@ -16,6 +17,8 @@ use Rattle.refusals.specs.Refusals.{accepted, wrongCrc, badTriple}
 use Rattle.commands.specs.Commands.{matchRom, searchRom, alarmSearch, readScratchpad}
 use Rattle.family.specs.Layout.{readingLowPlace, readingHighPlace}
 use Rattle.rom.specs.Code.{familyOf, codeRefusal}
+use Rattle.temperature.specs.declared.Reading.{Reading}
+use Rattle.temperature.specs.declared.Reading.the-variants.{InSixteenths}
 use Rattle.scratchpad.specs.Judgement.{judged}
 use Rattle.scratchpad.specs.declared.Judged.{Judged}
 use Rattle.frame.specs.declared.Frame.{Frame}
@@ -36,13 +39,17 @@ nameNumber Nobody = 4
 nameNumber Pad = 5
 nameNumber Other = 6
 
+-- the reading where none was read
+abbrev pub noReading : Reading
+noReading = InSixteenths (record { 0 = pos 0 })
+
 -- a name with no code and no reading
 abbrev pub plain : Name → Named
-plain n = record { refusal = accepted; name = n; code = 0; raw = 0 }
+plain n = record { refusal = accepted; name = n; code = 0; raw = 0; reading = noReading }
 
 -- a refusal: every other number is zero, and the name is Other
 abbrev pub refusedName : ℕ → Named
-refusedName n = record { refusal = n; name = Other; code = 0; raw = 0 }
+refusedName n = record { refusal = n; name = Other; code = 0; raw = 0; reading = noReading }
 
 -- byte k of a frame: slots 8k to 8k + 7, the first in bit 0
 abbrev pub byteOf : Frame → ℕ → ℕ
@@ -86,7 +93,8 @@ passRead ss = if triplesAllowed ss then record { allowed = true; code = numberOf
 
 -- a name with a code, which must be sound
 abbrev pub coded : Name → ℕ → Named
-coded n c = if eqb (codeRefusal c) accepted then record { refusal = accepted; name = n; code = c; raw = 0 }
+coded n c = if eqb (codeRefusal c) accepted
+    then record { refusal = accepted; name = n; code = c; raw = 0; reading = noReading }
     else refusedName (codeRefusal c)
 
 -- all triples are looked at before the code
@@ -125,7 +133,8 @@ rawOf pad = getD pad readingLowPlace 0 + 256 * getD pad readingHighPlace 0
 -- the scratchpad's own judgement
 abbrev pub believed : ℕ → List ℕ → Judged → Named
 believed c pad j = if eqb (j .refusal) accepted
-    then record { refusal = accepted; name = Pad; code = c; raw = rawOf pad } else refusedName (j .refusal)
+    then record { refusal = accepted; name = Pad; code = c; raw = rawOf pad; reading = j .reading }
+    else refusedName (j .refusal)
 
 -- 5 for the code's CRC or the scratchpad's, then 6, 7, 11 and 20, an unknown family of the code among the 7
 abbrev pub namedPad : ℕ → List ℕ → Named

@@ -10,10 +10,10 @@ use Rattle.refusals.specs.Refusals.{accepted}
 use Rattle.rom.specs.Code.{codeBits, codeRefusal}
 use Rattle.naming.specs.declared.Name.{Name}
 use Rattle.naming.specs.declared.Named.{Named}
-use Rattle.naming.specs.Naming.{triplesAllowed, thirds}
+use Rattle.naming.specs.Naming.{noReading, triplesAllowed, thirds}
 
 abbrev pub listsCode : Name → ℕ → Named
-listsCode n c = record { refusal = accepted; name = n; code = c; raw = 0 }
+listsCode n c = record { refusal = accepted; name = n; code = c; raw = 0; reading = noReading }
 
 -- slots that a pass shows after its command when it lists a code: allowed triples whose third bits are the code's
 pub record PassListing (code : ℕ) (ss : List Bool) : Type 0 where

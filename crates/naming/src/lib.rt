@@ -15,6 +15,8 @@ use frame::frame_lines;
 use frame::frame_lines::LineRead;
 use scratchpad::Judged;
 use scratchpad::NineBytes;
+use temperature::Reading;
+use temperature::Sixteenths;
 
 // Slots of a search pass: a command and three for each bit of the code.
 const PASS_SLOTS: u16 = 200;
@@ -57,6 +59,8 @@ pub struct Named {
     pub code: u64,
     // scratchpad bytes 1 and 0 of a read, else 0
     pub raw: u16,
+    // the reading of a read, without the bits that its resolution leaves undefined; else zero sixteenths
+    pub reading: Reading,
 }
 
 // What the triples of a search pass say.
@@ -75,6 +79,7 @@ fn plain_name(name: Name) -> Named
         name,
         code: 0,
         raw: 0,
+        reading: Reading::InSixteenths(Sixteenths(0)),
     }
 }
 
@@ -87,6 +92,7 @@ pub fn refuse(number: u8) -> Named
         name: Name::Other,
         code: 0,
         raw: 0,
+        reading: Reading::InSixteenths(Sixteenths(0)),
     }
 }
 
@@ -188,6 +194,7 @@ fn name_coded(name: Name, code: u64) -> Named
         name,
         code,
         raw: 0,
+        reading: Reading::InSixteenths(Sixteenths(0)),
     }
 }
 
@@ -216,11 +223,13 @@ fn name_judged(code: u64, pad: NineBytes, judged: Judged) -> Named
     if refusal != refusals::ACCEPTED {
         return refuse(refusal);
     }
+    let reading = judged.reading;
     Named {
         refusal: refusals::ACCEPTED,
         name: Name::Pad,
         code,
         raw: raw_of(pad[family::READING_LOW], pad[family::READING_HIGH]),
+        reading,
     }
 }
 
