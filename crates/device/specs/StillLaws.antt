@@ -4,7 +4,8 @@ use mathlib.Core.Bool.{Bool, false, not, true≢false}
 use Rattle.device.specs.Hear.{hearAt, hearOf}
 use Rattle.device.specs.declared.Device.{Device}
 use Rattle.device.specs.declared.Stage.{Stage}
-use Rattle.device.specs.declared.Stage.the-variants.{AwaitRom, SendRom, Match, Search, AwaitFunction, TakeSettings}
+use Rattle.device.specs.declared.Stage.the-variants.{AwaitRom, SendRom, Match, Search, AwaitFunction}
+use Rattle.device.specs.declared.Stage.the-variants.{TakeSettings}
 use Rattle.device.specs.declared.Stage.the-variants.{SendScratchpad, SendStatus, SendPower, Quiet}
 use Rattle.device.specs.Stages.{stillAt}
 

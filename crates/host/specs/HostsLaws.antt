@@ -225,7 +225,8 @@ module _ (n : ℕ) (ih : Hears n) (line : List ℕ) (held : ℕ) (bytes : List �
         ∙ ih after (length v) c 0 cs after-long clean (omega arith)
         ∙ ap (λ (w : List ℕ). said lineNumbers ((w ++ c) ++ together cs)) front
         ∙ ap (said lineNumbers) (append-assoc v c (together cs))
-        ∙ cut-same lineNumbers mostHeldOfRecording host-held-tells (u ++ b) (c ++ together cs) (plain-open u b plain unfed)
+        ∙ cut-same lineNumbers mostHeldOfRecording host-held-tells (u ++ b) (c
+        ++ together cs) (plain-open u b plain unfed)
 
     none-past : drop place bytes ≡ []
     none-past =

@@ -30,11 +30,13 @@ pub cut-named : (cs : List ℕ) (fed : Bool) → lineNamed record { chars = take
 cut-named cs fed = by-test (leb (length cs) mostHeldOfRecording) refl
   where
     by-test : (t : Bool) → leb (length cs) mostHeldOfRecording ≡ t
-        → lineNamed record { chars = take mostHeldOfRecording cs; fed = fed } ≡ lineNamed record { chars = cs; fed = fed }
+        → lineNamed record { chars = take mostHeldOfRecording cs; fed = fed }
+        ≡ lineNamed record { chars = cs; fed = fed }
     by-test true e = rw (take-all mostHeldOfRecording cs (leb-true (length cs) mostHeldOfRecording e))
     by-test false e =
         let k = leb-false (length cs) mostHeldOfRecording e in
-        let l : length (take mostHeldOfRecording cs) ≡ mostHeldOfRecording = length-take-le mostHeldOfRecording cs (omega arith) in
+        let l : length (take mostHeldOfRecording cs) ≡ mostHeldOfRecording =
+        length-take-le mostHeldOfRecording cs (omega arith) in
         ap readNamed (read-long record { chars = take mostHeldOfRecording cs; fed = fed } (omega arith)
         ∙ sym (read-long record { chars = cs; fed = fed } (omega arith)))
 
@@ -46,7 +48,8 @@ open-cut cs true next = by-test (eqb (length cs) 0) refl
     size : length (take mostHeldOfRecording cs) ≡ min mostHeldOfRecording (length cs)
     size = length-take mostHeldOfRecording cs
 
-    by-test : (t : Bool) → eqb (length cs) 0 ≡ t → openTold (take mostHeldOfRecording cs) true next ≡ openTold cs true next
+    by-test : (t : Bool) → eqb (length cs) 0 ≡ t
+        → openTold (take mostHeldOfRecording cs) true next ≡ openTold cs true next
     by-test true e =
         let none = eqb-true (length cs) 0 e in
         let l = size in

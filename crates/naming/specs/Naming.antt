@@ -1,6 +1,6 @@
 -- What a frame is named (the scope, "Frames"): EMPTY, SEARCH, ALARM, NOBODY, PAD or OTHER, with the code and the
--- reading it shows, raw and without its undefined bits, or the refusal 14, 5, 6, 7, 11 or 20, the first of these that anything in the frame gives. EMPTY,
--- NOBODY and OTHER give no refusal.
+-- reading it shows, raw and without its undefined bits, or the refusal 14, 5, 6, 7, 11 or 20, the first of these that
+-- anything in the frame gives. EMPTY, NOBODY and OTHER give no refusal.
 --     nameNumber n           the number of a name, 1 to 6 in the scope's order
 --     named f                what a frame is named
 --     frameNumber f          the number of a frame's name; that of OTHER on a refusal
