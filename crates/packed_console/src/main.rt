@@ -3,12 +3,13 @@
 // `packed_session::table_settings` reads it, unpacks the table, makes the call, packs the bench again and forms the
 // answer.
 ghost use mathlib.Core.Path.{_≡_};
-ghost use Prim.Native.Nat.{_≤_};
-ghost use lib.ListN.{length};
+ghost use mathlib.Core.Bool.{true, false};
+ghost use Prim.Native.Nat.{_<_, _≤_};
+ghost use lib.ListN.{length, take};
 ghost use Rattle.text.specs.Lines.{Line};
 ghost use Rattle.bench_answers.specs.Whole.{room};
 ghost use Rattle.sessions.specs.Gathering.{mostHeld};
-ghost use Rattle.sessions.specs.Session.{heldEnded, endSaid, runAfter, runAt, Standing, Answerable};
+ghost use Rattle.sessions.specs.Session.{heldEnded, runAfter, atEnd, runAt, Holding};
 ghost use Rattle.packed_session.specs.TableSession.{tableState, tableConsole, firstState};
 use bench_answers::search_answers::ROOM;
 use libc::STDIN_FILENO;
@@ -19,147 +20,180 @@ use sessions::gathering;
 use sessions::gathering::MOST_HELD;
 use settings::Store;
 
-// A run so far: the store, how many characters of the line not yet ended are held, and whether input may
-// follow.
-struct Session {
+type Table = [u8; TABLE_BYTES];
+
+// What a line leaves: the bytes of the table, and the store.
+struct Left {
+    table: Table,
     store: Store,
-    held: usize,
-    going: bool,
 }
 
-// Hands an answer to the output.
-fn write_answer(text: &[u8])
-    requires { ⌜ Answerable tableConsole firstState (now text) ⌝ }
+// The bytes of the table, the store, and how many characters of the line not yet ended are held.
+struct State {
+    table: Table,
+    store: Store,
+    held: usize,
+}
+
+// A run so far: the state, how many bytes the last read brought, and how many reads may follow.
+struct Run {
+    state: State,
+    came: usize,
+    reads: u64,
+}
+
+// Hands to the output what is said to a line in the state in hand.
+fn write_answer(table: Table, store: Store, line: &[u8], text: &[u8])
+    requires { ⌜ now text ≡ tableConsole .says (tableState table store) (record { chars = now line; fed = true }) ⌝ }
 {
     io::write_all(STDOUT_FILENO, text);
 }
 
-// A line, with its feed or without, answered.
-fn answer_line(t: &mut [u8], store: Store, line: &[u8], fed: bool, out: &mut [u8]) -> Store
-    requires { ⌜ (room ≤ length (now out)) × Answerable tableConsole firstState
-        (tableConsole .says (tableState (now t) store) (record { chars = now line; fed = fed })) ⌝ }
-    ensures { λ r. ⌜ tableState (now (t .exit)) r
-        ≡ tableConsole .next (tableState (now (t .entry)) store) (record { chars = now (line .entry); fed = fed }) ⌝ }
+// Hands to the output what is said at the end to what is held.
+fn write_last(table: Table, store: Store, line: &[u8], text: &[u8])
+    requires { ⌜ now text ≡ atEnd tableConsole (record { state = tableState table store; held = now line }) ⌝ }
 {
-    let told = table_settings::answer(t, store, line, fed, out);
+    io::write_all(STDOUT_FILENO, text);
+}
+
+// A line that has its feed, answered.
+fn answer_line(table: Table, store: Store, line: &[u8], out: &mut [u8]) -> Left
+    requires { ⌜ room ≤ length (now out) ⌝ }
+    ensures { λ r. ⌜ tableState (r .table) (r .store)
+        ≡ tableConsole .next (tableState table store) (record { chars = now (line .entry); fed = true }) ⌝ }
+{
+    let mut bytes = table;
+    let told = table_settings::answer(&mut bytes, store, line, true, out);
     let written = told.written;
     let count = written.next;
-    write_answer(&out[..count]);
-    told.store
+    write_answer(table, store, line, &out[..count]);
+    let store_after = told.store;
+    Left {
+        table: bytes,
+        store: store_after,
+    }
+}
+
+// A last line without a feed, answered.
+fn answer_last(table: Table, store: Store, line: &[u8], out: &mut [u8])
+    requires { ⌜ (room ≤ length (now out)) × (0 < length (now line)) ⌝ }
+{
+    let mut bytes = table;
+    let told = table_settings::answer(&mut bytes, store, line, false, out);
+    let written = told.written;
+    let count = written.next;
+    write_last(table, store, line, &out[..count]);
 }
 
 // A line that has its feed is answered, and held no more.
 fn end_line(
-    t: &mut [u8],
+    table: Table,
     store: Store,
     line: &[u8],
     held: usize,
     whole: bool,
     out: &mut [u8],
-) -> Session
-    requires { ⌜ (held ≤ length (now line)) × (room ≤ length (now out))
-        × Answerable tableConsole firstState (endSaid tableConsole (runAt (tableState (now t) store) (now line) held)
-        whole) ⌝ }
-    ensures { λ r. ⌜ (runAt (tableState (now (t .exit)) (r .store)) (now (line .entry)) (r .held)
-        ≡ heldEnded tableConsole (runAt (tableState (now (t .entry)) store) (now (line .entry)) held) whole)
+) -> State
+    requires { ⌜ (held ≤ length (now line)) × (room ≤ length (now out)) ⌝ }
+    ensures { λ r. ⌜ (runAt (tableState (r .table) (r .store)) (now (line .entry)) (r .held)
+        ≡ heldEnded tableConsole (runAt (tableState table store) (now (line .entry)) held) whole)
         × (r .held ≤ held) ⌝ }
 {
     if whole {
-        return Session {
-            store: answer_line(t, store, &line[..held], true, out),
+        let left = answer_line(table, store, &line[..held], out);
+        let table_after = left.table;
+        let store_after = left.store;
+        return State {
+            table: table_after,
+            store: store_after,
             held: 0,
-            going: true,
         };
     }
-    Session {
-        store,
-        held,
-        going: true,
-    }
+    State { table, store, held }
 }
 
-// All that was read, line by line.
-fn take(t: &mut [u8], start: Session, line: &mut [u8], chunk: &[u8], out: &mut [u8]) -> Session
-    requires { ⌜ (room ≤ length (now out)) × Standing tableConsole firstState (tableState (now t) (start .store))
-        (now line) (start .held) ⌝ }
-    ensures session { λ r. ⌜ runAt (tableState (now (t .exit)) (r .store)) (now (line .exit)) (r .held)
-        ≡ runAfter tableConsole (runAt (tableState (now (t .entry)) (start .store)) (now (line .entry)) (start .held))
-        (now (chunk .entry)) ⌝ }
-    ensures standing { λ r. ⌜ Standing tableConsole firstState (tableState (now (t .exit)) (r .store))
-        (now (line .exit)) (r .held) ⌝ }
+// A piece, line by line.
+fn answer_piece(start: State, line: &mut [u8], piece: &[u8], out: &mut [u8]) -> State
+    requires { ⌜ (room ≤ length (now out)) × Holding (now line) (start .held) ⌝ }
+    ensures run { λ r. ⌜ runAt (tableState (r .table) (r .store)) (now (line .exit)) (r .held)
+        ≡ runAfter tableConsole (runAt (tableState (start .table) (start .store)) (now (line .entry)) (start .held))
+        (now (piece .entry)) ⌝ }
+    ensures holding { λ r. ⌜ Holding (now (line .exit)) (r .held) ⌝ }
 {
     let mut s = start;
     let mut at: usize = 0;
-    while at < chunk.len() {
+    while at < piece.len() {
+        let table = s.table;
         let store = s.store;
-        let gathered = gathering::take_line(line, s.held, chunk, at);
-        s = end_line(t, store, line, gathered.held, gathered.whole, out);
+        let gathered = gathering::take_line(line, s.held, piece, at);
+        s = end_line(table, store, line, gathered.held, gathered.whole, out);
         at = gathered.next;
     }
     s
 }
 
-fn read_some(t: &mut [u8], s: Session, line: &mut [u8], out: &mut [u8]) -> Session
-    requires { ⌜ (room ≤ length (now out)) × Standing tableConsole firstState (tableState (now t) (s .store)) (now line)
-        (s .held) ⌝ }
-    ensures standing { λ r. ⌜ Standing tableConsole firstState (tableState (now (t .exit)) (r .store))
-        (now (line .exit)) (r .held) ⌝ }
+// One read. What came stands at the front of the buffer.
+fn next_piece(run: Run, buffer: &mut [u8], line: &mut [u8], out: &mut [u8]) -> Run
+    requires { ⌜ (room ≤ length (now out)) × Holding (now line) (run .state .held) ⌝ }
+    ensures run { λ r. ⌜ runAt (tableState (r .state .table) (r .state .store)) (now (line .exit)) (r .state .held)
+        ≡ runAfter tableConsole (runAt (tableState (run .state .table) (run .state .store)) (now (line .entry))
+        (run .state .held)) (take (r .came) (now (buffer .exit))) ⌝ }
+    ensures holding { λ r. ⌜ Holding (now (line .exit)) (r .state .held) ⌝ }
+    ensures reads { λ r. ⌜ (0 < run .reads → r .reads < run .reads) ⌝ }
 {
-    let mut chunk = io::buffer();
-    let got = libc::read(STDIN_FILENO, &mut chunk);
-    if got <= 0 {
-        return Session { going: false, ..s };
+    let got = libc::read(STDIN_FILENO, buffer);
+    let came = io::count(got, buffer);
+    let before = run.state;
+    let state = answer_piece(before, line, &buffer[..came], out);
+    Run {
+        state,
+        came,
+        reads: pieces::reads_left(run.reads, came, true),
     }
-    let n = io::count(got, &chunk);
-    take(t, s, line, &chunk[..n], out)
 }
 
-// A proved loop ends; this one counts down from more reads than any run makes.
-fn run(t: &mut [u8], line: &mut [u8], out: &mut [u8]) -> Session
-    requires { ⌜ (room ≤ length (now out)) × (length (now line) ≡ mostHeld) × (now t ≡ firstState .table) ⌝ }
-    ensures standing { λ r. ⌜ Standing tableConsole firstState (tableState (now (t .exit)) (r .store))
-        (now (line .exit)) (r .held) ⌝ }
+fn finish(run: Run, line: &[u8], out: &mut [u8])
+    requires { ⌜ (room ≤ length (now out)) × Holding (now line) (run .state .held) ⌝ }
 {
-    let mut s = Session {
+    let state = run.state;
+    let table = state.table;
+    let store = state.store;
+    let held = state.held;
+    if held > 0 {
+        answer_last(table, store, &line[..held], out);
+    }
+}
+
+// The table of the empty bench, which is zeros, and an empty store.
+fn first_run() -> Run
+    ensures { λ r. ⌜ (tableState (r .state .table) (r .state .store) ≡ firstState) × (r .state .held ≡ 0) ⌝ }
+{
+    let state = State {
+        table: [0u8; TABLE_BYTES],
         store: settings::new(),
         held: 0,
-        going: true,
     };
-    let mut reads = u64::MAX;
-    while reads > 0 {
-        s = read_some(t, s, line, out);
-        if !s.going {
-            return s;
-        }
-        reads -= 1;
-    }
-    s
-}
-
-// A last line without a feed.
-fn finish(t: &mut [u8], s: Session, line: &[u8], out: &mut [u8])
-    requires { ⌜ (room ≤ length (now out)) × Standing tableConsole firstState (tableState (now t) (s .store)) (now line)
-        (s .held) ⌝ }
-{
-    let store = s.store;
-    let held = s.held;
-    if held > 0 {
-        answer_line(t, store, &line[..held], false, out);
+    Run {
+        state,
+        came: 0,
+        reads: u64::MAX,
     }
 }
 
 // The line and the answer have just the room that they need.
-fn answer_input(t: &mut [u8], line: &mut [u8], out: &mut [u8])
-    requires { ⌜ (room ≤ length (now out)) × (length (now line) ≡ mostHeld) × (now t ≡ firstState .table) ⌝ }
+fn answer_input(buffer: &mut [u8], line: &mut [u8], out: &mut [u8])
+    requires { ⌜ (room ≤ length (now out)) × (length (now line) ≡ mostHeld) ⌝ }
 {
-    let s = run(t, line, out);
-    finish(t, s, line, out);
+    let mut run = first_run();
+    while run.reads > 0 {
+        run = next_piece(run, buffer, line, out);
+    }
+    finish(run, line, out);
 }
 
-// The table of the empty bench is zeros.
 fn main() {
-    let mut t = [0u8; TABLE_BYTES];
+    let mut buffer = [0u8; 4096];
     let mut line = [0u8; MOST_HELD];
     let mut out = [0u8; ROOM];
-    answer_input(&mut t, &mut line, &mut out);
+    answer_input(&mut buffer, &mut line, &mut out);
 }

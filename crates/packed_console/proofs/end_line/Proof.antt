@@ -12,22 +12,16 @@ slice-aggregate-answer-line : tie.Need-slice-aggregate-answer-line
 slice-aggregate-answer-line c = search (needs, length-take-le)
 
 answer-line-requires : tie.Need-answer-line-requires
-answer-line-requires c κs =
-    let fed = c .before .before .before in
-    let a = fed .before .before .before .before in
-    (a .pre .1, rw (fed .if1 .taken) at (a .pre .2))
+answer-line-requires c κs = search needs
 
 same-length : tie.Need-same-length
 same-length c = search needs
 
-same-length-2 : tie.Need-same-length-2
-same-length-2 c = search needs
-
 returns : tie.Need-returns
 returns c =
     let answered = c .before .before .before .before in
-    let fed = answered .before .before .before .before in
-    rw (fed .if1 .taken) (ap (λ (v : TableState). freshRun v) (answered .answer-line .ensures), omega arith)
+    rw (answered .before .before .before .if1 .taken)
+    (ap (λ (v : TableState). freshRun v) (answered .answer-line .ensures), omega arith)
 
 returns-2 : tie.Need-returns-2
 returns-2 c = rw (c .if1 .left) (refl, omega arith)
@@ -35,10 +29,4 @@ returns-2 c = rw (c .if1 .left) (refl, omega arith)
 pub end-line-spec : {M : Type 1} → statement M
 end-line-spec =
     tie.close
-    (tie.spec
-    slice-aggregate-answer-line
-    answer-line-requires
-    same-length
-    same-length-2
-    returns
-    returns-2)
+    (tie.spec slice-aggregate-answer-line answer-line-requires same-length returns returns-2)

@@ -1,30 +1,27 @@
 -- A line that is held at the end is answered without its feed.
 use Prim.Native.Nat.{_<_}
 use native.Mathlib.Omega.{arith}
-use lib.ListN.{length-take}
-use Rattle.sessions.specs.SessionLaws.{end-answer}
+use lib.ListN.{length, take, length-take}
 use borrow.Author.Needs.{needs}
 use Rattle.packed_console.proofs.finish.Statement.{statement}
 use Rattle.packed_console.proofs.finish.Tie as tie
 
-slice-aggregate-answer-line : tie.Need-slice-aggregate-answer-line
-slice-aggregate-answer-line c =
+slice-aggregate-answer-last : tie.Need-slice-aggregate-answer-last
+slice-aggregate-answer-last c =
     let a = c .before .before .before .before .before .before .before in
     let size = a .pre .1 .size in
     let within = a .pre .1 .within in
     simp length-take (omega arith)
 
-answer-line-requires : tie.Need-answer-line-requires
-answer-line-requires c κs =
+answer-last-requires : tie.Need-answer-last-requires
+answer-last-requires c κs =
     let a = c .before .before .before .before .before .before .before .before in
-    let some : 0 < a .args .s .held = omega arith in
-    (a .pre .0, end-answer (a .pre .1) some)
+    let size = a .pre .1 .size in
+    let within = a .pre .1 .within in
+    (a .pre .0, simp length-take (omega arith))
 
 same-length : tie.Need-same-length
 same-length c = search needs
-
-same-length-2 : tie.Need-same-length-2
-same-length-2 c = search needs
 
 returns : tie.Need-returns
 returns c = search needs
@@ -35,10 +32,4 @@ returns-2 c = search needs
 pub finish-spec : {M : Type 1} → statement M
 finish-spec =
     tie.close
-    (tie.spec
-    slice-aggregate-answer-line
-    answer-line-requires
-    same-length
-    same-length-2
-    returns
-    returns-2)
+    (tie.spec slice-aggregate-answer-last answer-last-requires same-length returns returns-2)
