@@ -22,11 +22,6 @@
 --                               lines of the whole text in turn
 --     runAt s line held         the run of a program: its state, and the line that stands at the front of a buffer
 --     Holding line held         so many characters of a line in a buffer of 81
---     Reached C s r             a run that a program may come to from the state s
---     Led C s r                 a run that some text has led to
---     Standing C s v line held  where a program stands between two reads: in the state v, with so many characters of a
---                               line in a buffer of 81
---     Answerable C s t          bytes that it may hand to its output
 use Prim.Native.Nat.{ℕ, _≤_}
 use mathlib.Core.Path.{_≡_}
 use mathlib.Core.Bool.{Bool, true, false}
@@ -34,7 +29,7 @@ use mathlib.Core.List.{List, [], _∷_, _++_}
 use lib.Dec.{ltb}
 use lib.ListN.{length, take}
 use Rattle.basic_laws.specs.Choice.{if_then_else_}
-use Rattle.text.specs.Lines.{Line, firstLine, linesOf}
+use Rattle.text.specs.Lines.{Line, linesOf}
 use Rattle.pieces.specs.Pieces.{together}
 use Rattle.sessions.specs.Gathering.{mostHeld}
 
@@ -116,7 +111,7 @@ abbrev pub SessionClaim : Console → Type 0
 SessionClaim C = HeldEnough C → (s : C .State) (cs : List (List ℕ))
     → session C (freshRun s) cs ≡ inTurn C s (linesOf (together cs))
 
--- ## What a program comes to, and what it may write
+-- ## Where a program stands
 
 abbrev pub runAt : {S : Type 0} → S → List ℕ → ℕ → Run S
 runAt s line held = record { state = s; held = take held line }
@@ -124,24 +119,3 @@ runAt s line held = record { state = s; held = take held line }
 pub record Holding (line : List ℕ) (held : ℕ) : Type 0 where
   pub size : length line ≡ mostHeld
   pub within : held ≤ mostHeld
-
--- a run that begins, and one after the first line, or the part of a line, of whatever comes next
-pub data Reached (C : Console) (s : C .State) : Run (C .State) → Type 0 where
-  start : Reached C s (freshRun s)
-  more : {r : Run (C .State)} → Reached C s r → (x : List ℕ) → Reached C s (ranLine C r (firstLine x))
-
-pub record Led (C : Console) (s : C .State) (r : Run (C .State)) : Type 0 where
-  pub text : List ℕ
-  pub is : r ≡ runAfter C (freshRun s) text
-
--- where a program stands between two reads: in a run that it may come to, with what is held of the line at the front of
--- a buffer of 81 bytes
-pub record Standing (C : Console) (s v : C .State) (line : List ℕ) (held : ℕ) : Type 0 where
-  pub size : length line ≡ mostHeld
-  pub within : held ≤ mostHeld
-  pub reached : Reached C s (runAt v line held)
-
--- what is said to the first line of whatever comes next, or at the end
-pub data Answerable (C : Console) (s : C .State) (t : List ℕ) : Type 0 where
-  of-line : {r : Run (C .State)} → Reached C s r → (x : List ℕ) → t ≡ heardLine C r (firstLine x) → Answerable C s t
-  of-end : {r : Run (C .State)} → Reached C s r → t ≡ atEnd C r → Answerable C s t

@@ -1,30 +1,25 @@
--- What is said to a text that comes in pieces is what is said to its lines in turn, wherever it was cut; a run that a
--- program may come to is one that some text has led to; and a piece as a program walks it, line by line. A piece is
--- walked byte by byte: a byte that is no feed makes the held line longer by one, and a feed ends it. What is held are
--- the first 81 characters of the line that the bytes since the last feed make, and by the premise those say what the
--- line says. C is the console, s a state, u the line since the last feed.
-use Prim.Native.Nat.{ℕ, zero, suc, _+_, _<_, _≤_}
+-- What is said to a text that comes in pieces is what is said to its lines in turn, wherever it was cut; and a piece as
+-- a program walks it, line by line. A piece is walked byte by byte: a byte that is no feed makes the held line longer
+-- by one, and a feed ends it. What is held are the first 81 characters of the line that the bytes since the last feed
+-- make, and by the premise those say what the line says. C is the console, s a state, u the line since the last feed.
+use Prim.Native.Nat.{ℕ, zero, suc, _<_, _≤_}
 use mathlib.Core.Path.{_≡_, refl, sym, ap, _∙_}
 use mathlib.Core.Bool.{Bool, true, false, not}
 use mathlib.Core.List.{List, [], _∷_, _++_, append-assoc, append-nil}
 use native.Mathlib.Omega.{arith}
 use borrow.Author.Tests.{eqb-true, lt-ltb}
-use lib.Dec.{eqb, leb·suc-suc}
-use lib.ListN.{length, take, drop, length-take}
-use lib.Seq.{take-all, length-take-le}
-use Rattle.basic_laws.specs.Choice.{if_then_else_}
-use Rattle.basic_laws.specs.First.{firstAt}
+use lib.Dec.{eqb}
+use lib.ListN.{length, take, drop}
 use Rattle.basic_laws.specs.Fold.{all}
 use Rattle.basic_laws.specs.FoldLaws.{all-append}
-use Rattle.text.specs.Lines.{Line, lineFeed, notFeed, longer, linesOf, feedAt, firstLine, width}
+use Rattle.text.specs.Lines.{Line, lineFeed, notFeed, longer, linesOf}
 use Rattle.text.specs.LinesLaws.{lines-cut, plain-lines, lines-done, lines-next, line-ends}
 use Rattle.pieces.specs.Pieces.{together}
 use Rattle.sessions.specs.Gathering.{mostHeld, partAt, taken, takenLeaves}
 use Rattle.sessions.specs.GatheringLaws.{taken-few, taken-holds}
 use Rattle.sessions.specs.declared.gathering.Gathered.{Gathered}
 use Rattle.sessions.specs.Session.{Console, inTurn, Run, freshRun, grown, heldEnded, endSaid, ranAll, heardAll}
-use Rattle.sessions.specs.Session.{runAfter, saidOn, atEnd, session, HeldEnough, SessionClaim, ranLine, heardLine}
-use Rattle.sessions.specs.Session.{runAt, Reached, start, more, Led, Standing, Answerable, of-line, of-end}
+use Rattle.sessions.specs.Session.{runAfter, saidOn, atEnd, session, HeldEnough, SessionClaim, ranLine, runAt}
 use Rattle.sessions.specs.Session.{Holding}
 
 -- what is cut twice is cut once
@@ -157,97 +152,6 @@ pub session-cuts : (C : Console) → SessionClaim C
 unfolding all
 session-cuts C enough s cs = pieces-said C enough cs s [] refl
 
--- ## A run that a program may come to is one that some text has led to
-
--- the first line behind a character that is no feed
-first-other : (d : ℕ) (x : List ℕ) → eqb d lineFeed ≡ false
-    → (firstLine (d ∷ x) ≡ record { chars = d ∷ firstLine x .chars; fed = firstLine x .fed })
-    × (width (firstLine (d ∷ x)) ≡ suc (width (firstLine x)))
-unfolding firstAt
-first-other d x e =
-    let line : firstLine (d ∷ x) ≡ record { chars = d ∷ firstLine x .chars; fed = firstLine x .fed } =
-    rw (e, leb·suc-suc (suc (feedAt x)) (length x)) refl in
-    (line, ap width line ∙ by-feed (firstLine x .fed))
-  where
-    by-feed : (t : Bool) → (if t then length (d ∷ firstLine x .chars) + 1 else length (d ∷ firstLine x .chars))
-        ≡ suc (if t then length (firstLine x .chars) + 1 else length (firstLine x .chars))
-    by-feed true = omega arith
-    by-feed false = refl
-
-module _ (C : Console) where
-  -- one byte more
-  after-other : (r : Run (C .State)) (d : ℕ) (t : List ℕ) → eqb d lineFeed ≡ false
-      → runAfter C r (d ∷ t) ≡ runAfter C (grown r (one d)) t
-  unfolding linesOf
-  after-other r d t e = let lines : linesOf (d ∷ t) ≡ longer d (linesOf t) = rw e refl in
-      ap (ranAll C r) lines ∙ ran-longer C r d (linesOf t)
-
-  after-feed : (r : Run (C .State)) (d : ℕ) (t : List ℕ) → eqb d lineFeed ≡ true
-      → runAfter C r (d ∷ t) ≡ runAfter C (ranLine C r (lineOf [] true)) t
-  unfolding linesOf ranAll
-  after-feed r d t e = let lines : linesOf (d ∷ t) ≡ lineOf [] true ∷ linesOf t = rw e refl in ap (ranAll C r) lines
-
-  after-append : (r : Run (C .State)) (t u : List ℕ) → runAfter C r (t ++ u) ≡ runAfter C (runAfter C r t) u
-  unfolding linesOf ranAll
-  after-append r [] u = refl
-  after-append r (d ∷ t) u = by-test (eqb d lineFeed) refl (λ q. after-append q t u)
-    where
-      by-test : (b : Bool) → eqb d lineFeed ≡ b
-          → ((q : Run (C .State)) → runAfter C q (t ++ u) ≡ runAfter C (runAfter C q t) u)
-          → runAfter C r (d ∷ (t ++ u)) ≡ runAfter C (runAfter C r (d ∷ t)) u
-      by-test true e on = after-feed r d (t ++ u) e ∙ on (ranLine C r (lineOf [] true))
-          ∙ ap (λ (q : Run (C .State)). runAfter C q u) (sym (after-feed r d t e))
-      by-test false e on = after-other r d (t ++ u) e ∙ on (grown r (one d))
-          ∙ ap (λ (q : Run (C .State)). runAfter C q u) (sym (after-other r d t e))
-
-  few-held : (u : List ℕ) → length (take mostHeld u) ≤ mostHeld
-  few-held u = let l = length-take mostHeld u in omega arith
-
-  -- the first line of some bytes, by the bytes that it takes
-  line-after : (x : List ℕ) (r : Run (C .State)) → length (r .held) ≤ mostHeld
-      → runAfter C r (take (width (firstLine x)) x) ≡ ranLine C r (firstLine x)
-  unfolding linesOf ranAll firstAt
-  line-after [] r few =
-      let same : take mostHeld (r .held ++ []) ≡ r .held =
-      ap (take mostHeld) (append-nil (r .held)) ∙ take-all mostHeld (r .held) few in
-      ap (λ (u : List ℕ). record { state = r .state; held = u }) (sym same)
-  line-after (d ∷ x) r few = by-test (eqb d lineFeed) refl
-      (line-after x (grown r (one d)) (few-held (r .held ++ (d ∷ []))))
-    where
-      by-test : (b : Bool) → eqb d lineFeed ≡ b
-          → runAfter C (grown r (one d)) (take (width (firstLine x)) x) ≡ ranLine C (grown r (one d)) (firstLine x)
-          → runAfter C r (take (width (firstLine (d ∷ x))) (d ∷ x)) ≡ ranLine C r (firstLine (d ∷ x))
-      by-test true e on =
-          let some : 0 < suc (length x) = omega arith in
-          let line : firstLine (d ∷ x) ≡ lineOf [] true = rw (e, lt-ltb 0 (suc (length x)) some) refl in
-          ap (λ (l : Line). runAfter C r (take (width l) (d ∷ x))) line ∙ after-feed r d [] e
-          ∙ ap (ranLine C r) (sym line)
-      by-test false e on =
-          let first = first-other d x e in
-          ap (λ (n : ℕ). runAfter C r (take n (d ∷ x))) (first .1)
-          ∙ after-other r d (take (width (firstLine x)) x) e ∙ on
-          ∙ ap (λ (q : Run (C .State)). heldEnded C q (firstLine x .fed)) (sym (grown-twice C r d (firstLine x)))
-          ∙ ap (ranLine C r) (sym (first .0))
-
-  reached-few : {s : C .State} {r : Run (C .State)} → Reached C s r → length (r .held) ≤ mostHeld
-  reached-few start = omega arith
-  reached-few (more {r = r} reached x) = by-feed (firstLine x .fed)
-    where
-      by-feed : (b : Bool) → length (heldEnded C (grown r (firstLine x)) b .held) ≤ mostHeld
-      by-feed true = omega arith
-      by-feed false = few-held (r .held ++ firstLine x .chars)
-
-  pub reached-led : {s : C .State} {r : Run (C .State)} → Reached C s r → Led C s r
-  unfolding linesOf ranAll
-  reached-led start = record { text = []; is = refl }
-  reached-led {s = s} (more {r = r} reached x) =
-      let led = reached-led reached in
-      let bytes = take (width (firstLine x)) x in record {
-        text = led .text ++ bytes;
-        is = sym (after-append (freshRun s) (led .text) bytes
-            ∙ ap (λ (q : Run (C .State)). runAfter C q bytes) (sym (led .is)) ∙ line-after x r (reached-few reached));
-      }
-
 -- ## A piece as a program walks it, line by line
 
 -- what is still to run of a piece that is walked to its end
@@ -255,19 +159,6 @@ pub piece-done : (C : Console) (r : Run (C .State)) (piece : List ℕ) (at : ℕ
     → runAfter C r (drop at piece) ≡ r
 unfolding ranAll
 piece-done C r piece at past = rw (lines-done piece at past) refl
-
--- what the next line of a piece, gathered behind what is held, comes to: what is said to it, where the piece goes on,
--- what is still to run, and where the program stands once the line has ended or is held
-pub record LineTaken (C : Console) (s v : C .State) (line : List ℕ) (held : ℕ) (piece : List ℕ) (at : ℕ) (g : Gathered)
-    (line' : List ℕ) : Type 0 where
-  pub few : g .held ≤ mostHeld
-  pub answers : Answerable C s (endSaid C (runAt v line' (g .held)) (g .whole))
-  pub on : at < g .next
-  pub within : g .next ≤ length piece
-  pub rest : (w : C .State) (n : ℕ) → runAt w line' n ≡ heldEnded C (runAt v line' (g .held)) (g .whole)
-      → runAfter C (runAt v line held) (drop at piece) ≡ runAfter C (runAt w line' n) (drop (g .next) piece)
-  pub stands : (w : C .State) (n : ℕ) → length line' ≡ length line
-      → runAt w line' n ≡ heldEnded C (runAt v line' (g .held)) (g .whole) → n ≤ g .held → Standing C s w line' n
 
 -- what the part of a line that goes on at a place of a piece comes to, gathered behind what is held
 module _ (C : Console) (v : C .State) {line : List ℕ} {held : ℕ} (holding : Holding line held) (piece : List ℕ) (at : ℕ)
@@ -282,11 +173,6 @@ module _ (C : Console) (v : C .State) {line : List ℕ} {held : ℕ} (holding : 
   line-ran =
       ap (λ (r : Run (C .State)). heldEnded C r (g .whole)) gathered-is
       ∙ ap (λ (h : Gathered). heldEnded C (grown (runAt v line held) (partAt piece at)) (h .whole)) answer
-
-  pub line-heard : endSaid C (runAt v line' (g .held)) (g .whole) ≡ heardLine C (runAt v line held) (partAt piece at)
-  line-heard =
-      ap (λ (r : Run (C .State)). endSaid C r (g .whole)) gathered-is
-      ∙ ap (λ (h : Gathered). endSaid C (grown (runAt v line held) (partAt piece at)) (h .whole)) answer
 
   pub line-few : g .held ≤ mostHeld
   line-few = rw answer (taken-few line held (holding .size) (holding .within) piece at)
@@ -305,47 +191,6 @@ module _ (C : Console) (v : C .State) {line : List ℕ} {held : ℕ} (holding : 
 
   pub line-holds : (n : ℕ) → length line' ≡ length line → n ≤ g .held → Holding line' n
   line-holds n same few = record { size = same ∙ holding .size; within = let most = line-few in omega arith }
-
-module _ {C : Console} {s v : C .State} {line : List ℕ} {held : ℕ} (stands : Standing C s v line held) (piece : List ℕ)
-    (at : ℕ)
-    (g : Gathered) (answer : g ≡ taken line held piece at) (line' : List ℕ) (left : line'
-    ≡ takenLeaves line held piece at) (before : at < length piece) where
-  holding-so : Holding line held
-  holding-so = record { size = stands .size; within = stands .within }
-
-  line-stands : (w : C .State) (n : ℕ) → length line' ≡ length line
-      → runAt w line' n ≡ heldEnded C (runAt v line' (g .held)) (g .whole) → n ≤ g .held → Standing C s w line' n
-  line-stands w n same is few = record {
-    size = same ∙ stands .size;
-    within = let most = line-few C v holding-so piece at g answer line' left before in omega arith;
-    reached = rw (is, line-ran C v holding-so piece at g answer line' left before)
-        (more (stands .reached) (drop at piece));
-  }
-
-  pub line-taken : LineTaken C s v line held piece at g line'
-  line-taken =
-      let place = line-place C v holding-so piece at g answer line' left before in record {
-        few = line-few C v holding-so piece at g answer line' left before;
-        answers = of-line (stands .reached) (drop at piece)
-            (line-heard C v holding-so piece at g answer line' left before);
-        on = place .0;
-        within = place .1;
-        rest = line-rest C v holding-so piece at g answer line' left before;
-        stands = line-stands;
-      }
-
--- what is said at the end to a line that is held
-pub end-answer : {C : Console} {s v : C .State} {line : List ℕ} {held : ℕ} → Standing C s v line held → 0 < held
-    → Answerable C s (C .says v (record { chars = take held line; fed = false }))
-end-answer {line = line} {held = held} stands some =
-    let size = stands .size in
-    let within = stands .within in
-    let front = length-take-le held line (omega arith) in
-    of-end (stands .reached) (rw (lt-ltb 0 (length (take held line)) (omega arith)) refl)
-
--- a program that begins
-pub begins : {C : Console} (s : C .State) (line : List ℕ) → length line ≡ mostHeld → Standing C s s line 0
-begins s line size = record { size = size; within = omega arith; reached = start }
 
 -- what is said at the end where characters are held
 pub end-said : (C : Console) (v : C .State) (u : List ℕ) → 0 < length u
