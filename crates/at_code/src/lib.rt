@@ -16,14 +16,14 @@ use scratchpad::fine::FineDegrees;
 use temperature::{Reading, Sixteenths};
 
 // What eight read slots gave: the byte that the line showed, and the bench after them.
-#[derive(Drop)]
+#[derive(Clone, Copy)]
 struct ByteRead {
     byte: u8,
     bench: Bench,
 }
 
 // What the 72 read slots of a scratchpad gave.
-#[derive(Drop)]
+#[derive(Clone, Copy)]
 struct Reply {
     pad: [u8; 9],
     bench: Bench,

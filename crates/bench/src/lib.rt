@@ -18,49 +18,49 @@ use crate::wire::Devices;
 use device::{Device, Ended, Joining, Power, hearing, offer, power_and_finishes, stages};
 use temperature::Sixteenths;
 
-#[derive(Drop)]
+#[derive(Clone, Copy)]
 pub struct Bench {
     devices: [Device; 32],
     count: u8,
 }
 
 // Where a code stands on a bench.
-#[derive(Drop)]
+#[derive(Clone, Copy)]
 pub enum Place {
     At(usize),
     Nowhere,
 }
 
 // The answer of a call that changes devices: 0, or the refusal and the bench as it came.
-#[derive(Drop)]
+#[derive(Clone, Copy)]
 pub struct Changed {
     pub refusal: u8,
     pub bench: Bench,
 }
 
 // The bench of records, or 22 and the empty bench.
-#[derive(Drop)]
+#[derive(Clone, Copy)]
 pub struct Made {
     pub refusal: u8,
     pub bench: Bench,
 }
 
 // The record of one device, or 12 and a vacant place.
-#[derive(Drop)]
+#[derive(Clone, Copy)]
 pub struct Looked {
     pub refusal: u8,
     pub device: Device,
 }
 
 // The bench stands first in an answer: a record that has it behind smaller fields is copied once more.
-#[derive(Drop)]
+#[derive(Clone, Copy)]
 pub struct ResetDone {
     pub bench: Bench,
     pub refusal: u8,
     pub presence: bool,
 }
 
-#[derive(Drop)]
+#[derive(Clone, Copy)]
 pub struct Slotted {
     pub bench: Bench,
     pub refusal: u8,

@@ -12,7 +12,7 @@ use text::laying::Written;
 use why::rules::Why;
 
 // What came of a line.
-#[derive(Drop)]
+#[derive(Clone, Copy)]
 pub struct Said {
     pub refusal: u8,
     // how many bytes of text stand at the front of what was lent, 0 on a refusal

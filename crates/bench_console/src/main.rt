@@ -18,7 +18,7 @@ use sessions::gathering::MOST_HELD;
 use settings::Store;
 
 // The bench, the store, and how many characters of the line not yet ended are held.
-#[derive(Drop)]
+#[derive(Clone, Copy)]
 struct State {
     bench: Bench,
     store: Store,
@@ -26,7 +26,7 @@ struct State {
 }
 
 // A run so far: the state, how many bytes the last read brought, and how many reads may follow.
-#[derive(Drop)]
+#[derive(Clone, Copy)]
 struct Run {
     state: State,
     came: usize,

@@ -14,7 +14,7 @@ use temperature::Sixteenths;
 pub const LONGEST: usize = 80;
 
 // What a line asks for.
-#[derive(Drop)]
+#[derive(Clone, Copy)]
 pub enum Request {
     Bad,
     Add(Joining),

@@ -14,7 +14,7 @@ use settings::{Alter, Alterations};
 use text::{NumberRead, same};
 
 // What a line asks of the store.
-#[derive(Drop)]
+#[derive(Clone, Copy)]
 pub enum StoreRequest {
     // nothing that the store knows
     Other,
@@ -33,13 +33,13 @@ pub enum StoreRequest {
 }
 
 // What was read of a field: whether it is one, and its value where it is.
-#[derive(Drop)]
+#[derive(Clone, Copy)]
 pub struct AlterRead {
     valid: bool,
     alter: Alter,
 }
 
-#[derive(Drop)]
+#[derive(Clone, Copy)]
 pub struct AlterationsRead {
     valid: bool,
     alterations: Alterations,

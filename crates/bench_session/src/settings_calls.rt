@@ -15,7 +15,7 @@ use text::putting::LINE_ROOM;
 use text::{laying, putting};
 
 // The line that was laid, and the store after the call.
-#[derive(Drop)]
+#[derive(Clone, Copy)]
 pub struct Called {
     pub written: Written,
     pub store: Store,

@@ -14,7 +14,7 @@ use bench_requests::settings_requests::StoreRequest;
 use settings::{Store, writing};
 
 // What came of a line, and the store after it.
-#[derive(Drop)]
+#[derive(Clone, Copy)]
 pub struct Told {
     pub said: Said,
     pub store: Store,

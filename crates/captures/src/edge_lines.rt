@@ -10,7 +10,7 @@ pub const TIME_DIGITS: u8 = 8;
 const MOST_HELD: u8 = 9;
 
 // What is known of a line so far.
-#[derive(Drop)]
+#[derive(Clone, Copy)]
 pub struct Partial {
     // how many characters it has, 9 where they are more than 8
     pub count: u8,

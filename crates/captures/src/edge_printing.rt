@@ -10,7 +10,7 @@ use crate::edges::{Answer, Reader};
 use naming::printing;
 
 // What came of a piece or of the end.
-#[derive(Drop)]
+#[derive(Clone, Copy)]
 pub struct Printed {
     pub reader: Reader,
     // how many bytes stand in the buffer, to be handed on before the next call

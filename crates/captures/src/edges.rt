@@ -13,7 +13,7 @@ use crate::{edge_lines, pulses};
 use frame::frame_lines;
 
 // What is kept of a capture between two pieces. Only `start` makes one.
-#[derive(Drop)]
+#[derive(Clone, Copy)]
 pub struct Reader {
     // the refusal that came, and comes again at each call
     refusal: u8,
@@ -25,7 +25,7 @@ pub struct Reader {
 }
 
 // What a call answers: 0 or a refusal, and in either case how many bytes stand in the buffer.
-#[derive(Drop)]
+#[derive(Clone, Copy)]
 pub struct Answer {
     pub refusal: u8,
     pub written: usize,
@@ -33,14 +33,14 @@ pub struct Answer {
 }
 
 // What a line comes to: the reader after it, and whether the frame that was open is closed.
-#[derive(Drop)]
+#[derive(Clone, Copy)]
 struct Turn {
     closes: bool,
     reader: Reader,
 }
 
 // How far a piece is read.
-#[derive(Drop)]
+#[derive(Clone, Copy)]
 struct Progress {
     reader: Reader,
     next: usize,

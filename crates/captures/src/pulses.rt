@@ -7,7 +7,7 @@ ghost use Rattle.captures.specs.Rule.{after_release, after_presence, after_low, 
 use frame::Frame;
 
 // What a low is by how long it lasts.
-#[derive(Drop)]
+#[derive(Clone, Copy)]
 pub enum Pulse {
     One,
     Zero,
@@ -16,7 +16,7 @@ pub enum Pulse {
 }
 
 // Where the line stands after its last edge.
-#[derive(Drop)]
+#[derive(Clone, Copy)]
 pub enum PulseStage {
     // high, before any edge
     Idle,
@@ -33,7 +33,7 @@ pub enum PulseStage {
 }
 
 // The line and the frame that is open on it. A frame without presence takes no slot.
-#[derive(Drop)]
+#[derive(Clone, Copy)]
 pub struct Wire {
     pub stage: PulseStage,
     // the time of the last edge
@@ -43,7 +43,7 @@ pub struct Wire {
 
 // What an edge comes to: a refusal and the line as it was, or the line after it, and whether the frame
 // that was open is closed.
-#[derive(Drop)]
+#[derive(Clone, Copy)]
 pub struct Step {
     pub refusal: u8,
     pub closes: bool,
@@ -51,7 +51,7 @@ pub struct Step {
 }
 
 // What an end comes to: a refusal, or whether the open frame is closed.
-#[derive(Drop)]
+#[derive(Clone, Copy)]
 pub struct Ending {
     pub refusal: u8,
     pub closes: bool,

@@ -3,7 +3,7 @@ use crate::turn::{POLYNOMIAL, turn};
 use scratchpad::NineBytes;
 
 // How many were refused with 5, and how many not.
-#[derive(Drop)]
+#[derive(Clone, Copy)]
 pub struct Count {
     pub refused: u32,
     pub passed: u32,

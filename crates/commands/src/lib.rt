@@ -28,7 +28,7 @@ pub const RECALL_EEPROM: u8 = 0xB8;
 pub const READ_POWER: u8 = 0xB4;
 
 // What a listener holds after one more bit of a byte.
-#[derive(Drop)]
+#[derive(Clone, Copy)]
 pub enum Shifted {
     // so many bits of it, in a shift register
     Partial { shift: u8, count: u8 },

@@ -13,14 +13,14 @@ const MOST: usize = 2097152;
 const ROOM: usize = 2097153;
 
 // What was read of a file: whether all went well, and how many bytes stand at the front of the buffer.
-#[derive(Drop)]
+#[derive(Clone, Copy)]
 struct Loaded {
     sound: bool,
     count: usize,
 }
 
 // The file of an argument: its number, whether all went well, and how many bytes it has.
-#[derive(Drop)]
+#[derive(Clone, Copy)]
 struct File {
     argument: usize,
     sound: bool,

@@ -8,14 +8,14 @@ ghost use Rattle.comparing.specs.Departure.{shared_lines, departure_of, side_num
 ghost use Rattle.comparing.specs.Claims.{Parted};
 
 // Which of two recordings a part comes from.
-#[derive(Drop)]
+#[derive(Clone, Copy)]
 pub enum Side {
     Reference,
     Other,
 }
 
 // Where two recordings part.
-#[derive(Drop)]
+#[derive(Clone, Copy)]
 pub struct Departure {
     // the one that the part comes from
     pub side: Side,

@@ -17,7 +17,7 @@ use scratchpad::EightBytes;
 use temperature::Reading;
 
 // How a device is powered: from the data wire, or by a supply of its own.
-#[derive(Drop)]
+#[derive(Clone, Copy)]
 pub enum Power {
     Line,
     External,
@@ -25,7 +25,7 @@ pub enum Power {
 
 // The bytes that EEPROM keeps and that 4Eh writes together. A family without a configuration has 0
 // there, so that equal devices are equal records.
-#[derive(Drop)]
+#[derive(Clone, Copy)]
 pub struct Settings {
     pub high: u8,
     pub low: u8,
@@ -33,7 +33,7 @@ pub struct Settings {
 }
 
 // What keeps a device busy. A copy holds the bytes as they stood at its command.
-#[derive(Drop)]
+#[derive(Clone, Copy)]
 pub enum Activity {
     Idle,
     Converting,
@@ -41,7 +41,7 @@ pub enum Activity {
 }
 
 // The three slots of one bit in a search.
-#[derive(Drop)]
+#[derive(Clone, Copy)]
 pub enum Phase {
     SendBit,
     SendComplement,
@@ -50,7 +50,7 @@ pub enum Phase {
 
 // Where a device stands in the protocol, each case with its own place. A place that no sequence of
 // slots reaches behaves as quiet.
-#[derive(Drop)]
+#[derive(Clone, Copy)]
 pub enum Stage {
     AwaitRom { shift: u8, count: u8 },
     SendRom(u8),
@@ -65,7 +65,7 @@ pub enum Stage {
 }
 
 // What the last finished conversion since power-up stored, and the two limits of that moment.
-#[derive(Drop)]
+#[derive(Clone, Copy)]
 pub struct Page {
     pub taken: bool,
     pub reading: Reading,
@@ -73,7 +73,7 @@ pub struct Page {
     pub low: u8,
 }
 
-#[derive(Drop)]
+#[derive(Clone, Copy)]
 pub struct Device {
     pub code: u64,
     pub power: Power,
@@ -89,14 +89,14 @@ pub struct Device {
 
 // An attempt to end a conversion or a copy: 0 and the device after it, or the refusal and the device as
 // it was.
-#[derive(Drop)]
+#[derive(Clone, Copy)]
 pub struct Ended {
     pub refusal: u8,
     pub device: Device,
 }
 
 // What a device joins the bench with.
-#[derive(Drop)]
+#[derive(Clone, Copy)]
 pub struct Joining {
     pub code: u64,
     pub power: Power,

@@ -15,7 +15,7 @@ const PIECE: usize = 65536;
 const TEXT: usize = 65708;
 
 // A run so far: the reader, how many bytes the last read brought, and how many reads may follow.
-#[derive(Drop)]
+#[derive(Clone, Copy)]
 struct Run {
     reader: Reader,
     came: usize,

@@ -29,14 +29,14 @@ pub const COUNT_PER_DEGREE: usize = 7;
 pub const CRC: usize = 8;
 
 // The unit in which a family counts its readings.
-#[derive(Drop)]
+#[derive(Clone, Copy)]
 pub enum Unit {
     Sixteenths,
     HalfDegrees,
 }
 
 // One row of the table.
-#[derive(Drop)]
+#[derive(Clone, Copy)]
 pub struct Properties {
     // whether this is a family that the bench and the master know
     pub known: bool,

@@ -15,7 +15,7 @@ mod parsing;
 pub use parsing::read_line;
 
 // What stands at a place of a recording.
-#[derive(Drop)]
+#[derive(Clone, Copy)]
 pub struct LineRead {
     pub refusal: u8,
     // whether nothing stands there, at or past the end

@@ -10,7 +10,7 @@ ghost use Rattle.frame.specs.Frames.{lineable, bytes_for, with_bit};
 pub const MOST_SLOTS: u16 = 512;
 
 // One reset with the slots after it. Slot i is bit i % 8 of bits[i / 8].
-#[derive(Drop)]
+#[derive(Clone, Copy)]
 pub struct Frame {
     // whether any device showed its presence
     pub presence: bool,

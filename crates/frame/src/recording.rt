@@ -7,7 +7,7 @@ ghost use Rattle.frame.specs.ReadLine.{line_read_at};
 use crate::frame_lines;
 use crate::frame_lines::LineRead;
 
-#[derive(Drop)]
+#[derive(Clone, Copy)]
 pub struct Reader<'a> {
     pub bytes: &'a [u8],
     pub at: usize,

@@ -24,7 +24,7 @@ pub const MOST_HELD: usize = 135;
 
 // What a call comes to. The order of the fields is that of the C header.
 #[repr(C)]
-#[derive(Drop)]
+#[derive(Clone, Copy)]
 pub struct Answer {
     // the code of a search pass or of a read, else 0
     pub code: u64,

@@ -13,19 +13,19 @@ pub const MOST_PLACES: usize = 32;
 pub const MOST_BYTES: usize = 1824;
 
 // What was read of a field: whether it is one, and its value where it is.
-#[derive(Drop)]
+#[derive(Clone, Copy)]
 pub struct CountRead {
     pub valid: bool,
     pub count: Sixteenths,
 }
 
-#[derive(Drop)]
+#[derive(Clone, Copy)]
 pub struct PowerRead {
     pub valid: bool,
     pub power: Power,
 }
 
-#[derive(Drop)]
+#[derive(Clone, Copy)]
 pub struct SettingsRead {
     pub valid: bool,
     pub settings: Settings,

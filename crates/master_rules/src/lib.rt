@@ -5,7 +5,7 @@ use temperature::Reading;
 
 // The answer of a read or a write at a code: the nine bytes of the scratchpad, the reading and the fine
 // reading, or a refusal with zeros; and the bench as the reset and the slots sent left it.
-#[derive(Drop)]
+#[derive(Clone, Copy)]
 pub struct Access {
     pub refusal: u8,
     pub pad: [u8; 9],
@@ -16,7 +16,7 @@ pub struct Access {
 
 // The answer of a search: how many codes it listed, passes and slots it made, and bytes it recorded,
 // or a refusal with zeros; and the bench as the last slot left it.
-#[derive(Drop)]
+#[derive(Clone, Copy)]
 pub struct Searched {
     pub refusal: u8,
     pub codes: u8,
@@ -27,7 +27,7 @@ pub struct Searched {
 }
 
 // The lowest pin number that two probes share, or none.
-#[derive(Drop)]
+#[derive(Clone, Copy)]
 pub enum SharedPin {
     NoPin,
     Pin(u8),
@@ -36,7 +36,7 @@ pub enum SharedPin {
 // The answer of the call for address pins: how many probes have any, the pins of each in the order of
 // the list and 0 behind them, and the lowest number that two share; or a refusal with zeros; and the
 // bench as the last slot left it.
-#[derive(Drop)]
+#[derive(Clone, Copy)]
 pub struct Pinned {
     pub refusal: u8,
     pub codes: u8,

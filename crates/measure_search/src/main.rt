@@ -20,7 +20,7 @@ const BYTES: usize = 1824;
 
 const MOST: u8 = 32;
 
-#[derive(Drop)]
+#[derive(Clone, Copy)]
 struct Totals {
     codes: u64,
     passes: u64,

@@ -21,7 +21,7 @@ const TOLD: usize = 108825;
 
 // A run so far: what is carried over, how many lines there were, how many bytes the last read brought, and
 // how many reads may follow.
-#[derive(Drop)]
+#[derive(Clone, Copy)]
 struct Run {
     carried: Carried,
     lines: u64,

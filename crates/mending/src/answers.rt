@@ -12,7 +12,7 @@ use text::{LINE_FEED, SPACE, laying, putting};
 pub const MOST_TOLD: usize = 25;
 
 // What came of a report.
-#[derive(Drop)]
+#[derive(Clone, Copy)]
 pub struct Noticed {
     pub refusal: u8,
     // how many bytes of what is told stand at the front of its buffer

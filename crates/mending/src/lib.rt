@@ -26,7 +26,7 @@ const MENDED: u8 = 16;
 const DROPPED: u8 = 32;
 
 // What became of a line.
-#[derive(Drop)]
+#[derive(Clone, Copy)]
 pub struct LineMended {
     // the report on it; 0 where there is no room
     pub report: u8,
@@ -35,7 +35,7 @@ pub struct LineMended {
 }
 
 // A line under repair.
-#[derive(Drop)]
+#[derive(Clone, Copy)]
 struct Repair {
     // its characters, from the front
     chars: [u8; ROOM],

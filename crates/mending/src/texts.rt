@@ -20,7 +20,7 @@ use text::laying;
 const MOST_HELD: usize = 257;
 
 // What came of a text.
-#[derive(Drop)]
+#[derive(Clone, Copy)]
 pub struct TextMended {
     pub refusal: u8,
     // how many bytes stand at the front of the output
@@ -30,7 +30,7 @@ pub struct TextMended {
 }
 
 // What came of a piece.
-#[derive(Drop)]
+#[derive(Clone, Copy)]
 pub struct PieceMended {
     pub refusal: u8,
     pub written: usize,
@@ -39,7 +39,7 @@ pub struct PieceMended {
 }
 
 // How far the lines with a feed go.
-#[derive(Drop)]
+#[derive(Clone, Copy)]
 struct LinesMended {
     written: usize,
     lines: usize,

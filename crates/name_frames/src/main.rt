@@ -17,7 +17,7 @@ const PIECE: usize = 65671;
 const TEXT: usize = 656710;
 
 // A run so far: what is carried over, how many bytes the last read brought, and how many reads may follow.
-#[derive(Drop)]
+#[derive(Clone, Copy)]
 struct Run {
     carried: Carried,
     came: usize,

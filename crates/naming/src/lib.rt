@@ -22,7 +22,7 @@ const NOBODY_SLOTS: u16 = 10;
 // Slots of a scratchpad read at a code: two commands, the code and nine bytes.
 const PAD_SLOTS: u16 = 152;
 
-#[derive(Drop)]
+#[derive(Clone, Copy)]
 pub enum Name {
     Empty,
     Search,
@@ -47,7 +47,7 @@ pub fn number_of(name: Name) -> u8
 }
 
 // A refusal, or 0 and what the frame shows.
-#[derive(Drop)]
+#[derive(Clone, Copy)]
 pub struct Named {
     pub refusal: u8,
     // Other on a refusal
@@ -61,7 +61,7 @@ pub struct Named {
 }
 
 // What the triples of a search pass say.
-#[derive(Drop)]
+#[derive(Clone, Copy)]
 pub struct PassRead {
     // whether every triple is one that devices can give
     pub allowed: bool,

@@ -12,7 +12,7 @@ use text::laying;
 use text::laying::Written;
 
 // A printed line, and how many bytes it has.
-#[derive(Drop)]
+#[derive(Clone, Copy)]
 pub struct Text {
     pub bytes: [u8; 32],
     pub count: usize,

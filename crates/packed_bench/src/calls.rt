@@ -17,13 +17,13 @@ use bench::{Bench, Changed, Looked};
 use device::Joining;
 use temperature::Sixteenths;
 
-#[derive(Drop)]
+#[derive(Clone, Copy)]
 pub struct ResetSeen {
     pub refusal: u8,
     pub presence: bool,
 }
 
-#[derive(Drop)]
+#[derive(Clone, Copy)]
 pub struct SlotSeen {
     pub refusal: u8,
     pub line: bool,

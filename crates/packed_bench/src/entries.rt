@@ -13,7 +13,7 @@ use bench::wire::Devices;
 use device::Device;
 
 // The records of the leading entries, up to the first with the code 0, in the first places of a table.
-#[derive(Drop)]
+#[derive(Clone, Copy)]
 pub struct Found {
     pub devices: Devices,
     pub count: u8,

@@ -19,7 +19,7 @@ const TWELVE_BITS: u8 = 0x60;
 pub type CodeBytes = [u8; 8];
 
 // The case of an enum by its number, and up to three numbers that the case holds.
-#[derive(Drop)]
+#[derive(Clone, Copy)]
 pub struct Case(pub u8, pub u8, pub u8, pub u8);
 
 pub fn truth_byte(t: bool) -> u8

@@ -17,7 +17,7 @@ use bench::Bench;
 pub const TABLE_BYTES: usize = 1536;
 
 // The bench that bytes hold, or the refusal and the empty bench.
-#[derive(Drop)]
+#[derive(Clone, Copy)]
 pub struct Unpacked {
     pub refusal: u8,
     pub bench: Bench,

@@ -20,14 +20,14 @@ use settings::Store;
 type Table = [u8; TABLE_BYTES];
 
 // What a line leaves: the bytes of the table, and the store.
-#[derive(Drop)]
+#[derive(Clone, Copy)]
 struct Left {
     table: Table,
     store: Store,
 }
 
 // The bytes of the table, the store, and how many characters of the line not yet ended are held.
-#[derive(Drop)]
+#[derive(Clone, Copy)]
 struct State {
     table: Table,
     store: Store,
@@ -35,7 +35,7 @@ struct State {
 }
 
 // A run so far: the state, how many bytes the last read brought, and how many reads may follow.
-#[derive(Drop)]
+#[derive(Clone, Copy)]
 struct Run {
     state: State,
     came: usize,

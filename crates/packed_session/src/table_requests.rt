@@ -12,7 +12,7 @@ use text::same;
 const LAST_PLACE: u64 = 1535;
 
 // What a line asks of the bytes.
-#[derive(Drop)]
+#[derive(Clone, Copy)]
 pub enum TableRequest {
     Poke { place: usize, byte: u8 },
     Dump,

@@ -19,7 +19,7 @@ use settings::{Store, writing};
 use text::laying::Written;
 
 // What came of a line, and the store after it.
-#[derive(Drop)]
+#[derive(Clone, Copy)]
 pub struct TableTold {
     pub written: Written,
     pub store: Store,

@@ -10,14 +10,14 @@ use text::laying::Written;
 const MOST_CARRIED: usize = 257;
 
 // The characters of an unfinished line, carried to the next piece.
-#[derive(Drop)]
+#[derive(Clone, Copy)]
 pub struct Carried {
     line: [u8; 257],
     count: usize,
 }
 
 // What came of a piece.
-#[derive(Drop)]
+#[derive(Clone, Copy)]
 pub struct Fed {
     pub refusal: u8,
     // how many bytes of what is said stand at the front of its buffer
@@ -26,7 +26,7 @@ pub struct Fed {
 }
 
 // How far the whole lines of a piece go.
-#[derive(Drop)]
+#[derive(Clone, Copy)]
 pub struct Progress {
     // how many bytes were said for them
     pub written: usize,

@@ -17,7 +17,7 @@ use search::{FEWEST_BYTES, FEWEST_PLACES};
 const PIN_NUMBERS: u8 = 16;
 
 // The probes read so far, with their pins.
-#[derive(Drop)]
+#[derive(Clone, Copy)]
 struct Reading {
     codes: u8,
     pins: [u8; 32],

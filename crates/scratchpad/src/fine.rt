@@ -10,7 +10,7 @@ use temperature::{Reading, Sixteenths, WholeDegrees};
 pub const COUNTS_PER_DEGREE: u8 = 16;
 
 // Degrees as a fraction, not reduced. Zero over zero where there is no fine reading.
-#[derive(Drop)]
+#[derive(Clone, Copy)]
 pub struct FineDegrees {
     pub numerator: i32,
     pub denominator: u16,

@@ -21,7 +21,7 @@ pub type NineBytes = [u8; 9];
 
 // A refusal, or 0, the reading in the family's unit and the fine reading, which is zero over zero where the
 // family has none. A refusal's readings are zero.
-#[derive(Drop)]
+#[derive(Clone, Copy)]
 pub struct Judged {
     pub refusal: u8,
     pub reading: Reading,
@@ -29,7 +29,7 @@ pub struct Judged {
 }
 
 // A refusal, or 0 and the temperature in degrees. A refusal's degrees are zero.
-#[derive(Drop)]
+#[derive(Clone, Copy)]
 pub struct DegreesRead {
     pub refusal: u8,
     pub degrees: Degrees,

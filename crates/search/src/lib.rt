@@ -31,7 +31,7 @@ const MOST_PASSES: u8 = 32;
 
 // The passes so far: whether one more is to be made, the code before it and the place at which to
 // depart from that, and the counts of what has been listed and recorded.
-#[derive(Drop)]
+#[derive(Clone, Copy)]
 struct Sweep {
     going: bool,
     previous: u64,

@@ -15,7 +15,7 @@ use frame::Frame;
 pub const CODE_BITS: u8 = 64;
 
 // What one slot of a pass gave: the frame with the line's bit in it, that bit, and the bench after it.
-#[derive(Drop)]
+#[derive(Clone, Copy)]
 struct Shown {
     bench: Bench,
     frame: Frame,
@@ -24,7 +24,7 @@ struct Shown {
 
 // A pass so far: whether somebody answered at every place, the bits taken, the last place at which 0
 // was taken at a conflict (64 for none), and what the line showed.
-#[derive(Drop)]
+#[derive(Clone, Copy)]
 pub struct Walk {
     pub bench: Bench,
     pub shown: Frame,

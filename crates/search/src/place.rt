@@ -11,7 +11,7 @@ use device::{Device, stages};
 
 // What the slots gave: what the two reads showed, the bit taken, what the line showed then, and the bench
 // after them. Where both reads showed 1 nobody answers, and there is no third slot.
-#[derive(Drop)]
+#[derive(Clone, Copy)]
 pub struct Placed {
     pub bench: Bench,
     pub first: bool,
@@ -22,7 +22,7 @@ pub struct Placed {
 
 // What the devices up to one say: whether each is quiet or about to send its bit of the place, with the
 // wire free; and whether those that send have 1 there, and 0.
-#[derive(Drop)]
+#[derive(Clone, Copy)]
 struct Survey {
     fits: bool,
     ones: bool,

@@ -7,7 +7,7 @@ ghost use Rattle.sessions.specs.Gathering.{fitting, taken, taken_leaves};
 pub const MOST_HELD: usize = 81;
 
 // What came of a part of a line.
-#[derive(Drop)]
+#[derive(Clone, Copy)]
 pub struct Gathered {
     // how many characters of the line are held
     pub held: usize,

@@ -12,7 +12,7 @@ ghost use Rattle.settings.specs.Calls.{change_refused, changed_entry, settings_c
 use device::Settings;
 
 // A code that was once added, whether it is there, its settings and how many changes they have had.
-#[derive(Drop)]
+#[derive(Clone, Copy)]
 pub struct Entry {
     code: u64,
     present: bool,
@@ -21,21 +21,21 @@ pub struct Entry {
 }
 
 // The codes in the order in which they were first added. A removed one keeps its place.
-#[derive(Drop)]
+#[derive(Clone, Copy)]
 pub struct Store {
     entries: [Entry; 32],
     count: u8,
 }
 
 // Where a code is kept in a store.
-#[derive(Drop)]
+#[derive(Clone, Copy)]
 pub enum Kept {
     At(usize),
     Nowhere,
 }
 
 // The entry of a code that is there, and its place; or the refusal, and a blank one.
-#[derive(Drop)]
+#[derive(Clone, Copy)]
 pub struct Located {
     refusal: u8,
     place: usize,
@@ -43,14 +43,14 @@ pub struct Located {
 }
 
 // The answer of adding and removing: 0, or the refusal and the store as it came.
-#[derive(Drop)]
+#[derive(Clone, Copy)]
 pub struct StoreAfter {
     pub refusal: u8,
     pub store: Store,
 }
 
 // The settings of a code and their version, or the refusal and zeros.
-#[derive(Drop)]
+#[derive(Clone, Copy)]
 pub struct Current {
     pub refusal: u8,
     pub settings: Settings,
@@ -58,13 +58,13 @@ pub struct Current {
 }
 
 // What a change makes of one of the three settings.
-#[derive(Drop)]
+#[derive(Clone, Copy)]
 pub enum Alter {
     Leave,
     To(u8),
 }
 
-#[derive(Drop)]
+#[derive(Clone, Copy)]
 pub struct Alterations {
     pub high: Alter,
     pub low: Alter,
@@ -72,7 +72,7 @@ pub struct Alterations {
 }
 
 // The answer of a change: 0 and the version that it made, or the refusal, 0 and the store as it came.
-#[derive(Drop)]
+#[derive(Clone, Copy)]
 pub struct ChangeDone {
     pub refusal: u8,
     pub version: u16,

@@ -32,42 +32,42 @@ const LOWEST_LIMIT: i16 = -128;
 
 const HIGHEST_LIMIT: i16 = 127;
 
-#[derive(Drop)]
+#[derive(Clone, Copy)]
 pub struct Sixteenths(pub i16);
 
-#[derive(Drop)]
+#[derive(Clone, Copy)]
 pub struct HalfDegrees(pub i16);
 
-#[derive(Drop)]
+#[derive(Clone, Copy)]
 pub struct WholeDegrees(pub i16);
 
 // Degrees in single precision.
-#[derive(Drop)]
+#[derive(Clone, Copy)]
 pub struct Degrees(pub f32);
 
 // A stored temperature, in the unit of the family that stores it.
-#[derive(Drop)]
+#[derive(Clone, Copy)]
 pub enum Reading {
     InSixteenths(Sixteenths),
     InHalves(HalfDegrees),
 }
 
 // Scratchpad bytes 0 and 1.
-#[derive(Drop)]
+#[derive(Clone, Copy)]
 pub struct Register {
     pub low: u8,
     pub high: u8,
 }
 
 // An answer in sixteenths, or a refusal and zero.
-#[derive(Drop)]
+#[derive(Clone, Copy)]
 pub struct Converted {
     pub refusal: u8,
     pub count: Sixteenths,
 }
 
 // A limit as its byte of the scratchpad, or a refusal and zero.
-#[derive(Drop)]
+#[derive(Clone, Copy)]
 pub struct LimitByte {
     pub refusal: u8,
     pub byte: u8,

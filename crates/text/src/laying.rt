@@ -7,7 +7,7 @@ ghost use Rattle.text.specs.Decimal.{decimal, signed_decimal};
 ghost use Rattle.text.specs.Laying.{has_room, lay_answer, lay_leaves, decode_answer, decode_leaves};
 
 // What came of laying text at a place.
-#[derive(Drop)]
+#[derive(Clone, Copy)]
 pub struct Written {
     pub refusal: u8,
     // the place behind the text, 0 on a refusal

@@ -23,7 +23,7 @@ pub const MINUS: u8 = 0x2D;
 pub const SLASH: u8 = 0x2F;
 
 // A number that was read, or that there is none.
-#[derive(Drop)]
+#[derive(Clone, Copy)]
 pub struct NumberRead {
     pub valid: bool,
     // 0 where there is none

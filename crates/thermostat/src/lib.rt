@@ -14,7 +14,7 @@ use temperature::WholeDegrees;
 
 // What the probe keeps without power: the two limits as signed bytes, and the last three bits of the
 // status.
-#[derive(Drop)]
+#[derive(Clone, Copy)]
 pub struct Kept {
     pub high: u8,
     pub low: u8,
@@ -26,14 +26,14 @@ pub struct Kept {
 
 // Whether a reading was above the high limit, and whether one was below the low limit, since power-up
 // and since the host cleared the flag.
-#[derive(Drop)]
+#[derive(Clone, Copy)]
 pub struct Flags {
     pub high: bool,
     pub low: bool,
 }
 
 // What can be sent.
-#[derive(Drop)]
+#[derive(Clone, Copy)]
 pub enum Readable {
     Temperature,
     HighLimit,
@@ -42,7 +42,7 @@ pub enum Readable {
 }
 
 // What can be taken.
-#[derive(Drop)]
+#[derive(Clone, Copy)]
 pub enum Writable {
     NewHigh,
     NewLow,
@@ -50,7 +50,7 @@ pub enum Writable {
 }
 
 // Where the probe stands in the protocol. A place that no sequence of slots reaches behaves as quiet.
-#[derive(Drop)]
+#[derive(Clone, Copy)]
 pub enum ProbeStage {
     AwaitCommand {
         shift: u8,
@@ -68,7 +68,7 @@ pub enum ProbeStage {
     Quiet,
 }
 
-#[derive(Drop)]
+#[derive(Clone, Copy)]
 pub struct Thermostat {
     pub kept: Kept,
     pub stage: ProbeStage,
@@ -83,7 +83,7 @@ pub struct Thermostat {
 }
 
 // An attempt to end a conversion: 0 and the probe after it, or the refusal and the probe as it was.
-#[derive(Drop)]
+#[derive(Clone, Copy)]
 pub struct Finished {
     pub refusal: u8,
     pub probe: Thermostat,

@@ -8,7 +8,7 @@ use crate::rules::{Asked, Changed, StatusRead};
 use crate::{Thermostat, wire};
 
 // What eight read slots gave: the byte that the line showed, and the probe after them.
-#[derive(Drop)]
+#[derive(Clone, Copy)]
 struct ByteRead {
     byte: u8,
     probe: Thermostat,

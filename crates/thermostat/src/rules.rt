@@ -4,7 +4,7 @@ use crate::Thermostat;
 
 // The bits of the status that a host changes: the mode for the next power-up, true for thermostat, the
 // polarity of the output, and one-shot.
-#[derive(Drop)]
+#[derive(Clone, Copy)]
 pub struct Asked {
     pub mode: bool,
     pub polarity: bool,
@@ -12,14 +12,14 @@ pub struct Asked {
 }
 
 // The status byte as the line showed it and the probe after it, or a refusal and 0.
-#[derive(Drop)]
+#[derive(Clone, Copy)]
 pub struct StatusRead {
     pub refusal: u8,
     pub status: u8,
     pub probe: Thermostat,
 }
 
-#[derive(Drop)]
+#[derive(Clone, Copy)]
 pub struct Changed {
     pub refusal: u8,
     pub probe: Thermostat,

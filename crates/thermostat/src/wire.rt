@@ -27,13 +27,13 @@ pub const WRITE_STATUS: u8 = 0x0C;
 
 pub const READ_STATUS: u8 = 0xAC;
 
-#[derive(Drop)]
+#[derive(Clone, Copy)]
 pub struct ResetDone {
     pub presence: bool,
     pub probe: Thermostat,
 }
 
-#[derive(Drop)]
+#[derive(Clone, Copy)]
 pub struct Slotted {
     pub line: bool,
     pub probe: Thermostat,

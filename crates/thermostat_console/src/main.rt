@@ -15,14 +15,14 @@ use text::putting::LINE_ROOM;
 use thermostat::{Kept, Thermostat};
 
 // The probe, and how many characters of the line not yet ended are held.
-#[derive(Drop)]
+#[derive(Clone, Copy)]
 struct State {
     probe: Thermostat,
     held: usize,
 }
 
 // A run so far: the state, how many bytes the last read brought, and how many reads may follow.
-#[derive(Drop)]
+#[derive(Clone, Copy)]
 struct Run {
     state: State,
     came: usize,

@@ -11,7 +11,7 @@ use text::{LINE_FEED, SPACE, laying, putting};
 use thermostat::Thermostat;
 
 // What a request is answered.
-#[derive(Drop)]
+#[derive(Clone, Copy)]
 pub enum Reply {
     // that there is no such request
     Unknown,

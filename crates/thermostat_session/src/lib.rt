@@ -16,14 +16,14 @@ use text::putting::LINE_ROOM;
 use thermostat::{Thermostat, master, wire};
 
 // What a request is answered, and the probe after it.
-#[derive(Drop)]
+#[derive(Clone, Copy)]
 pub struct Responded {
     pub reply: Reply,
     pub probe: Thermostat,
 }
 
 // What came of a line.
-#[derive(Drop)]
+#[derive(Clone, Copy)]
 pub struct ProbeSaid {
     pub refusal: u8,
     // how many bytes of text stand at the front of what was lent, 0 on a refusal

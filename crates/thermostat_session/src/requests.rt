@@ -15,7 +15,7 @@ use thermostat::Kept;
 use thermostat::rules::Asked;
 
 // What a line asks for.
-#[derive(Drop)]
+#[derive(Clone, Copy)]
 pub enum ProbeRequest {
     Bad,
     Start(Kept),
@@ -29,19 +29,19 @@ pub enum ProbeRequest {
 }
 
 // What was read of a field: whether it is one, and its value where it is.
-#[derive(Drop)]
+#[derive(Clone, Copy)]
 pub struct DegreesRead {
     valid: bool,
     degrees: WholeDegrees,
 }
 
-#[derive(Drop)]
+#[derive(Clone, Copy)]
 pub struct LimitRead {
     valid: bool,
     byte: u8,
 }
 
-#[derive(Drop)]
+#[derive(Clone, Copy)]
 pub struct AskedRead {
     valid: bool,
     asked: Asked,

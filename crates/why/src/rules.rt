@@ -2,7 +2,7 @@
 use temperature::{Reading, WholeDegrees};
 
 // By the last conversion that finished since power-up, and the two limits of that moment.
-#[derive(Drop)]
+#[derive(Clone, Copy)]
 pub enum Reason {
     NotOnBench,
     NoConversion,
@@ -14,7 +14,7 @@ pub enum Reason {
 
 // The reason, with the reading and the limits of that conversion, and whether either of today's limits
 // differs from them. All are zero and no where there was no conversion, and beside a refusal.
-#[derive(Drop)]
+#[derive(Clone, Copy)]
 pub struct Why {
     pub refusal: u8,
     pub reason: Reason,

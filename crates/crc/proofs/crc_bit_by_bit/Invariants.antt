@@ -1,0 +1,15 @@
+use Prim.Native.Nat.{◌≤◌, ◌-◌}
+use mathlib.Core.Path.{◌≡◌, ◌∙◌, sym}
+use native.Mathlib.Omega.{arith}
+use Rattle.basic_laws.specs.Bits.{bits_of}
+use Rattle.crc.specs.Crc.{crc_bits}
+use Rattle.crc.specs.Laws.{crc-turn, crc-done}
+use Rattle.crc.proofs.crc_bit_by_bit.Given as goal
+
+abbrev pub invariant-loop-i : goal.invariant-loop-i
+invariant-loop-i l =
+    (l.i ≤ l.count) × (crc_bits l.r (bits_of (l.count - l.i) l.left) ≡ crc_bits l.register (bits_of l.count l.number))
+
+abbrev pub decreases-loop-i : goal.decreases-loop-i
+decreases-loop-i l =
+    l.count - l.i

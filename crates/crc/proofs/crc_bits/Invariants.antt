@@ -1,0 +1,13 @@
+use mathlib.Core.Path.{◌≡◌, ◌∙◌, refl}
+use Rattle.basic_laws.specs.Bits.{bits_of}
+use Rattle.crc.specs.Crc.{crc_bits}
+use Rattle.crc.specs.Laws.{crc-byte-turn}
+use Rattle.crc.proofs.crc_bits.Given as goal
+
+abbrev pub invariant-loop-rest : goal.invariant-loop-rest
+invariant-loop-rest l =
+    crc_bits l.r (bits_of l.rest l.left) ≡ crc_bits l.register (bits_of l.count l.number)
+
+abbrev pub decreases-loop-rest : goal.decreases-loop-rest
+decreases-loop-rest l =
+    l.rest
