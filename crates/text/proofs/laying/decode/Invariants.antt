@@ -1,0 +1,18 @@
+use lib.Seq.{take_all}
+use Rattle.basic_laws.specs.LaidLaws.{laid_next, laid_none}
+use Prim.Native.Nat.{◌+◌, ◌*◌, ◌≤◌, ◌<◌, ◌-◌}
+use mathlib.Core.Path.{◌≡◌, refl, ◌∙◌}
+use native.Mathlib.Omega.{arith}
+use lib.ListN.{length, take, length-set}
+use Rattle.basic_laws.specs.Laid.{laid}
+use Rattle.text.specs.Digits.{bytes_of}
+use Rattle.text.specs.DigitsLaws.{bytes-half, bytes-at}
+use Rattle.text.proofs.laying.decode.Given as goal
+
+abbrev pub invariant-loop-i : goal.invariant-loop-i
+invariant-loop-i l =
+    (l.i ≤ l.count) × (length l.out ≡ length l.initial.out) × (l.out ≡ laid l.initial.out 0 (take l.i (bytes_of l.s)))
+
+abbrev pub decreases-loop-i : goal.decreases-loop-i
+decreases-loop-i l =
+    l.count - l.i

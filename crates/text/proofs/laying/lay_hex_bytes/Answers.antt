@@ -1,0 +1,35 @@
+use Prim.Native.Nat.{◌+◌, ◌*◌, ◌≤◌}
+use mathlib.Core.Path.{sym, ◌∙◌}
+use borrow.Author.Tests.{leb-true, not-true, not-false}
+use lib.ListN.{length}
+use Rattle.text.specs.Digits.{hex_of}
+use Rattle.text.specs.DigitsLaws.{hex-length}
+use Rattle.text.specs.LayingLaws.{lay-short, lay_done}
+use borrow.Author.Rules.{rules}
+use Rattle.text.proofs.laying.lay_hex_bytes.Goals as goal
+use Rattle.text.proofs.laying.lay_hex_bytes.Goals.{Else-not-room}
+
+-- The digits are laid where they fit.
+-- behind the test there is room
+room-there : (c : Else-not-room) → 
+    
+    c.args.at + (2 * length c.args.bytes.now) ≤ length c.args.out.now
+room-there c =
+    
+    
+    leb-true (c.args.at + (2 * length c.args.bytes.now)) (length c.args.out.now)
+    (sym c.has_room-room.ensures.answer ∙ c.if-not-room.false)
+
+pub returns-then-not-room : goal.returns-then-not-room
+returns-then-not-room c =
+    let short = lay-short c.args.out.now c.args.at (hex_of c.args.bytes.now)
+    (2 * length c.args.bytes.now) (sym (hex-length c.args.bytes.now)) (sym c.has_room-room.ensures.answer
+    ∙ c.if-not-room.true) in
+    record { answer = c.refuse.ensures ∙ short.0; written = short.1 }
+
+pub returns : goal.returns
+returns c =
+    let done = lay_done c.args.out.now c.args.at (hex_of c.args.bytes.now)
+    (2 * length c.args.bytes.now) (sym (hex-length c.args.bytes.now))
+    (room-there (goal.at.returns c).Else-not-room) in
+    record { answer = done.0; written = c.put_hex_bytes.ensures ∙ done.1 }

@@ -1,0 +1,7 @@
+use Rattle.text.specs.LinesLaws.{behind-fed, behind-open}
+use borrow.Author.Rules.{rules}
+use Rattle.text.proofs.lines.line_behind.Goals as goal
+
+pub returns-else-end-s : goal.returns-else-end-s
+returns-else-end-s c =
+    record { answer = behind-open c.args.s.now c.args.at c.line_end-end.result c.line_end-end.ensures.answer c.if-end-s.false }

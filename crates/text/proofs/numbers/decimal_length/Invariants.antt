@@ -1,0 +1,14 @@
+use Prim.Native.Nat.{◌+◌}
+use mathlib.Core.Path.{◌≡◌}
+use native.Mathlib.Omega.{arith}
+use Rattle.text.specs.Decimal.{decimal_length}
+use Rattle.text.specs.DecimalLaws.{length-small, length-tenth, decimal-most}
+use Rattle.text.proofs.numbers.decimal_length.Given as goal
+
+abbrev pub invariant-loop-rest : goal.invariant-loop-rest
+invariant-loop-rest l =
+    l.count + decimal_length l.rest ≡ decimal_length l.number + 1
+
+abbrev pub decreases-loop-rest : goal.decreases-loop-rest
+decreases-loop-rest l =
+    l.rest

@@ -1,0 +1,21 @@
+use Prim.Native.Nat.{◌-◌, ◌<◌, ◌≤◌}
+use mathlib.Core.Path.{◌≡◌, refl, sym, ◌∙◌}
+use mathlib.Core.Bool.{true}
+use native.Mathlib.Omega.{arith}
+use lib.ListN.{length, take, drop}
+use lib.Seq.{take-length}
+use Rattle.basic_laws.specs.Fold.{fold}
+use Rattle.basic_laws.specs.FoldLaws.{all_past}
+use Rattle.text.specs.Digits.{is_digit, spells, number_in}
+use Rattle.text.specs.DigitsLaws.{number-next}
+use Rattle.text.specs.NumbersLaws.{turn-other, turn-digit, turn-past, digit-fits, digit-exceeds, read_number}
+use Rattle.text.specs.NumbersLaws.{read-other, read_past}
+use Rattle.text.proofs.numbers.read_number.Given as goal
+
+abbrev pub invariant-loop-i : goal.invariant-loop-i
+invariant-loop-i l =
+    (l.i ≤ length l.s) × (l.number ≡ number_in l.base (take l.i l.s)) × (l.number ≤ l.bound) × (spells l.base (drop l.i l.s) ≡ spells l.base l.s)
+
+abbrev pub decreases-loop-i : goal.decreases-loop-i
+decreases-loop-i l =
+    length l.s - l.i
