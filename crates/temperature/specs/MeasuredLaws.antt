@@ -22,7 +22,7 @@ use Rattle.temperature.specs.RangeLaws.{between-div, between-floor, between-plus
 use Rattle.temperature.specs.Range.{highest_sixteenths, in_range, lowest_sixteenths}
 use Rattle.temperature.specs.Register.{count_of, raw_reading, cleared_of, reading_of, register_of, unit_of}
 use Rattle.temperature.specs.RegisterLaws.{reading-register}
-use Rattle.temperature.specs.Units.{◌atMost◌, ◌below◌, ◌plus◌, ◌sixteenths, eightfold, whole_of}
+use Rattle.temperature.specs.Units.{◌at_most◌, ◌below◌, ◌plus◌, ◌sixteenths, eightfold, whole_of}
 use Rattle.temperature.specs.Measured.{step_of, rounded_of, nearest_halves, measured_of}
 
 -- ## The four steps

@@ -30,8 +30,8 @@ infixl 20 ◌plus◌
 abbrev pub ◌plus◌ : Sixteenths → Sixteenths → Sixteenths
 a plus b = record { 0 = a.0 +ℤ b.0 }
 
-infix 10 ◌atMost◌ ◌below◌
-abbrev pub ◌atMost◌ : Sixteenths → Sixteenths → Bool
+infix 10 ◌at_most◌ ◌below◌
+abbrev pub ◌at_most◌ : Sixteenths → Sixteenths → Bool
 a at_most b = le_z a.0 b.0
 
 abbrev pub ◌below◌ : Sixteenths → Sixteenths → Bool

@@ -12,7 +12,7 @@ use Rattle.temperature.specs.declared.Sixteenths.{Sixteenths}
 use Rattle.temperature.specs.declared.WholeDegrees.{WholeDegrees}
 use Rattle.temperature.specs.Range.{in_range, whole_in_range}
 use Rattle.temperature.specs.RangeLaws.{between-size}
-use Rattle.temperature.specs.Units.{◌sixteenths, ◌plus◌, ◌atMost◌, ◌below◌, to_half_degrees, eightfold, sixteenfold}
+use Rattle.temperature.specs.Units.{◌sixteenths, ◌plus◌, ◌at_most◌, ◌below◌, to_half_degrees, eightfold, sixteenfold}
 use Rattle.temperature.specs.Units.{to_sixteenths, whole_to_sixteenths, whole_of}
 
 -- ## Both coarser units round down: at most the count, and less than one of the unit below it

@@ -1,0 +1,8 @@
+use Rattle.scratchpad.specs.Stored.{stored_reading}
+use borrow.Author.Rules.{rules}
+use Rattle.scratchpad.proofs.stored_reading.Goals as goal
+
+pub returns : goal.returns
+unfolding stored_reading
+returns c =
+    record { answer = simp c.measured.ensures.answer }
