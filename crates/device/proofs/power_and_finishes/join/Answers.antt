@@ -1,0 +1,14 @@
+use Rattle.device.specs.Power.{joined}
+use borrow.Author.Rules.{rules}
+use Rattle.device.proofs.power_and_finishes.join.Goals as goal
+
+pub returns : goal.returns
+unfolding joined
+returns c =
+    record { answer = simp (
+      c.powered_up.ensures.answer,
+      c.kept_configuration-configuration.ensures.answer,
+      c.row_of-row.ensures.answer,
+      c.kept_Pins.ensures,
+      c.family_row.ensures.answer,
+    ) }

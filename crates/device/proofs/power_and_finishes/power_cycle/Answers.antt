@@ -1,0 +1,8 @@
+use Rattle.device.specs.Power.{power_up}
+use borrow.Author.Rules.{rules}
+use Rattle.device.proofs.power_and_finishes.power_cycle.Goals as goal
+
+pub returns : goal.returns
+unfolding power_up
+returns c =
+    record { answer = simp c.powered_up.ensures.answer }

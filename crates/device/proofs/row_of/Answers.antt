@@ -1,0 +1,8 @@
+use Rattle.device.specs.Record.{row_of}
+use borrow.Author.Rules.{rules}
+use Rattle.device.proofs.row_of.Goals as goal
+
+pub returns : goal.returns
+unfolding row_of
+returns c =
+    record { answer = simp (c.with_pins.ensures.answer, ← c.family_row.ensures.answer) }

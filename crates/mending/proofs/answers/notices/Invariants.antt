@@ -1,0 +1,12 @@
+use Rattle.std.proofs.Common.{◌-◌, ◌*◌, ◌<◌, ◌≤◌, length, get_or, arith, rules}
+use Rattle.mending.specs.Notice.{most_told}
+use Rattle.mending.specs.NoticesLaws.{Noting, noting-start, noting-more, noting-done, notices-short}
+use Rattle.mending.proofs.answers.notices.Given as goal
+
+abbrev pub invariant-loop-i : goal.invariant-loop-i
+invariant-loop-i l =
+    Noting l.before l.report l.initial.out l.i l.number l.written l.out
+
+abbrev pub decreases-loop-i : goal.decreases-loop-i
+decreases-loop-i l =
+    length l.report - l.i

@@ -1,0 +1,12 @@
+use Rattle.std.proofs.Common.{◌≡◌, ◌≤◌, length, take, ap, arith, take_all, rules}
+use Rattle.mending.specs.Mending.{unspaced}
+use Rattle.mending.specs.StepLaws.{spaces-on, spaces-stop, spaces-gone}
+use Rattle.mending.proofs.before_spaces.Given as goal
+
+abbrev pub invariant-loop-end : goal.invariant-loop-end
+invariant-loop-end l =
+    (l.end ≤ length l.s) × (unspaced (take l.end l.s) ≡ unspaced l.s)
+
+abbrev pub decreases-loop-end : goal.decreases-loop-end
+decreases-loop-end l =
+    l.end

@@ -1,0 +1,15 @@
+use Rattle.std.proofs.Common.{◌≡◌, ◌+◌, ◌-◌, ◌<◌, ◌≤◌, map, length, take, sym, refl, ◌∙◌, arith, length-set, take_all, rules}
+use lib.ListN.{length-map, get_or-map}
+use Rattle.basic_laws.specs.Laid.{laid}
+use Rattle.basic_laws.specs.LaidLaws.{laid_next, laid_none}
+use Rattle.mending.specs.Mending.{raised}
+use Rattle.mending.proofs.put_raised.Given as goal
+
+abbrev pub invariant-loop-i : goal.invariant-loop-i
+invariant-loop-i l =
+    (l.i ≤ length l.line) × (length l.out ≡ length l.initial.out)
+    × (l.out ≡ laid l.initial.out 0 (take l.i (map raised l.line)))
+
+abbrev pub decreases-loop-i : goal.decreases-loop-i
+decreases-loop-i l =
+    length l.line - l.i

@@ -1,0 +1,18 @@
+use Rattle.std.proofs.Common.{◌<◌, ◌≤◌, length, ◌∙◌, arith, rules}
+use Rattle.text.specs.Lines.{lines_of}
+use Rattle.mending.specs.Laws.{piece-none, room-short, room-few, piece-done}
+use borrow.Author.Rules.{rules}
+use Rattle.mending.proofs.texts.feed.Goals as goal
+
+pub returns : goal.returns
+returns c =
+    let a = c.args in
+    let s = a.s.now in
+    let out = a.out.now in
+    let report = a.report.now in
+    let places : length (lines_of s) ≤ length report = let count = c.count_lines-lines.ensures.answer in let test =
+    c.if-report-lines.false in omega arith in
+    let d = piece-done s out report
+    c.if-out-s.false places
+    c.mend_whole-done.result c.mend_whole-done.ensures.answer c.carry-carried.result c.carry-carried.ensures.answer in
+    record { answer = d.0; written = c.mend_whole-done.ensures.written.0 ∙ d.1.0; reported = c.mend_whole-done.ensures.written.1 ∙ d.1.1 }

@@ -1,0 +1,31 @@
+use Rattle.std.proofs.Common.{ℕ, ◌-◌, [], ◌∷◌, length, sym, ap, ◌∙◌, arith, rules}
+use Rattle.text.specs.Laying.{lay_answer, lay_leaves}
+use Rattle.mending.specs.declared.LineMended.{LineMended}
+use Rattle.mending.specs.Laws.{MendingWalk, walking_start, walking-told, walking-more, walking-done, walking-open}
+use borrow.Author.Rules.{rules}
+use Rattle.mending.proofs.texts.mend_whole.Goals as goal
+
+pub returns-then-s-end : goal.returns-then-s-end
+returns-then-s-end c =
+    walking-open c.args.s.now _ _ c.requires.0 c.requires.1 _ _ _ _ _ c.loop-at.invariant c.line_end-end.result
+    c.loop-at-test.true (sym c.line_end-end.ensures.answer) c.if-s-end.true
+
+pub loop-at-preserved : goal.loop-at-preserved
+loop-at-preserved c =
+    let s = c.args.s.now in
+    let t = c.loop-at-test.true in
+    let f = c.if-s-end.false in
+    let told = walking-told s _ _ c.requires.0 c.requires.1 _ _ _ _ _ c.loop-at.invariant c.line_end-end.result t
+    (sym c.line_end-end.ensures.answer) f in
+    let report = ap (λ (m : LineMended). m.report) c.mend_line-line.ensures.answer ∙ told in
+    walking-more s _ _ c.requires.0 c.requires.1 _ _ _ _ _ c.loop-at.invariant c.line_end-end.result t
+    (sym c.line_end-end.ensures.answer) f
+    c.mend_line-line.result.written c.mend_line-line.new.out
+    (ap (λ (m : LineMended). m.written) c.mend_line-line.ensures.answer) c.mend_line-line.ensures.written
+    c.lay-noted.result c.lay-noted.new.out
+    (c.lay-noted.ensures.answer ∙ ap (λ (b : ℕ). lay_answer c.loop-at.report c.loop-at.lines (b ∷ [])) report)
+    (c.lay-noted.ensures.written ∙ ap (λ (b : ℕ). lay_leaves c.loop-at.report c.loop-at.lines (b ∷ [])) report)
+
+pub returns : goal.returns
+returns c =
+    walking-done c.args.s.now _ _ c.requires.0 c.requires.1 _ _ _ _ _ c.loop-at.invariant c.loop-at-test.false
