@@ -1,0 +1,18 @@
+use mathlib.Core.Path.{◌∙◌}
+use Rattle.bench.specs.Calls.{power_cycled}
+use Rattle.packed_bench.specs.ThroughLaws.{cycle-keeps, accepted-room, refused-done, stored-done}
+use borrow.Author.Rules.{rules}
+use Rattle.packed_bench.proofs.calls.power_cycle.Goals as goal
+
+pub keep-requires : goal.keep-requires
+keep-requires c =
+    accepted-room _ c.unpack-there.result c.unpack-there.ensures.answer c.if-refusal-ne-ACCEPTED.false
+
+pub returns : goal.returns
+returns c =
+    let a = c.args in
+    let done =
+    stored-done (λ b. power_cycled b a.code) (λ r. r.refusal) (λ r. r.bench) (λ n. n) a.t.now
+    c.unpack-there.result c.unpack-there.ensures.answer (cycle-keeps a.code) c.if-refusal-ne-ACCEPTED.false
+    c.power_cycle.result c.power_cycle.ensures.answer _ c.keep.ensures.written.0 c.keep.ensures.written.1 in
+    (c.keep.ensures.answer ∙ done.0, done.1)
