@@ -17,7 +17,7 @@ overflow_mul-code c =
 pub overflow_add-code : goal.overflow_add-code
 overflow_add-code c =
     let p : 2 ^ (64 - 8 * c.loop-left.left) ≤ 2 ^ 56 = pow_mono {j = 56} (omega arith) in
-    omega (arith, c.shared_slice_known-1.given c.loop-left.left)
+    omega (arith, c.type_inv.bits c.loop-left.left)
 
 pub loop-left-preserved : goal.loop-left-preserved
 loop-left-preserved c =
@@ -27,7 +27,7 @@ loop-left-preserved c =
       omega arith,
       rw c.loop-left.invariant.1 (code-before c.args.bits.now c.requires n c.loop-left-test.true
           c.loop-left.invariant.0),
-      omega (arith, c.shared_slice_known-1.given n),
+      omega (arith, c.type_inv.bits n),
     )
 
 pub returns : goal.returns
