@@ -10,8 +10,8 @@ pub returns : goal.returns
 unfolding fields_of
 returns c =
     record { answer = let t = c.args.t in
-    let code : c.code_of_lem.result ≡ code_from_bytes (eight_at t 0) =
-    c.code_of_lem.ensures ∙ ap (λ l. code_from_bytes (eight_at l 0)) c.eight_at.ensures.answer in
+    let code : c.code_of-code.result ≡ code_from_bytes (eight_at t 0) =
+    c.code_of-code.ensures.answer ∙ ap (λ l. code_from_bytes (eight_at l 0)) c.eight_at.ensures.answer in
     let pad : c.eight_at-scratchpad.result ≡ eight_at t 8 = c.eight_at-scratchpad.ensures.answer in
     let stage : c.stage_of-stage.result ≡ stage_of (case_at t 16) =
     c.stage_of-stage.ensures.answer ∙ ap stage_of c.case_at.ensures.answer in
