@@ -6,13 +6,13 @@ use Rattle.why.proofs.say.Goals as goal
 pub returns-then-not-page : goal.returns-then-not-page
 unfolding told_by
 returns-then-not-page c =
-    rw (c.if-not-page.true) c.silent.ensures
+    rw (not-true c.args.page.taken c.if-not-page.true) c.silent.ensures
 
 pub returns : goal.returns
 unfolding told_by
 returns c =
     let a = c.args in
-    let taken = c.if-not-page.false in
+    let taken = not-false a.page.taken c.if-not-page.false in
     let band = c.band.ensures in
     simp (
       taken,
