@@ -10,6 +10,11 @@ unfolding store_setting
 returns-then-last-k c =
     record { answer = simp (← c.row_of-row.ensures.answer, ← c.settings_count-last.ensures.answer, le-ltb _ _ c.if-last-k.true, c.with_stage.ensures.answer) }
 
+pub bounds-pad-place : goal.bounds-pad-place
+bounds-pad-place c =
+    let few = settings-few c.row_of-row.result in
+    omega (arith, c.settings_count-last.ensures.answer)
+
 pub returns-then-k-last : goal.returns-then-k-last
 unfolding store_setting
 returns-then-k-last c =

@@ -9,6 +9,6 @@ returns c =
       c.powered_up.ensures.answer,
       c.kept_configuration-configuration.ensures.answer,
       c.row_of-row.ensures.answer,
-      c.kept_Pins.ensures,
+      c.kept_pins-pins.ensures.answer,
       c.family_row.ensures.answer,
     ) }

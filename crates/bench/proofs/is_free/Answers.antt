@@ -1,0 +1,8 @@
+use Rattle.bench.specs.Bench.{free}
+use borrow.Author.Rules.{rules}
+use Rattle.bench.proofs.is_free.Goals as goal
+
+pub returns : goal.returns
+unfolding free
+returns c =
+    record { answer = simp c.is_free.ensures.answer }

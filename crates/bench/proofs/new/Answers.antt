@@ -1,0 +1,6 @@
+use borrow.Author.Rules.{rules}
+use Rattle.bench.proofs.new.Goals as goal
+
+pub returns : goal.returns
+returns c =
+    record { answer = rw c.vacant_place-vacant.ensures.answer }

@@ -1,0 +1,6 @@
+use borrow.Author.Rules.{rules}
+use Rattle.bench.proofs.settle.Goals as goal
+
+pub returns : goal.returns
+returns c =
+    record { answer = rw c.settle_all.ensures.answer }

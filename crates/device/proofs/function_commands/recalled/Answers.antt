@@ -1,0 +1,6 @@
+use borrow.Author.Rules.{rules}
+use Rattle.device.proofs.function_commands.recalled.Goals as goal
+
+pub returns : goal.returns
+returns c =
+    record { answer = simp (c.with_scratchpad.ensures.answer, c.with_settings.ensures.answer, c.row_of.ensures.answer) }
