@@ -1,0 +1,17 @@
+use Prim.Native.Nat.{◌+◌, ◌-◌, ◌<◌, ◌≤◌}
+use mathlib.Core.Path.{◌≡◌, refl, ◌∙◌}
+use native.Mathlib.Omega.{arith}
+use lib.ListN.{length, take, length-set}
+use Rattle.basic_laws.specs.Laid.{laid}
+use Rattle.basic_laws.specs.LaidLaws.{laid_none, laid_next}
+use Rattle.sessions.specs.GatheringLaws.{fitting-all, fitting-full}
+use Rattle.sessions.proofs.gathering.hold.Given as goal
+
+abbrev pub invariant-loop-i : goal.invariant-loop-i
+invariant-loop-i l =
+    (l.i ≤ length l.chars) × (l.to ≡ l.held + l.i) × (l.i ≤ length l.initial.line - l.held) × (length l.line ≡ length l.initial.line)
+    × (l.line ≡ laid l.initial.line l.held (take l.i l.chars))
+
+abbrev pub decreases-loop-i : goal.decreases-loop-i
+decreases-loop-i l =
+    length l.chars - l.i
