@@ -1,3 +1,4 @@
+-- The tests come in the order of the refusals: the code itself, a device that has it, and the room.
 use Rattle.bench.specs.Calls.{added_to}
 use borrow.Author.Tests.{eq-eqb, ne_eqb}
 use borrow.Author.Rules.{rules}

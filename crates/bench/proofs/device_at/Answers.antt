@@ -1,3 +1,4 @@
+-- The place is within the table, so that what a place past its end would hold does not count.
 use Prim.Native.Nat.{◌<◌}
 use mathlib.Core.Path.{◌≡◌}
 use native.Mathlib.Omega.{arith}

@@ -1,3 +1,5 @@
+-- The code is there, and its device ends its copy or is refused; or the code is refused. `known` is the place that was
+-- found, which lies within the table.
 use mathlib.Core.Path.{◌≡◌, sym, ◌∙◌}
 use lib.ListN.{length, length-map}
 use Rattle.bench.specs.BenchLaws.{place-within}

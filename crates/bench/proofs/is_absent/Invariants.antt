@@ -1,3 +1,4 @@
+-- The loop's invariant: whether the code is absent is left to the devices from i on.
 use Prim.Native.Nat.{◌≤◌, ◌<◌, ◌-◌}
 use mathlib.Core.Bool.{not}
 use mathlib.Core.Path.{◌≡◌, ◌∙◌, sym, ap, refl}

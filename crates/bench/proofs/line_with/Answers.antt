@@ -1,3 +1,4 @@
+-- By what the line shows so far.
 use borrow.Author.Rules.{rules}
 use Rattle.bench.proofs.line_with.Goals as goal
 

@@ -1,3 +1,4 @@
+-- A place that was found is one of the table, and its record is the definition's.
 use mathlib.Core.Path.{◌≡◌, ◌∙◌, sym}
 use lib.ListN.{length, length-map}
 use Rattle.bench.specs.BenchLaws.{place-within}

@@ -1,3 +1,4 @@
+-- The loop's invariant: the places before i have the records, and the others are as they were.
 use Prim.Native.Nat.{◌≤◌, ◌<◌, ◌-◌}
 use mathlib.Core.List.{◌++◌}
 use mathlib.Core.Path.{◌≡◌, refl}

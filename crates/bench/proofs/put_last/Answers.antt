@@ -1,3 +1,4 @@
+-- Without a place left, with pins that cannot be, and with neither.
 use borrow.Author.Tests.{le-ltb, lt-ltb}
 use borrow.Author.Rules.{rules}
 use Rattle.bench.proofs.put_last.Goals as goal

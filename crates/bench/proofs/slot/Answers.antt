@@ -1,3 +1,6 @@
+-- The first round looks and changes nothing: the line is the AND of the master's bit and the offers of the devices
+-- before i, and whether the wire is free is left to those from i on. In the second the devices before j have heard the
+-- line, and all others are as they were; one that a slot leaves as it is has heard it as it stands.
 use Prim.Native.Nat.{◌≤◌, ◌<◌, ◌-◌, min}
 use mathlib.Core.Bool.{true, false, not, ◌&&◌}
 use mathlib.Core.Logic.{⊎_elim}

@@ -1,3 +1,5 @@
+-- The loop's invariant: the devices before i are settled, and all others as they were; a quiet one is settled as it
+-- stands.
 use Prim.Native.Nat.{◌≤◌, ◌<◌, ◌-◌, min}
 use mathlib.Core.Bool.{not}
 use mathlib.Core.Logic.{⊎_elim}

@@ -1,3 +1,4 @@
+-- By whether the device is quiet.
 use Rattle.bench.specs.Settling.{settled_of}
 use borrow.Author.Rules.{rules}
 use Rattle.bench.proofs.settling.settled.Goals as goal

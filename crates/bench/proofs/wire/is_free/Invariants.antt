@@ -1,3 +1,4 @@
+-- The loop's invariant: whether the wire is free is left to the live devices from i on.
 use Prim.Native.Nat.{◌≤◌, ◌<◌, ◌-◌}
 use mathlib.Core.Bool.{not}
 use mathlib.Core.Logic.{⊎_elim}

@@ -1,3 +1,4 @@
+-- The loop's invariant: the live devices before i are changed, and all others as they were.
 use Prim.Native.Nat.{◌≤◌, ◌-◌, min}
 use mathlib.Core.Logic.{⊎_elim}
 use mathlib.Core.Path.{◌≡◌, ◌∙◌}

@@ -1,9 +1,9 @@
+-- The tests of the code are those of the definition, in the same order: past the nine bytes, within a byte, at its end,
+-- at the end of all.
 use borrow.Author.Tests.{le-ltb, lt-ltb}
 use borrow.Author.Rules.{rules}
 use Rattle.device.proofs.function_commands.after_scratchpad.Goals as goal
 
--- The tests of the code are those of the definition, in the same order: past the nine bytes, within a byte, at its end,
--- at the end of all.
 pub returns-then-k-ge9 : goal.returns-then-k-ge9
 returns-then-k-ge9 c =
     record { answer = simp (le-ltb _ _ c.if-k-ge9.true) }

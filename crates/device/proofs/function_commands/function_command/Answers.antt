@@ -1,3 +1,4 @@
+-- BEh and B4h by their keys; at any other byte (`other`) a busy device goes quiet, and any other obeys.
 use borrow.Author.Tests.{ne_eqb}
 use Rattle.device.specs.Hear.{function_command}
 use borrow.Author.Rules.{rules}

@@ -1,3 +1,4 @@
+-- One return for each command that a device obeys, by the key of the match, and one for all other bytes.
 use Rattle.device.specs.Hear.{idle_command}
 use borrow.Author.Tests.{ne_eqb}
 use borrow.Author.Rules.{rules}

@@ -1,3 +1,5 @@
+-- No more bytes than the family has settings (`last`, of its `row`); a byte within them is stored in the scratchpad
+-- (`pad`), and the next is awaited or all are there.
 use Rattle.device.specs.Hear.{store_setting}
 use Rattle.device.specs.SettingsLaws.{settings-few}
 use borrow.Author.Tests.{lt-ltb, le-ltb}

@@ -1,3 +1,4 @@
+-- One return for each stage, with what its own function says.
 use Rattle.device.specs.Hear.{hear_of}
 use borrow.Author.Rules.{rules}
 use Rattle.device.proofs.hearing.hear.Goals as goal

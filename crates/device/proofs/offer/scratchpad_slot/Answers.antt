@@ -1,3 +1,5 @@
+-- A bit of one of the eight bytes, or of their CRC, which is the ninth; past the nine the line gets a 1. `pad` is the
+-- eight, `long` their number.
 use Prim.Native.Nat.{◌<◌, ◌≤◌}
 use mathlib.Core.Path.{◌≡◌}
 use native.Mathlib.Omega.{arith}

@@ -1,3 +1,4 @@
+-- The bit, its complement, and nothing in the third slot; past the code a 1.
 use borrow.Author.Tests.{le-ltb, lt-ltb}
 use borrow.Author.Rules.{rules}
 use Rattle.device.proofs.offer.search_slot.Goals as goal

@@ -1,3 +1,4 @@
+-- A device that converts, with a count in range and out of it; any other is refused.
 use Rattle.device.specs.Finish.{conversion_ended}
 use borrow.Author.Rules.{rules}
 use Rattle.device.proofs.power_and_finishes.end_conversion.Goals as goal

@@ -1,3 +1,5 @@
+-- A bit that is the same leads on, to the next bit or to a function command; one that differs, or lies past the code,
+-- makes the device quiet.
 use borrow.Author.Tests.{eq-eqb, le-ltb, lt-ltb, ne_eqb}
 use borrow.Author.Rules.{rules}
 use Rattle.device.proofs.rom_commands.after_match.Goals as goal

@@ -1,8 +1,8 @@
+-- One return for each command, two for the alarm search, and one for all other bytes.
 use borrow.Author.Tests.{ne_eqb}
 use borrow.Author.Rules.{rules}
 use Rattle.device.proofs.rom_commands.rom_command.Goals as goal
 
--- One return for each command, two for the alarm search, and one for all other bytes.
 pub returns-in-51 : goal.returns-in-51
 returns-in-51 c =
     record { answer = simp c.in-51.is }

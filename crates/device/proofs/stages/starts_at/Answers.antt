@@ -1,3 +1,4 @@
+-- Each stage by itself; of a search, its place and its phase.
 use borrow.Author.Rules.{rules}
 use Rattle.device.proofs.stages.starts_at.Goals as goal
 
