@@ -1,0 +1,7 @@
+use Rattle.thermostat.specs.Finish.{measured}
+use borrow.Author.Rules.{rules}
+use Rattle.thermostat.proofs.measure.Goals as goal
+
+pub returns : goal.returns
+unfolding measured
+returns c = record { answer = search rules }

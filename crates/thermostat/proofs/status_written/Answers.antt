@@ -1,0 +1,7 @@
+use Rattle.thermostat.specs.Status.{status_written}
+use borrow.Author.Rules.{rules}
+use Rattle.thermostat.proofs.status_written.Goals as goal
+
+pub returns : goal.returns
+unfolding status_written
+returns c = record { answer = search rules }
