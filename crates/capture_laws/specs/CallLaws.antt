@@ -5,22 +5,19 @@
 --     end-any                the end, whatever the buffer
 use Rattle.std.specs.Prelude.{ℕ, ◌+◌, ◌≤◌, ◌≡◌, refl, Bool, true, false, List, [], ◌++◌, eqb, length}
 use Rattle.std.proofs.Math.Path.{sym}
-use Rattle.std.proofs.Common.{ap, ◌∙◌, arith, eq-eqb, eqb-true}
+use Rattle.std.proofs.Common.{◌∙◌, arith, eq-eqb, eqb-true}
 use Rattle.std.proofs.lemmas.Bool.{false≢true}
 use Rattle.std.proofs.lemmas.List.{length-replicate}
-use Rattle.basic_laws.specs.Choice.{if◌then◌else◌}
 use Rattle.basic_laws.specs.Fold.{fold, all}
 use Rattle.refusals.specs.Refusals.{accepted}
 use Rattle.text.specs.Lines.{not_feed, lines_of}
 use Rattle.captures.specs.declared.pulses.Wire.{Wire}
-use Rattle.captures.specs.Rule.{untouched}
 use Rattle.captures.specs.declared.edges.Reader.{Reader}
 use Rattle.captures.specs.declared.edges.Answer.{Answer}
-use Rattle.captures.specs.Edges.{fresh_reader, Reading, fed_bytes, feed_answer, feed_leaves, end_answer, end_leaves}
+use Rattle.captures.specs.Edges.{fresh_reader, fed_bytes, feed_answer, feed_leaves, end_answer, end_leaves}
 use Rattle.captures.specs.Edges.{taken_so_far}
-use Rattle.captures.specs.declared.edge_printing.Printed.{Printed}
 use Rattle.captures.specs.EdgePrinting.{printed_for}
-use Rattle.capture_laws.specs.Capture.{EdgeCourse, course_of, course_ended, course_stopped, FrameSound}
+use Rattle.capture_laws.specs.Capture.{EdgeCourse, course_of, FrameSound}
 use Rattle.capture_laws.specs.StepLaws.{blank-sound, course-kept}
 use Rattle.capture_laws.specs.Claims.{Filled}
 use Rattle.capture_laws.specs.FillLaws.{holding, Came, fits, short, piece-came, fill_holds}

@@ -1,5 +1,7 @@
 // Where two recordings part: the first line that is not the same in both, and the rest of a recording
 // from there on. Any bytes are taken, and nothing is refused.
+#![tactic(auto)]
+
 pub mod answers;
 
 ghost use Rattle.std.specs.Prelude.{◌≡◌, ◌+◌, ◌<◌, ◌≤◌, length, drop};

@@ -1,5 +1,7 @@
 // The frames of a recording named call by call, for a host that hands the recording over in pieces.
 // The end of a piece is not the end of the recording: a line that is cut there is held until it is whole.
+#![tactic(auto)]
+
 pub mod exports;
 
 ghost use Rattle.std.specs.Prelude.{◌≡◌, ◌≤◌, min, length, take};

@@ -1,7 +1,7 @@
 -- What is told of the lines of a report, line by line as a loop lays it, and of a report in two parts.
 --     notices-append         what is told of two parts of a report, one after the other, is what is told of the whole
 --     notices-wrap           the lines before may be counted in 64 bits
-use Rattle.std.specs.Prelude.{◌≡◌, ℕ, suc, ◌+◌, ◌*◌, ◌/◌, ◌%◌, ◌^◌, ◌<◌, ◌≤◌, Bool, true, false, List, [], ◌∷◌, ◌++◌, length, take, slice_index, slice_index_or, refl}
+use Rattle.std.specs.Prelude.{◌≡◌, ℕ, suc, ◌+◌, ◌*◌, ◌/◌, ◌%◌, ◌^◌, ◌<◌, ◌≤◌, true, List, [], ◌∷◌, ◌++◌, length, take, slice_index, slice_index_or, refl}
 use Rattle.std.proofs.Common.{sym, ◌∙◌, append_assoc, append-nil, le-div_iff_mul-le, add-one, le-leb, lit<, length-append, take-suc, take_all}
 use Rattle.std.proofs.Math.Path.{ap}
 use native.Mathlib.Omega.{arith}

@@ -1,5 +1,7 @@
 // A line of a recording that went through an editor, mended: letters raised, one carriage return and
 // the spaces at its end dropped.
+#![tactic(auto)]
+
 pub mod answers;
 pub mod texts;
 

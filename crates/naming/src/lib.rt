@@ -1,4 +1,6 @@
 // What a frame shows: a pass of a search, a scratchpad that was read, or something else.
+#![tactic(auto)]
+
 pub mod printing;
 pub mod streaming;
 

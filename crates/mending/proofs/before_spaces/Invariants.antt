@@ -1,6 +1,5 @@
-use Rattle.std.proofs.Common.{◌≡◌, ◌≤◌, length, take, ap, arith, take_all, rules}
+use Rattle.std.proofs.Common.{◌≡◌, ◌≤◌, length, take}
 use Rattle.mending.specs.Mending.{unspaced}
-use Rattle.mending.specs.StepLaws.{spaces-on, spaces-stop, spaces-gone}
 use Rattle.mending.proofs.before_spaces.Given as goal
 
 abbrev pub invariant-loop-end : goal.invariant-loop-end

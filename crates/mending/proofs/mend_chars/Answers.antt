@@ -1,32 +1,61 @@
-use Rattle.std.proofs.Common.{◌≡◌, ◌≤◌, Bool, map, length, take, replicate, sym, ap, ◌∙◌, arith, length-take-le, rules}
+use Rattle.std.proofs.Common.{◌≡◌, ◌≤◌, Bool, List, ℕ, map, length, take, replicate, sym, ap, ◌∙◌, arith, length-take-le}
 use lib.ListN.{length-map}
 use Rattle.basic_laws.specs.Choice.{if◌then◌else◌}
+use Rattle.basic_laws.specs.Laid.{laid}
 use Rattle.basic_laws.specs.LaidLaws.{laid-length, laid-read}
-use Rattle.mending.specs.Mending.{raised}
+use Rattle.mending.specs.Mending.{raised, longest_mended}
 use Rattle.mending.specs.Repair.{return-place, repaired}
-use borrow.Author.Rules.{rules}
 use Rattle.mending.proofs.mend_chars.Goals as goal
-use Rattle.mending.proofs.mend_chars.Goals.{After-put_raised}
+use Rattle.mending.proofs.mend_chars.Goals.{After-before_return-unreturned}
 
 -- The characters, raised, stand at the front of the array; each call finds where the next step ends them.
 -- the characters, raised, and the array's length
-there : (c : After-put_raised) → let cs = c.args.line.now in let chars =
-    c.put_raised.new.out in
-    (length chars ≡ 257) × (take (length cs) chars ≡ map raised cs)
-there c =
-    
-    let cs = c.args.line.now in
-    let size = length-map cs raised in
-    let few = c.requires in
-    let so = c.put_raised.ensures in (
+there : (cs chars : List ℕ) → length cs ≤ longest_mended → chars ≡ laid (replicate 257 0) 0 (map raised cs)
+    → (length chars ≡ 257) × (take (length cs) chars ≡ map raised cs)
+there cs chars few so =
+    let size = length-map cs raised in (
       ap length so ∙ laid-length (replicate 257 0) 0 (map raised cs) (omega arith),
       ap (take (length cs)) so ∙ rw (← size) (laid-read (replicate 257 0) 0 (map raised cs) (omega arith)),
     )
 
+-- where the return stands
+placed : (c : After-before_return-unreturned) →
+    c.before_return-unreturned.result ≤ length c.args.line.now
+placed c =
+    (return-place c.args.line.now c.put_raised.new.out (there c.args.line.now c.put_raised.new.out c.requires c.put_raised.ensures).1
+    c.before_return-unreturned.result c.before_return-unreturned.ensures).1
+
+pub slice_bounds-same-end : goal.slice_bounds-same-end
+slice_bounds-same-end c =
+    let cs = c.args.line.now in
+    let size = (there c.args.line.now c.put_raised.new.out c.requires c.put_raised.ensures).0 in
+    let few = c.requires in
+    sym (length-take-le (length cs) c.put_raised.new.out (omega arith))
+
+pub slice_bounds-before_return-end : goal.slice_bounds-before_return-end
+slice_bounds-before_return-end c =
+    let cs = c.args.line.now in
+    let size = (there c.args.line.now c.put_raised.new.out c.requires c.put_raised.ensures).0 in
+    let few = c.requires in
+    sym (length-take-le (length cs) c.put_raised.new.out (omega arith))
+
+pub slice_bounds-chars-end-3 : goal.slice_bounds-chars-end-3
+slice_bounds-chars-end-3 c =
+    let h = placed (goal.at.slice_bounds-chars-end-3 c).After-before_return-unreturned in
+    let few = c.requires in
+    omega arith
+
+pub slice_bounds-before_spaces-end : goal.slice_bounds-before_spaces-end
+slice_bounds-before_spaces-end c =
+    let h = placed (goal.at.slice_bounds-before_spaces-end c).After-before_return-unreturned in
+    let size = (there c.args.line.now c.put_raised.new.out c.requires c.put_raised.ensures).0 in
+    let few = c.requires in
+    sym (length-take-le c.before_return-unreturned.result c.put_raised.new.out (omega arith))
+
 pub returns : goal.returns
 returns c =
-    repaired c.args.line.now c.put_raised.new.out (there (goal.at.returns c).After-put_raised).1
-    c.before_return-unreturned.result c.before_return-unreturned.ensures c.requires (there (goal.at.returns c).After-put_raised).0
+    repaired c.args.line.now c.put_raised.new.out (there c.args.line.now c.put_raised.new.out c.requires c.put_raised.ensures).1
+    c.before_return-unreturned.result c.before_return-unreturned.ensures c.requires (there c.args.line.now c.put_raised.new.out c.requires c.put_raised.ensures).0
     c.before_spaces-unspaced.result c.before_spaces-unspaced.ensures c.mark.result c.mark-2.result
     c.mark-3.result
     (c.mark.ensures.0 ∙ ap (λ (t : Bool). if t then 0 else 1) c.same-same.ensures.answer)

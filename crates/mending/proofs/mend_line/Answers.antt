@@ -1,9 +1,7 @@
-use Rattle.std.proofs.Common.{◌∙◌, rules}
-use borrow.Author.Tests.{not-true, not-false}
+use Rattle.std.proofs.Common.{◌∙◌}
 use Rattle.text.specs.Lines.{Line}
 use Rattle.refusals.specs.Refusals.{not_hex, malformed}
 use Rattle.mending.specs.LineLaws.{fate-long, fate-open, line-dropped}
-use borrow.Author.Rules.{rules}
 use Rattle.mending.proofs.mend_line.Goals as goal
 
 pub returns-then-line-gt-LONGEST : goal.returns-then-line-gt-LONGEST

@@ -1,9 +1,7 @@
-use Rattle.std.proofs.Common.{◌≡◌, ◌+◌, ◌-◌, ◌<◌, ◌≤◌, map, length, take, sym, refl, ◌∙◌, arith, length-set, take_all, rules}
+use Rattle.std.proofs.Common.{◌≡◌, ◌+◌, ◌<◌, ◌≤◌, map, length, sym, refl, ◌∙◌, arith, length-set, take_all}
 use lib.ListN.{length-map, get_or-map}
-use Rattle.basic_laws.specs.Laid.{laid}
 use Rattle.basic_laws.specs.LaidLaws.{laid_next, laid_none}
 use Rattle.mending.specs.Mending.{raised}
-use borrow.Author.Rules.{rules}
 use Rattle.mending.proofs.put_raised.Goals as goal
 
 pub loop-i-init : goal.loop-i-init
@@ -24,3 +22,10 @@ loop-i-preserved c =
       rw c.loop-i.invariant.2 (laid_next c.args.out.now 0 (map raised line) i i 0 c.raise.result front within
           place (c.raise.ensures ∙ sym (get_or-map raised line i 0))),
     )
+
+pub returns : goal.returns
+returns c =
+    let line = c.args.line.now in
+    let size = length-map line raised in
+    let all_laid : length (map raised line) ≤ c.loop-i.i = omega arith in
+    c.loop-i.invariant.2 ∙ rw (take_all c.loop-i.i (map raised line) all_laid)

@@ -1,7 +1,5 @@
-use Rattle.std.proofs.Common.{◌≡◌, ◌+◌, ◌-◌, ◌<◌, ◌≤◌, map, length, take, sym, refl, ◌∙◌, arith, length-set, take_all, rules}
-use lib.ListN.{length-map, get_or-map}
+use Rattle.std.proofs.Common.{◌≡◌, ◌-◌, ◌≤◌, map, length, take}
 use Rattle.basic_laws.specs.Laid.{laid}
-use Rattle.basic_laws.specs.LaidLaws.{laid_next, laid_none}
 use Rattle.mending.specs.Mending.{raised}
 use Rattle.mending.proofs.put_raised.Given as goal
 

@@ -5,7 +5,6 @@ use native.Mathlib.Omega.{arith}
 use lib.ListN.{length, get_or}
 use Rattle.basic_laws.specs.Bits.{bytes_bits}
 use Rattle.basic_laws.specs.BitsLaws.{byte-bit}
-use borrow.Author.Rules.{rules}
 use Rattle.naming.proofs.bit_at.Goals as goal
 
 pub returns : goal.returns

@@ -1,11 +1,8 @@
 use lib.Pow.{pow_mono, pow-add}
-use Prim.Native.Nat.{ℕ, ◌+◌, ◌-◌, ◌*◌, ◌^◌, ◌<◌, ◌≤◌}
+use Prim.Native.Nat.{ℕ, ◌+◌, ◌-◌, ◌*◌, ◌^◌, ◌≤◌}
 use mathlib.Core.Path.{◌≡◌, sym, ap, ◌∙◌}
 use native.Mathlib.Omega.{arith}
-use lib.ListN.{take, drop}
-use Rattle.naming.specs.Naming.{low_first}
 use Rattle.naming.specs.Laws.{code-end, code-before}
-use borrow.Author.Rules.{rules}
 use Rattle.naming.proofs.code_in.Goals as goal
 
 pub loop-left-init : goal.loop-left-init
@@ -17,6 +14,11 @@ overflow_mul-code c =
     let p : 2 ^ (64 - 8 * c.loop-left.left) ≤ 2 ^ 56 = pow_mono {j = 56} (omega arith) in
     omega arith
 
+pub overflow_add-code : goal.overflow_add-code
+overflow_add-code c =
+    let p : 2 ^ (64 - 8 * c.loop-left.left) ≤ 2 ^ 56 = pow_mono {j = 56} (omega arith) in
+    omega (arith, c.type_inv.bits c.loop-left.left)
+
 pub loop-left-preserved : goal.loop-left-preserved
 loop-left-preserved c =
     let n = c.loop-left.left in
@@ -25,5 +27,10 @@ loop-left-preserved c =
       omega arith,
       rw c.loop-left.invariant.1 (code-before c.args.bits.now c.requires n c.loop-left-test.true
           c.loop-left.invariant.0),
-      omega (arith, c.shared_slice_known-1.given n),
+      omega (arith, c.type_inv.bits n),
     )
+
+pub returns : goal.returns
+returns c =
+    let e : c.loop-left.left ≡ 0 = omega arith in
+    c.loop-left.invariant.1 ∙ rw e

@@ -1,10 +1,7 @@
-use lib.Pow.{pow_mono, pow-add}
-use Prim.Native.Nat.{ℕ, ◌+◌, ◌-◌, ◌*◌, ◌^◌, ◌<◌, ◌≤◌}
-use mathlib.Core.Path.{◌≡◌, sym, ap, ◌∙◌}
-use native.Mathlib.Omega.{arith}
+use Prim.Native.Nat.{◌-◌, ◌*◌, ◌^◌, ◌<◌, ◌≤◌}
+use mathlib.Core.Path.{◌≡◌}
 use lib.ListN.{take, drop}
 use Rattle.naming.specs.Naming.{low_first}
-use Rattle.naming.specs.Laws.{code-end, code-before}
 use Rattle.naming.proofs.code_in.Given as goal
 
 abbrev pub invariant-loop-left : goal.invariant-loop-left

@@ -1,6 +1,5 @@
 use Rattle.naming.specs.Naming.{searches}
 use borrow.Author.Tests.{eq-eqb, ne_eqb}
-use borrow.Author.Rules.{rules}
 use Rattle.naming.proofs.is_search.Goals as goal
 
 -- The code's tests are the definition's.

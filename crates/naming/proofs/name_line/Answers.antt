@@ -1,7 +1,6 @@
 use mathlib.Core.Path.{ap, ◌∙◌}
 use Rattle.naming.specs.Naming.{name_of_read}
 use Rattle.naming.specs.Laws.{line_read}
-use borrow.Author.Rules.{rules}
 use Rattle.naming.proofs.name_line.Goals as goal
 
 pub returns : goal.returns

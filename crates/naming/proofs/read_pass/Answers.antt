@@ -1,14 +1,12 @@
-use Prim.Native.Nat.{◌+◌, ◌-◌, ◌*◌, ◌≤◌}
-use mathlib.Core.Bool.{true, false}
+use Prim.Native.Nat.{◌+◌, ◌-◌, ◌*◌}
+use mathlib.Core.Bool.{false}
 use mathlib.Core.Path.{◌≡◌, sym}
 use native.Mathlib.Omega.{arith}
-use borrow.Author.Tests.{not-true, not-false}
 use lib.ListN.{drop, get_or}
-use Rattle.basic_laws.specs.Bits.{number_of, bytes_bits}
-use Rattle.naming.specs.Naming.{triple_allowed, triples_allowed, thirds, pass_slots}
+use Rattle.basic_laws.specs.Bits.{bytes_bits}
+use Rattle.naming.specs.Naming.{triple_allowed, triples_allowed, pass_slots}
 use Rattle.naming.specs.Laws.{one_at_most, pass-end, pass-before, pass-lt, triples-drop, triples-more}
 use Rattle.naming.specs.Laws.{triples_none, thirds-more, thirds-none}
-use borrow.Author.Rules.{rules}
 use Rattle.naming.proofs.read_pass.Goals as goal
 use Rattle.naming.proofs.read_pass.Goals.{After-triple_allowed}
 
@@ -19,7 +17,6 @@ verdict : (c : After-triple_allowed) → let n = c.loop-left.left in
     (get_or (bytes_bits bits) (8 + 3 * (n - 1) + 2) false)
     ≡ c.triple_allowed.result
 verdict c =
-    
     rw (
       c.bit_at-bit.ensures,
       c.bit_at-complement.ensures,
@@ -61,7 +58,6 @@ pub loop-left-preserved : goal.loop-left-preserved
 loop-left-preserved c =
     let bits = c.args.bits.now in
     let n = c.loop-left.left in
-    
     let b = pass-before bits c.requires n
     c.loop-left-test.true c.loop-left.invariant.0 in (
       omega arith,
@@ -73,3 +69,9 @@ loop-left-preserved c =
       ) c.loop-left.invariant.1,
       rw (b, thirds-more, c.one_or_zero.ensures, c.bit_at-taken.ensures, c.loop-left.invariant.2),
     )
+
+pub returns : goal.returns
+returns c =
+    let e : c.loop-left.left ≡ 0 = omega arith in
+    let t = rw e at c.loop-left.invariant.1 in
+    rw (t, c.loop-left.invariant.2, e)

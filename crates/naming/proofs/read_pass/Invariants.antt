@@ -1,13 +1,9 @@
-use Prim.Native.Nat.{◌+◌, ◌-◌, ◌*◌, ◌≤◌}
-use mathlib.Core.Bool.{true, false}
-use mathlib.Core.Path.{◌≡◌, sym}
-use native.Mathlib.Omega.{arith}
-use borrow.Author.Tests.{not-true, not-false}
-use lib.ListN.{drop, get_or}
-use Rattle.basic_laws.specs.Bits.{number_of, bytes_bits}
-use Rattle.naming.specs.Naming.{triple_allowed, triples_allowed, thirds, pass_slots}
-use Rattle.naming.specs.Laws.{one_at_most, pass-end, pass-before, pass-lt, triples-drop, triples-more}
-use Rattle.naming.specs.Laws.{triples_none, thirds-more, thirds-none}
+use Prim.Native.Nat.{◌*◌, ◌≤◌}
+use mathlib.Core.Bool.{true}
+use mathlib.Core.Path.{◌≡◌}
+use lib.ListN.{drop}
+use Rattle.basic_laws.specs.Bits.{number_of}
+use Rattle.naming.specs.Naming.{triples_allowed, thirds, pass_slots}
 use Rattle.naming.proofs.read_pass.Given as goal
 
 abbrev pub invariant-loop-left : goal.invariant-loop-left

@@ -1,8 +1,12 @@
-use Rattle.std.proofs.Common.{◌≤◌, length, replicate, sym, refl, ap, ◌∙◌, arith, length-take-le, rules}
+use Rattle.std.proofs.Common.{◌≤◌, length, replicate, sym, refl, ap, ◌∙◌, arith, length-take-le}
 use Rattle.text.specs.Laying.{lay_answer, lay_leaves}
 use Rattle.mending.specs.NoticeLaws.{notice-read}
-use borrow.Author.Rules.{rules}
 use Rattle.mending.proofs.answers.lay_notice.Goals as goal
+
+pub slice_bounds-lay-end : goal.slice_bounds-lay-end
+slice_bounds-lay-end c =
+    let within : c.notice-told.result.next ≤ length c.notice-told.new.out = omega arith in
+    sym (length-take-le c.notice-told.result.next c.notice-told.new.out within)
 
 pub returns : goal.returns
 returns c =

@@ -1,7 +1,6 @@
-use Rattle.std.proofs.Common.{◌-◌, ◌*◌, ◌<◌, ◌≤◌, length, get_or, arith, rules}
+use Rattle.std.proofs.Common.{◌*◌, ◌<◌, ◌≤◌, length, get_or, arith}
 use Rattle.mending.specs.Notice.{most_told}
-use Rattle.mending.specs.NoticesLaws.{Noting, noting-start, noting-more, noting-done, notices-short}
-use borrow.Author.Rules.{rules}
+use Rattle.mending.specs.NoticesLaws.{noting-start, noting-more}
 use Rattle.mending.proofs.answers.notices.Goals as goal
 
 pub loop-i-init : goal.loop-i-init
@@ -14,7 +13,7 @@ loop-i-preserved c =
     let report = a.report.now in
     let left = c.if-out-report.false in
     let room : most_told * length report ≤ length a.out.now = omega arith in
-    let byte = c.shared_slice_known-in-loop-i-1.given c.loop-i.i in
+    let byte = c.type_inv.report c.loop-i.i in
     let small : get_or report c.loop-i.i 0 < 256 = omega arith in
     noting-more a.before report a.out.now room c.loop-i.i c.loop-i.number c.loop-i.written c.loop-i.out
     c.loop-i.invariant c.loop-i-test.true

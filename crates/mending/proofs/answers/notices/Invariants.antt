@@ -1,6 +1,5 @@
-use Rattle.std.proofs.Common.{◌-◌, ◌*◌, ◌<◌, ◌≤◌, length, get_or, arith, rules}
-use Rattle.mending.specs.Notice.{most_told}
-use Rattle.mending.specs.NoticesLaws.{Noting, noting-start, noting-more, noting-done, notices-short}
+use Rattle.std.proofs.Common.{◌-◌, length}
+use Rattle.mending.specs.NoticesLaws.{Noting}
 use Rattle.mending.proofs.answers.notices.Given as goal
 
 abbrev pub invariant-loop-i : goal.invariant-loop-i

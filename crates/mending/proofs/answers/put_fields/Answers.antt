@@ -3,8 +3,6 @@ use Rattle.text.specs.Lines.{line_feed, space}
 use Rattle.text.specs.PuttingLaws.{puts-field, field_puts}
 use Rattle.mending.specs.Notice.{notice_line}
 use Rattle.mending.specs.NoticeLaws.{notice-short}
-use Rattle.std.proofs.Common.{rules}
-use borrow.Author.Rules.{rules}
 use Rattle.mending.proofs.answers.put_fields.Goals as goal
 
 pub returns : goal.returns

@@ -1,7 +1,6 @@
-use Rattle.std.proofs.Common.{◌<◌, ◌≤◌, length, ◌∙◌, arith, rules}
+use Rattle.std.proofs.Common.{◌≤◌, length, ◌∙◌, arith}
 use Rattle.text.specs.Lines.{lines_of}
-use Rattle.mending.specs.Laws.{piece-none, room-short, room-few, piece-done}
-use borrow.Author.Rules.{rules}
+use Rattle.mending.specs.Laws.{piece-done}
 use Rattle.mending.proofs.texts.feed.Goals as goal
 
 pub returns : goal.returns
@@ -15,4 +14,4 @@ returns c =
     let d = piece-done s out report
     c.if-out-s.false places
     c.mend_whole-done.result c.mend_whole-done.ensures.answer c.carry-carried.result c.carry-carried.ensures.answer in
-    record { answer = d.0; written = c.mend_whole-done.ensures.written.0 ∙ d.1.0; reported = c.mend_whole-done.ensures.written.1 ∙ d.1.1 }
+    record { answer = d.0; written = c.mend_whole-done.ensures.written ∙ d.1.0; reported = c.mend_whole-done.ensures.reported ∙ d.1.1 }

@@ -1,7 +1,5 @@
-use Rattle.std.proofs.Common.{ℕ, ◌-◌, [], ◌∷◌, length, sym, ap, ◌∙◌, arith, rules}
-use Rattle.text.specs.Laying.{lay_answer, lay_leaves}
-use Rattle.mending.specs.declared.LineMended.{LineMended}
-use Rattle.mending.specs.Laws.{MendingWalk, walking_start, walking-told, walking-more, walking-done, walking-open}
+use Rattle.std.proofs.Common.{◌-◌, length}
+use Rattle.mending.specs.Laws.{MendingWalk}
 use Rattle.mending.proofs.texts.mend_whole.Given as goal
 
 abbrev pub invariant-loop-at : goal.invariant-loop-at

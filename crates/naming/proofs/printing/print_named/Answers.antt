@@ -18,11 +18,11 @@ refusal-fits c =
 pub slice_bounds-lay-end : goal.slice_bounds-lay-end
 slice_bounds-lay-end c =
     let within : c.text_of-line.result.count ≤ length c.text_of-line.result.bytes =
-    rw c.text_of-line.ensures (text-fits c.args.named (refusal-fits (goal.at.slice_bounds-lay-end c).Start).ranges) in
+    rw c.text_of-line.ensures (text-fits c.args.named (refusal-fits (goal.at.slice_bounds-lay-end c).Start).fits) in
     within
 
 pub returns : goal.returns
 returns c =
     let read : take (c.text_of-line.result.count - 0) (drop 0 c.text_of-line.result.bytes)
     ≡ printed_name c.args.named = rw c.text_of-line.ensures (text-read c.args.named) in
-    rw (← read) c.lay.ensures
+    record { answer = rw (← read) c.lay.ensures.answer; written = rw (← read) c.lay.ensures.written }

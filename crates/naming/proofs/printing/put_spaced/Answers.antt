@@ -2,13 +2,12 @@ use Prim.Native.Nat.{◌+◌, ◌≤◌}
 use mathlib.Core.Path.{refl, ◌∙◌}
 use mathlib.Core.List.{[], ◌∷◌}
 use native.Mathlib.Omega.{arith}
-use lib.ListN.{length, length-set}
+use lib.ListN.{length}
 use Rattle.basic_laws.specs.LaidLaws.{laid-sets}
 use Rattle.text.specs.LayingLaws.{lay-behind}
 use Rattle.text.specs.Digits.{hex_digits}
 use Rattle.text.specs.DigitsLaws.{digits-length}
 use Rattle.text.specs.Lines.{space}
-use borrow.Author.Rules.{rules}
 use Rattle.naming.proofs.printing.put_spaced.Goals as goal
 
 pub returns : goal.returns

@@ -15,7 +15,7 @@ refusal-fits c =
 
 small : (c : Start) → c.args.named.refusal < 256
 small c =
-    (refusal-fits c).ranges
+    (refusal-fits c).fits
 
 pub bounds-bytes-end : goal.bounds-bytes-end
 bounds-bytes-end c =

@@ -1,11 +1,8 @@
 use Prim.Native.Nat.{◌-◌}
-use mathlib.Core.Path.{sym}
-use native.Mathlib.Omega.{arith}
 use lib.ListN.{length}
-use Rattle.pieces.specs.Walk.{Running, running-start, here-room, running_more, running-done, running-open}
+use Rattle.pieces.specs.Walk.{Running}
 use Rattle.naming.specs.Printing.{printed_line}
 use Rattle.naming.specs.Streaming.{most_printed}
-use Rattle.naming.specs.StreamingLaws.{text-short}
 use Rattle.naming.proofs.streaming.print_whole.Given as goal
 
 abbrev pub invariant-loop-at : goal.invariant-loop-at

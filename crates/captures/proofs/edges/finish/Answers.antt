@@ -1,0 +1,5 @@
+use Rattle.captures.proofs.edges.finish.Goals as goal
+
+pub returns : goal.returns
+returns c =
+    rw c.start.ensures.answer

@@ -1,0 +1,5 @@
+use Rattle.captures.proofs.pulses.restart.Goals as goal
+
+pub returns : goal.returns
+returns c =
+    simp c.blank.ensures.answer
