@@ -1,10 +1,7 @@
-use Prim.Native.Nat.{◌+◌, ◌-◌, ◌<◌, ◌≤◌}
-use mathlib.Core.Path.{◌≡◌, refl, ◌∙◌}
-use native.Mathlib.Omega.{arith}
-use lib.ListN.{length, take, length-set}
+use Prim.Native.Nat.{◌+◌, ◌-◌, ◌≤◌}
+use mathlib.Core.Path.{◌≡◌}
+use lib.ListN.{length, take}
 use Rattle.basic_laws.specs.Laid.{laid}
-use Rattle.basic_laws.specs.LaidLaws.{laid_none, laid_next}
-use Rattle.sessions.specs.GatheringLaws.{fitting-all, fitting-full}
 use Rattle.sessions.proofs.gathering.hold.Given as goal
 
 abbrev pub invariant-loop-i : goal.invariant-loop-i
