@@ -2,8 +2,9 @@
 // number that this register reads back as: by a family that counts half degrees, with the count byte
 // behind it, then by one that counts sixteenths at 9, 10, 11 and 12 bits. The stored output is that of
 // the second implementation under tests/.
+#![tactic(auto)]
+
 use family::Unit;
-use libc::STDOUT_FILENO;
 use scratchpad::fine;
 use temperature::{Reading, Register, Sixteenths};
 
@@ -16,8 +17,8 @@ const BITS_11: u8 = 0x5F;
 
 const BITS_12: u8 = 0x7F;
 
-fn say(text: &[u8]) {
-    io::write_all(STDOUT_FILENO, text);
+fn say(rt: &impl Print, text: &[u8]) {
+    streams::write_all(rt, text);
 }
 
 // The count that is `above` more than -880 sixteenths.
@@ -39,44 +40,44 @@ fn bits_of(register: Register) -> u16 {
     (register.low as u16) + 256 * (register.high as u16)
 }
 
-fn say_number(z: i16) {
+fn say_number(rt: &impl Print, z: i16) {
     let bits = bits_of(temperature::register_of(Reading::InSixteenths(Sixteenths(z)))) as u64;
     if bits < 32768 {
-        io::print_decimal(STDOUT_FILENO, bits);
+        streams::print_decimal(rt, bits);
     } else {
-        say(b"-");
-        io::print_decimal(STDOUT_FILENO, 65536 - bits);
+        say(rt, b"-");
+        streams::print_decimal(rt, 65536 - bits);
     }
 }
 
-fn say_stored(unit: Unit, count: Sixteenths, configuration: u8) {
+fn say_stored(rt: &impl Print, unit: Unit, count: Sixteenths, configuration: u8) {
     let register = temperature::register_of(temperature::measured(unit, count, configuration));
-    say(b" ");
-    io::print_hex(STDOUT_FILENO, bits_of(register) as u64, 4);
-    say(b" ");
+    say(rt, b" ");
+    streams::print_hex(rt, bits_of(register) as u64, 4);
+    say(rt, b" ");
     match temperature::reading_of(unit, register.low, register.high, configuration) {
-        Reading::InSixteenths(c) => say_number(c.0),
-        Reading::InHalves(h) => say_number(h.0),
+        Reading::InSixteenths(c) => say_number(rt, c.0),
+        Reading::InHalves(h) => say_number(rt, h.0),
     }
 }
 
-fn say_line(above: u16) {
+fn say_line(rt: &impl Print, above: u16) {
     let count = count_of(above);
-    say_number(count.0);
-    say_stored(Unit::HalfDegrees, count, 0);
-    say(b" ");
-    io::print_decimal(STDOUT_FILENO, fine::remaining(count) as u64);
-    say_stored(Unit::Sixteenths, count, BITS_9);
-    say_stored(Unit::Sixteenths, count, BITS_10);
-    say_stored(Unit::Sixteenths, count, BITS_11);
-    say_stored(Unit::Sixteenths, count, BITS_12);
-    say(b"\n");
+    say_number(rt, count.0);
+    say_stored(rt, Unit::HalfDegrees, count, 0);
+    say(rt, b" ");
+    streams::print_decimal(rt, fine::remaining(count) as u64);
+    say_stored(rt, Unit::Sixteenths, count, BITS_9);
+    say_stored(rt, Unit::Sixteenths, count, BITS_10);
+    say_stored(rt, Unit::Sixteenths, count, BITS_11);
+    say_stored(rt, Unit::Sixteenths, count, BITS_12);
+    say(rt, b"\n");
 }
 
-fn main() {
+fn main(rt: HostRuntime) {
     let mut above: u16 = 0;
     while above <= 2880 {
-        say_line(above);
+        say_line(&rt, above);
         above += 1;
     }
 }

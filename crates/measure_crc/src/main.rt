@@ -1,7 +1,7 @@
 // CRCs of fixed work, each written into the bytes of a later one: of 4,096 bytes 5,000 times, and of
 // 500 scratchpads of nine bytes 20,000 times. With `l` on standard input only the long ones are taken,
 // with anything else only the scratchpads. Prints the last CRC of each.
-use libc::{STDIN_FILENO, STDOUT_FILENO};
+#![tactic(auto)]
 
 const TIMES: u32 = 5000;
 
@@ -69,30 +69,30 @@ fn crc_pads_often(bytes: &mut [u8]) -> u8 {
     last
 }
 
-fn say(last: u8) {
-    io::print_hex(STDOUT_FILENO, last as u64, 2);
-    io::write_all(STDOUT_FILENO, b"\n");
+fn say(rt: &impl Print, last: u8) {
+    streams::print_hex(rt, last as u64, 2);
+    streams::write_all(rt, b"\n");
 }
 
-fn long_ones() {
+fn long_ones(rt: &impl Print) {
     let mut bytes = [0u8; 4096];
     fill(&mut bytes);
-    say(crc_often(&mut bytes));
+    say(rt, crc_often(&mut bytes));
 }
 
-fn scratchpads() {
+fn scratchpads(rt: &impl Print) {
     let mut bytes = [0u8; 4500];
     fill(&mut bytes);
-    say(crc_pads_often(&mut bytes));
+    say(rt, crc_pads_often(&mut bytes));
 }
 
-fn main() {
+fn main(rt: HostRuntime) {
     let mut asked = [0u8; 1];
-    let got = io::read_full(STDIN_FILENO, &mut asked);
+    let got = streams::read_full(&rt, &mut asked);
     if got == 0 || asked[0] == b'l' {
-        long_ones();
+        long_ones(&rt);
     }
     if got == 0 || asked[0] != b'l' {
-        scratchpads();
+        scratchpads(&rt);
     }
 }

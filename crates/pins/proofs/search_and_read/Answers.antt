@@ -13,7 +13,7 @@ returns-then-searched-ne-ACCEPTED c =
     let a = c.args in
     let done = c.search-searched.ensures in
     let is = refused-is a.bench a.found.now a.recording.now c.search-searched.new.list
-    c.search-searched.result c.requires.0 c.requires.1 done.answer done.listed c.if-searched-ne-ACCEPTED.true in let all = rw is (c.refuse.ensures, laid_none a.list.now 0) in record { answer = all.0; listed = all.1 }
+    c.search-searched.result c.requires.0 c.requires.1 done.answer done.listed c.if-searched-ne-ACCEPTED.true in rw is (record { answer = c.refuse.ensures; listed = laid_none a.list.now 0 })
 
 pub slice_bounds-read_all-end : goal.slice_bounds-read_all-end
 slice_bounds-read_all-end c =

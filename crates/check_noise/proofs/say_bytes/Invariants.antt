@@ -1,0 +1,10 @@
+use Rattle.std.proofs.Common.{◌-◌, ◌≤◌}
+use Rattle.check_noise.proofs.say_bytes.Given as goal
+
+abbrev pub invariant-loop-i : goal.invariant-loop-i
+invariant-loop-i g l =
+    l.i ≤ 9
+
+abbrev pub decreases-loop-i : goal.decreases-loop-i
+decreases-loop-i g l =
+    9 - l.i

@@ -1,0 +1,78 @@
+// Arguments, the files that they name, and what is said where one cannot be read.
+ghost use Rattle.std.specs.Prelude.{◌≤◌, length, IfOk};
+
+use crate::write_all;
+use std::env::{Env, FillError};
+use std::fmt::Write;
+use std::io::{Error, Print, Result};
+use std::rt::Files;
+use std::{fmt, fs};
+
+// The system's numbers: there is no such argument, a name that is too long, a name that is not text.
+const EINVAL: i32 = 22;
+
+const ENAMETOOLONG: i32 = 36;
+
+const EILSEQ: i32 = 84;
+
+// How many arguments the program was started with, its own name among them.
+pub fn arg_count(rt: &impl Env) -> usize {
+    for i in 0..usize::MAX {
+        if !has_arg(rt, i) {
+            return i;
+        }
+    }
+    usize::MAX
+}
+
+fn has_arg(rt: &impl Env, i: usize) -> bool {
+    let mut nothing = [0u8; 0];
+    match rt.arg(i, &mut nothing) {
+        Err(FillError::NotPresent) => false,
+        _ => true,
+    }
+}
+
+// Puts an argument at the front, and answers its length.
+pub fn arg(rt: &impl Env, i: usize, into: &mut [u8]) -> Result<usize>
+    ensures { IfOk result (λ n. n ≤ length into.new) }
+{
+    match rt.arg(i, into) {
+        Ok(count) => Ok(count),
+        Err(FillError::NotPresent) => Err(Error::from_raw_os_error(EINVAL)),
+        Err(FillError::TooLong) => Err(Error::from_raw_os_error(ENAMETOOLONG)),
+    }
+}
+
+// Opens the file of a name for reading. A name has to be text.
+pub fn open<R: Files>(rt: &R, name: &[u8]) -> Result<R::File> {
+    match str::from_utf8(name) {
+        Ok(path) => fs::open(rt, path),
+        Err(_) => Err(Error::from_raw_os_error(EILSEQ)),
+    }
+}
+
+// Writes a line: what failed, a colon, and the system's words for the error.
+pub fn fail(to: &impl Print, what: &[u8], error: Error) {
+    write_all(to, what);
+    write_all(to, b": ");
+    let mut words = Words { to };
+    let _ = write!(words, "{error}");
+    write_all(to, b"\n");
+}
+
+// Passes on what is written, up to the number that an error has behind its words.
+#[derive(Drop)]
+struct Words<'a, P> {
+    to: &'a P,
+}
+
+impl<P: Print> fmt::Write for Words<'_, P> {
+    fn write_str(&mut self, s: &str) -> fmt::Result {
+        if s.starts_with(" (os error") {
+            return Err(fmt::Error);
+        }
+        write_all(self.to, s.as_bytes());
+        Ok(())
+    }
+}
