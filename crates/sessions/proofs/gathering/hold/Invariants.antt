@@ -1,3 +1,5 @@
+-- The loop's invariant: the first `i` characters are laid behind those that were held, and end within the buffer, which
+-- has its length. The measure is what is left of them.
 use Prim.Native.Nat.{◌+◌, ◌-◌, ◌≤◌}
 use mathlib.Core.Path.{◌≡◌}
 use lib.ListN.{length, take}

@@ -1,3 +1,4 @@
+-- The part of the line ends at its feed or at the end of the piece, and its characters are held behind those before it.
 use Prim.Native.Nat.{◌≤◌}
 use native.Mathlib.Omega.{arith}
 use lib.ListN.{length}
@@ -5,7 +6,6 @@ use Rattle.text.specs.LinesLaws.{line-by-end}
 use Rattle.sessions.specs.GatheringLaws.{taken-past}
 use Rattle.sessions.proofs.gathering.take_line.Goals as goal
 
--- The part of the line ends at its feed or at the end of the piece, and its characters are held behind those before it.
 pub returns-then-piece-at : goal.returns-then-piece-at
 returns-then-piece-at c =
     let all = taken-past c.args.line.now c.args.held c.args.piece.now c.args.at c.if-piece-at.true in record { answer = all.0; written = all.1 }
