@@ -1,8 +1,8 @@
+-- Whether a conversion runs, then the range.
 use Rattle.thermostat.specs.Finish.{finished}
 use borrow.Author.Rules.{rules}
 use Rattle.thermostat.proofs.finish.Goals as goal
 
--- Whether a conversion runs, then the range.
 pub returns-then-not-p : goal.returns-then-not-p
 unfolding finished
 returns-then-not-p c = record { answer = search rules }

@@ -1,3 +1,4 @@
+-- Each part is what its own function says.
 use Rattle.thermostat.specs.Finish.{measured}
 use borrow.Author.Rules.{rules}
 use Rattle.thermostat.proofs.measure.Goals as goal

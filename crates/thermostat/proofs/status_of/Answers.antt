@@ -1,3 +1,4 @@
+-- Eight bits put into an empty register, lowest first, make their number: `eight-in`.
 use Rattle.commands.specs.BytesLaws.{eight-in}
 use Rattle.thermostat.specs.Status.{status_of}
 use Rattle.thermostat.proofs.status_of.Goals as goal

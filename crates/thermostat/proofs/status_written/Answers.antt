@@ -1,3 +1,4 @@
+-- Each bit is that of the byte, and a flag is left by it.
 use Rattle.thermostat.specs.Status.{status_written}
 use borrow.Author.Rules.{rules}
 use Rattle.thermostat.proofs.status_written.Goals as goal

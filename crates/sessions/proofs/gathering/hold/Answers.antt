@@ -1,23 +1,13 @@
-use Prim.Native.Nat.{◌+◌, ◌-◌, ◌<◌, ◌≤◌}
-use mathlib.Core.Path.{◌≡◌, refl, ◌∙◌}
+use Prim.Native.Nat.{◌+◌, ◌<◌}
+use mathlib.Core.Path.{refl}
 use native.Mathlib.Omega.{arith}
-use lib.ListN.{length, take, length-set}
-use Rattle.basic_laws.specs.Laid.{laid}
+use lib.ListN.{length, length-set}
 use Rattle.basic_laws.specs.LaidLaws.{laid_none, laid_next}
-use Rattle.sessions.specs.GatheringLaws.{fitting-all, fitting-full}
-use borrow.Author.Rules.{rules}
 use Rattle.sessions.proofs.gathering.hold.Goals as goal
 
 pub loop-i-init : goal.loop-i-init
 loop-i-init c =
     (omega arith, omega arith, omega arith, refl, laid_none _ _)
-
-pub returns-then-line-to : goal.returns-then-line-to
-returns-then-line-to c =
-    let most = c.loop-i.invariant.2 in
-    let ends = fitting-full c.args.line.now c.args.held c.args.chars.now c.loop-i.i most
-    c.loop-i.invariant.0 (omega arith) in
-    record { answer = c.loop-i.invariant.1 ∙ ends.0; written = c.loop-i.invariant.4 ∙ ends.1 }
 
 pub loop-i-preserved : goal.loop-i-preserved
 loop-i-preserved c =
@@ -33,9 +23,3 @@ loop-i-preserved c =
       rw (place, c.loop-i.invariant.4) (laid_next _ c.args.held c.args.chars.now c.loop-i.i _ 0 _ refl some
           within refl),
     )
-
-pub returns : goal.returns
-returns c =
-    let ends = fitting-all c.args.line.now c.args.held c.args.chars.now c.loop-i.i c.loop-i.invariant.2
-    (omega arith) in
-    record { answer = c.loop-i.invariant.1 ∙ ends.0; written = c.loop-i.invariant.4 ∙ ends.1 }

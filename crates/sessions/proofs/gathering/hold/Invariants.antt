@@ -1,10 +1,9 @@
-use Prim.Native.Nat.{◌+◌, ◌-◌, ◌<◌, ◌≤◌}
-use mathlib.Core.Path.{◌≡◌, refl, ◌∙◌}
-use native.Mathlib.Omega.{arith}
-use lib.ListN.{length, take, length-set}
+-- The loop's invariant: the first `i` characters are laid behind those that were held, and end within the buffer, which
+-- has its length. The measure is what is left of them.
+use Prim.Native.Nat.{◌+◌, ◌-◌, ◌≤◌}
+use mathlib.Core.Path.{◌≡◌}
+use lib.ListN.{length, take}
 use Rattle.basic_laws.specs.Laid.{laid}
-use Rattle.basic_laws.specs.LaidLaws.{laid_none, laid_next}
-use Rattle.sessions.specs.GatheringLaws.{fitting-all, fitting-full}
 use Rattle.sessions.proofs.gathering.hold.Given as goal
 
 abbrev pub invariant-loop-i : goal.invariant-loop-i

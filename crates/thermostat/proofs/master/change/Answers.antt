@@ -1,3 +1,5 @@
+-- Where the reset shows presence the command and the byte are sent; else the answer is 4. Either way the flags are as
+-- they were: `flags-left`.
 use mathlib.Core.Path.{◌≡◌, ap, ◌∙◌}
 use Rattle.refusals.specs.Refusals.{accepted, no_presence}
 use Rattle.thermostat.specs.Calls.{status_changed}

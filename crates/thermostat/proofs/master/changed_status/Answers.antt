@@ -1,3 +1,4 @@
+-- Eight bits put into an empty register, lowest first, make their number: `eight-in`.
 use Rattle.basic_laws.specs.Bits.{bit_at}
 use mathlib.Core.Bool.{true}
 use Rattle.thermostat.specs.Calls.{changed_status}

@@ -1,3 +1,4 @@
+-- Where the reset shows presence the command is sent and the byte read; else the answer is 4.
 use Rattle.thermostat.specs.Calls.{status_read}
 use borrow.Author.Rules.{rules}
 use Rattle.thermostat.proofs.master.read_status.Goals as goal

@@ -1,3 +1,5 @@
+-- The loop's invariant says what is still to come: the bits that are left, sent to the probe as it stands, give the
+-- answer.
 use Prim.Native.Nat.{◌≤◌, ◌-◌}
 use mathlib.Core.Path.{◌≡◌}
 use Rattle.search_laws.specs.Reads.{after_bits}

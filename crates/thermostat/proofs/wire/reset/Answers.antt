@@ -1,8 +1,8 @@
+-- Heard outside thermostat mode alone.
 use Rattle.thermostat.specs.Slot.{probe_reset}
 use borrow.Author.Rules.{rules}
 use Rattle.thermostat.proofs.wire.reset.Goals as goal
 
--- Heard outside thermostat mode alone.
 pub returns-then-p : goal.returns-then-p
 unfolding probe_reset
 returns-then-p c = record { answer = search rules }

@@ -1,8 +1,8 @@
+-- One return for each command that has a byte, by the key of the match, and one for all other bytes.
 use Rattle.thermostat.specs.Slot.{stage_after}
 use borrow.Author.Rules.{rules}
 use Rattle.thermostat.proofs.wire.stage_after.Goals as goal
 
--- One return for each command that has a byte, by the key of the match, and one for all other bytes.
 pub returns-in-170 : goal.returns-in-170
 unfolding stage_after
 returns-in-170 c = record { answer = search rules }
