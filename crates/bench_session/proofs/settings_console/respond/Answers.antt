@@ -76,8 +76,7 @@ returns-in_default c =
     let own = own-request a.request (answered a.bench (asked line))
     (λ code. of_access (settings_written a.store a.bench code))
     (says (store_says a.store a.request) a.bench)
-    (λ e. let k = own-number (rw e at c.in_default.in_default-own.keys3) in omega arith)
-    (λ code e. let k = own-number (rw e at c.in_default.in_default-own.keys3) in omega arith) in
+    c.in_default.not-Other c.in_default.not-Write in
     rw own (called-says a.out.now c.requires a.bench a.store a.request c.call-done.new.out
     c.call-done.result c.say.result c.call-done.ensures.answer c.call-done.ensures.written
     c.call-done.ensures.fits c.say.ensures.answer)
