@@ -1,5 +1,7 @@
 // The command bytes of the 1-Wire bus and of the thermometers, named once, and a byte on the wire bit by
 // bit. `specs/Commands.antt` has the same names for the definitions.
+#![tactic(auto)]
+
 ghost use Rattle.std.specs.Prelude.{◌≡◌};
 ghost use Rattle.commands.specs.Bytes.{shift_in, shifted, byte_slot};
 

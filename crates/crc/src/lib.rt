@@ -1,4 +1,6 @@
 // The 1-Wire CRC of bytes, of a run of bits, and of a ROM code.
+#![tactic(auto)]
+
 mod table;
 
 ghost use Rattle.std.specs.Prelude.{◌≡◌};

@@ -1,4 +1,6 @@
 // What differs between the thermometer families, in one table, and the layout that they share.
+#![tactic(auto)]
+
 ghost use Rattle.std.specs.Prelude.{◌≡◌};
 ghost use Rattle.family.specs.Families.{properties_of, with_pins, kept_pins, pins_wrong};
 ghost use Rattle.family.specs.Configuration.{stored_form, kept_configuration, same_seen, configuration_as_asked};

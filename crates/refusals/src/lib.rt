@@ -1,5 +1,6 @@
 // The refusal numbers, named once. An answer's `refusal` is ACCEPTED or one of the others; a
 // comment says when each is given. `specs/Refusals.antt` has the same names for the definitions.
+#![tactic(auto)]
 
 pub const ACCEPTED: u8 = 0;
 

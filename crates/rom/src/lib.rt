@@ -1,4 +1,6 @@
 // ROM codes: their parts, their bits as sent, and whether a code is sound.
+#![tactic(auto)]
+
 ghost use Rattle.std.specs.Prelude.{◌≡◌};
 ghost use Rattle.basic_laws.specs.Bits.{bit_at};
 ghost use Rattle.rom.specs.Code.{family_of, serial_of, crc_byte_of, code_refusal};

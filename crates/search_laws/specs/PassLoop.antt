@@ -7,9 +7,8 @@
 --     loop_pass B command n prev D ds     a pass: a reset, and the pass after it
 use Rattle.std.specs.Prelude.{◌≡◌, Bool, false, get_or, drop}
 use Rattle.std.proofs.Math.Path.{refl, sym, ap}
-use Rattle.std.proofs.Common.{◌∙◌, true≢false, pow-suc, add-mul, mul_assoc, mul_comm}
+use Rattle.std.proofs.Common.{◌∙◌, pow-suc, add-mul, mul_assoc, mul_comm}
 use Rattle.std.proofs.Math.Bool.{true}
-use Rattle.std.proofs.lemmas.Bool.{false≢true}
 use Rattle.std.proofs.Math.Option.{Option, none, some, map}
 use mathlib.Core.List.{List, [], ◌∷◌, ◌++◌, append-nil, append_assoc}
 use Prim.Native.Nat.{ℕ, zero, suc, ◌+◌, ◌*◌, ◌-◌, ◌^◌, ◌<◌, ◌≤◌}

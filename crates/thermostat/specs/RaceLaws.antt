@@ -7,7 +7,7 @@
 --     spares s m             whether a slot at stage s in which the line shows m leaves the flags alone
 --     sparing es k s         whether all slots among the events do, from k and s on; kept_after es k s, what is kept
 --                            after them
-use Rattle.std.specs.Prelude.{ℕ, ◌<◌, Bool, true, false, not, ◌&&◌, ◌≡◌, eqb, get_or}
+use Rattle.std.specs.Prelude.{ℕ, Bool, true, false, not, ◌&&◌, ◌≡◌, eqb, get_or}
 use Rattle.std.proofs.Math.Bool.{and-true, or-false, or_assoc}
 use mathlib.Core.List.{List, [], ◌∷◌, ◌++◌}
 use Rattle.std.proofs.Math.Path.{refl, ap, ap₂, subst⁻¹}

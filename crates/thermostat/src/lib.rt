@@ -1,5 +1,7 @@
 // The DS1821, a thermometer and thermostat that is alone on its wire and has no code. It goes in by
 // value and comes back in the answer. Its status register has two writers, the host and the probe itself.
+#![tactic(auto)]
+
 pub mod master;
 pub mod rules;
 pub mod wire;

@@ -1,3 +1,5 @@
+-- The loop's invariant: so many lines are the same in both, and the lines behind them begin at the place. The measure
+-- is what is left of the reference.
 use Prim.Native.Nat.{◌-◌}
 use lib.ListN.{length}
 use Rattle.comparing.specs.DepartureLaws.{Walked}

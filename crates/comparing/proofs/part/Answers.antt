@@ -1,3 +1,4 @@
+-- The side that was answered says of which recording the part is, and the place is within that one.
 use Prim.Native.Nat.{◌-◌, ◌≤◌}
 use mathlib.Core.Path.{◌≡◌, ap, ◌∙◌}
 use lib.ListN.{length, take, drop}
@@ -10,7 +11,6 @@ use Rattle.comparing.specs.ClaimsLaws.{parted-by}
 use Rattle.comparing.proofs.part.Goals as goal
 use Rattle.comparing.proofs.part.Goals.{After-compare-found, After-side_number}
 
--- The side that was answered says of which recording the part is, and the place is within that one.
 -- what was found, by its side
 found : (c : After-compare-found) (side : Side) → c.compare-found.result.side ≡ side →
     let a = c.args in let s = recording_of side a.reference.now a.other.now in

@@ -1,3 +1,4 @@
+-- Both lines by where they end: they are the same where both or neither has a feed and their characters are the same.
 use Prim.Native.Nat.{◌≤◌}
 use lib.ListN.{length}
 use Rattle.text.specs.LinesLaws.{line-by-end}
@@ -5,7 +6,6 @@ use Rattle.comparing.specs.DepartureLaws.{lines-apart, lines-by-characters}
 use Rattle.comparing.proofs.same_line.Goals as goal
 use Rattle.comparing.proofs.same_line.Goals.{After-line_end-end, After-line_end-other_end}
 
--- Both lines by where they end: they are the same where both or neither has a feed and their characters are the same.
 -- each end is within its recording
 within : (c : After-line_end-end) → c.line_end-end.result ≤ length c.args.reference.now
 within c =

@@ -1,10 +1,6 @@
-use Prim.Native.Nat.{◌≤◌, ◌-◌}
-use mathlib.Core.Path.{◌≡◌, ◌∙◌, sym}
+use mathlib.Core.Path.{◌∙◌, sym}
 use native.Mathlib.Omega.{arith}
-use Rattle.basic_laws.specs.Bits.{bits_of}
-use Rattle.crc.specs.Crc.{crc_bits}
 use Rattle.crc.specs.Laws.{crc-turn, crc-done}
-use borrow.Author.Rules.{rules}
 use Rattle.crc.proofs.crc_bit_by_bit.Goals as goal
 
 pub loop-i-preserved : goal.loop-i-preserved
@@ -17,5 +13,7 @@ loop-i-preserved c =
 
 pub returns : goal.returns
 returns c =
-    record { answer = let count = c.args.count in
-    sym (crc-done _ _ count c.loop-i.i c.loop-i-test.false) ∙ c.loop-i.invariant.1 }
+    record {
+      answer = let count = c.args.count in
+          sym (crc-done _ _ count c.loop-i.i c.loop-i-test.false) ∙ c.loop-i.invariant.1;
+    }

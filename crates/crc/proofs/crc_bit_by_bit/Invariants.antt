@@ -1,9 +1,9 @@
+-- The loop's invariant says what is still to come: the register as it stands, fed with the bits that are left, gives
+-- the answer.
 use Prim.Native.Nat.{◌≤◌, ◌-◌}
-use mathlib.Core.Path.{◌≡◌, ◌∙◌, sym}
-use native.Mathlib.Omega.{arith}
+use mathlib.Core.Path.{◌≡◌}
 use Rattle.basic_laws.specs.Bits.{bits_of}
 use Rattle.crc.specs.Crc.{crc_bits}
-use Rattle.crc.specs.Laws.{crc-turn, crc-done}
 use Rattle.crc.proofs.crc_bit_by_bit.Given as goal
 
 abbrev pub invariant-loop-i : goal.invariant-loop-i

@@ -1,8 +1,4 @@
-use mathlib.Core.Path.{◌≡◌, ◌∙◌, refl}
-use Rattle.basic_laws.specs.Bits.{bits_of}
-use Rattle.crc.specs.Crc.{crc_bits}
 use Rattle.crc.specs.Laws.{crc-byte-turn}
-use borrow.Author.Rules.{rules}
 use Rattle.crc.proofs.crc_bits.Goals as goal
 
 pub loop-rest-preserved : goal.loop-rest-preserved

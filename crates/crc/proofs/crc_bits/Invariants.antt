@@ -1,7 +1,8 @@
-use mathlib.Core.Path.{◌≡◌, ◌∙◌, refl}
+-- The loop's invariant says what is still to come: the register as it stands, fed with the bits that are left, gives
+-- the answer.
+use mathlib.Core.Path.{◌≡◌}
 use Rattle.basic_laws.specs.Bits.{bits_of}
 use Rattle.crc.specs.Crc.{crc_bits}
-use Rattle.crc.specs.Laws.{crc-byte-turn}
 use Rattle.crc.proofs.crc_bits.Given as goal
 
 abbrev pub invariant-loop-rest : goal.invariant-loop-rest

@@ -1,8 +1,5 @@
-use Prim.Native.Nat.{◌<◌}
-use native.Mathlib.Omega.{arith}
-use lib.Bits.{bit_xor, xor_lt}
+-- One entry of a table that has its rule.
 use Rattle.crc.specs.TableLaws.{crc-by-table}
-use borrow.Author.Rules.{rules}
 use Rattle.crc.proofs.crc_byte.Goals as goal
 
 pub returns : goal.returns

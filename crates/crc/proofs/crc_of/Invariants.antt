@@ -1,12 +1,8 @@
+-- The loop's invariant: the register is the CRC of the bytes passed.
 use Prim.Native.Nat.{◌≤◌, ◌-◌}
-use mathlib.Core.Path.{◌≡◌, ◌∙◌, refl}
-use native.Mathlib.Omega.{arith}
+use mathlib.Core.Path.{◌≡◌}
 use lib.ListN.{length, take}
-use lib.Seq.{take-length}
-use Rattle.basic_laws.specs.Fold.{fold}
-use Rattle.basic_laws.specs.Bits.{bytes_bits}
-use Rattle.crc.specs.Crc.{crc_bits, crc_of}
-use Rattle.crc.specs.Laws.{crc-byte-more}
+use Rattle.crc.specs.Crc.{crc_of}
 use Rattle.crc.proofs.crc_of.Given as goal
 
 abbrev pub invariant-loop-i : goal.invariant-loop-i

@@ -1,3 +1,4 @@
+-- With a configuration and without one.
 use Rattle.device.specs.Settings.{settings_in}
 use borrow.Author.Rules.{rules}
 use Rattle.device.proofs.settings_in.Goals as goal

@@ -1,8 +1,8 @@
+-- The definition's bytes are the 64 zeros that the code names.
 use Rattle.frame.specs.Frames.{no_bits}
 use borrow.Author.Rules.{rules}
 use Rattle.frame.proofs.blank.Goals as goal
 
--- The definition's bytes are the 64 zeros that the code names.
 pub returns : goal.returns
 unfolding no_bits
 returns c =

@@ -1,3 +1,5 @@
+-- The loop's invariant: whether the bytes from `i` on are clear, from bit `from` of the first, is the answer. The
+-- measure is what is left.
 use mathlib.Core.Bool.{◌&&◌}
 use borrow.Author.Tests.{eq-eqb, ne_eqb}
 use lib.Dec.{eqb, lit<}

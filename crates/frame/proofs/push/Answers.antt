@@ -1,3 +1,4 @@
+-- Below the most slots one byte is replaced, and so one bit of all.
 use Prim.Native.Nat.{ℕ, ◌+◌, ◌/◌, ◌<◌, ◌≤◌}
 use mathlib.Core.Path.{◌≡◌, refl, sym, ap, ◌∙◌}
 use native.Mathlib.Omega.{arith}
@@ -11,7 +12,6 @@ use borrow.Author.Rules.{rules}
 use Rattle.frame.proofs.push.Goals as goal
 use Rattle.frame.proofs.push.Goals.{Start}
 
--- Below the most slots one byte is replaced, and so one bit of all.
 -- the frame is one that the program holds
 byte : (c : Start) (i : ℕ) → Fits w8 (get_or c.args.f.bits i 0)
 byte c i =

@@ -1,3 +1,4 @@
+-- Past the count or past the array there is no slot; else the bit of its byte.
 use lib.ListN.{length, length-map}
 use mathlib.Core.Path.{◌≡◌, sym}
 use Rattle.frame.specs.FramesLaws.{slot-none, slot-past, slot-here}
@@ -5,7 +6,6 @@ use borrow.Author.Rules.{rules}
 use Rattle.frame.proofs.slot_bit.Goals as goal
 use Rattle.frame.proofs.slot_bit.Goals.{Start}
 
--- Past the count or past the array there is no slot; else the bit of its byte.
 long : (c : Start) → length c.args.f.bits ≡ 64
 long c =
     search rules

@@ -1,3 +1,4 @@
+-- The bit's weight is taken out and put back in as asked.
 use Prim.Native.Nat.{◌+◌, ◌*◌, ◌/◌, ◌%◌, ◌^◌, ◌≤◌}
 use mathlib.Core.Path.{◌≡◌}
 use mathlib.Core.Bool.{Bool, true, false}
@@ -10,7 +11,6 @@ use borrow.Author.Rules.{rules}
 use Rattle.frame.proofs.with_bit.Goals as goal
 use Rattle.frame.proofs.with_bit.Goals.{Start}
 
--- The bit's weight is taken out and put back in as asked.
 -- the weight as the code has it, and what the law says of the sum
 weight : (c : Start) → 1 * 2 ^ c.args.i % 256 ≡ 2 ^ c.args.i
 weight c =

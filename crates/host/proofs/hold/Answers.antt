@@ -1,3 +1,4 @@
+-- The characters that fit are laid behind those that are held, which is what is held of both.
 use Prim.Native.Nat.{◌-◌}
 use mathlib.Core.Path.{◌≡◌, refl, ap, ◌∙◌}
 use native.Mathlib.Nat.{sub-zero}

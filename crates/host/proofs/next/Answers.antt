@@ -1,3 +1,5 @@
+-- The four ends of the call: the buffer is too short, the line stands whole in the piece, it ends there, and it has no
+-- feed.
 use Prim.Native.Nat.{ℕ, ◌+◌}
 use mathlib.Core.Path.{ap, ◌∙◌}
 use mathlib.Core.Bool.{true}

@@ -1,3 +1,4 @@
+-- By the definition's own test.
 use borrow.Author.Tests.{eq-eqb, ne_eqb}
 use Rattle.host.proofs.number_told.Goals as goal
 

@@ -1,3 +1,4 @@
+-- The number is that of the name.
 use Rattle.host.proofs.tell_name.Goals as goal
 
 pub returns : goal.returns

@@ -1,3 +1,4 @@
+-- By the definition's own tests; what is held is no more than may be.
 use borrow.Author.Tests.{eq-eqb, ne_eqb}
 use lib.Seq.{take_all}
 use Rattle.naming.specs.Streaming.{most_held_of_recording}

@@ -1,7 +1,7 @@
+-- The last character is looked at, where there is one.
 use Rattle.mending.specs.StepLaws.{return-none, return-off, return_kept}
 use Rattle.mending.proofs.before_return.Goals as goal
 
--- The last character is looked at, where there is one.
 pub returns-then-size-eq0 : goal.returns-then-size-eq0
 returns-then-size-eq0 c =
     return-none c.args.s.now c.if-size-eq0.true

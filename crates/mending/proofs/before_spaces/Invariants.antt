@@ -1,3 +1,4 @@
+-- The loop's invariant: what is left has the same characters before its spaces. The measure is what is left.
 use Rattle.std.proofs.Common.{◌≡◌, ◌≤◌, length, take}
 use Rattle.mending.specs.Mending.{unspaced}
 use Rattle.mending.proofs.before_spaces.Given as goal

@@ -1,3 +1,4 @@
+-- An empty text is laid, and reported where it has room.
 use Rattle.std.proofs.Common.{◌+◌, ap, ◌∙◌}
 use Rattle.mending.specs.Mending.{reported}
 use Rattle.mending.proofs.drop_line.Goals as goal

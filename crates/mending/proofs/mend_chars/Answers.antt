@@ -1,3 +1,4 @@
+-- The characters, raised, stand at the front of the array; each call finds where the next step ends them.
 use Rattle.std.proofs.Common.{◌≡◌, ◌≤◌, Bool, List, ℕ, map, length, take, replicate, sym, ap, ◌∙◌, arith, length-take-le}
 use lib.ListN.{length-map}
 use Rattle.basic_laws.specs.Choice.{if◌then◌else◌}
@@ -8,7 +9,6 @@ use Rattle.mending.specs.Repair.{return-place, repaired}
 use Rattle.mending.proofs.mend_chars.Goals as goal
 use Rattle.mending.proofs.mend_chars.Goals.{After-before_return-unreturned}
 
--- The characters, raised, stand at the front of the array; each call finds where the next step ends them.
 -- the characters, raised, and the array's length
 there : (cs chars : List ℕ) → length cs ≤ longest_mended → chars ≡ laid (replicate 257 0) 0 (map raised cs)
     → (length chars ≡ 257) × (take (length cs) chars ≡ map raised cs)

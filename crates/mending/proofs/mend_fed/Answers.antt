@@ -1,3 +1,4 @@
+-- The characters, mended, are read; they are dropped or written by what the reader says.
 use Rattle.std.proofs.Common.{◌≡◌, ℕ, ◌+◌, ◌<◌, true, eqb, List, [], ◌∷◌, ◌++◌, length, take, set, sym, refl, ap, ◌∙◌, add-one, arith, length-set, length-take-le, take-suc-set}
 use Rattle.basic_laws.specs.Choice.{if◌then◌else◌}
 use Rattle.text.specs.Lines.{Line, line_feed}
@@ -9,7 +10,6 @@ use Rattle.mending.specs.LineLaws.{answer-refusal, refusal-small, fate-dropped, 
 use Rattle.mending.proofs.mend_fed.Goals as goal
 use Rattle.mending.proofs.mend_fed.Goals.{After-mend_chars-repair, After-read_line-read}
 
--- The characters, mended, are read; they are dropped or written by what the reader says.
 -- a line with its feed
 abbrev given : List ℕ → Line
 given chars = record { chars = chars; fed = true }

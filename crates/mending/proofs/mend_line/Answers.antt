@@ -1,3 +1,4 @@
+-- By the length and the feed, and then by how the line reads once mended.
 use Rattle.std.proofs.Common.{◌∙◌}
 use Rattle.text.specs.Lines.{Line}
 use Rattle.refusals.specs.Refusals.{not_hex, malformed}

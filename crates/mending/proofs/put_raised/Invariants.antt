@@ -1,3 +1,4 @@
+-- The loop's invariant: the first `i` characters are laid from place 0, raised. The measure is what is left.
 use Rattle.std.proofs.Common.{◌≡◌, ◌-◌, ◌≤◌, map, length, take}
 use Rattle.basic_laws.specs.Laid.{laid}
 use Rattle.mending.specs.Mending.{raised}

@@ -1,7 +1,7 @@
+-- By the ranges of the letters.
 use Rattle.mending.specs.StepLaws.{raised_below, raised-letter, raised-above}
 use Rattle.mending.proofs.raise.Goals as goal
 
--- By the ranges of the letters.
 pub returns-then-c-lt97 : goal.returns-then-c-lt97
 returns-then-c-lt97 c =
     raised_below c.args.c c.if-c-lt97.true

@@ -1,3 +1,4 @@
+-- By the test of the definition.
 use Rattle.std.proofs.Common.{eq-eqb, ne_eqb}
 use Rattle.mending.proofs.report_written.Goals as goal
 

@@ -1,3 +1,4 @@
+-- The loop's invariant: `code` is the number of the bytes from place `left` of the eight on. The measure is `left`.
 use Prim.Native.Nat.{◌-◌, ◌*◌, ◌^◌, ◌<◌, ◌≤◌}
 use mathlib.Core.Path.{◌≡◌}
 use lib.ListN.{take, drop}

@@ -1,7 +1,7 @@
+-- The code's tests are the definition's.
 use borrow.Author.Tests.{eq-eqb, ne_eqb}
 use Rattle.naming.proofs.is_nobody.Goals as goal
 
--- The code's tests are the definition's.
 pub returns-then-f-ne-NOBODY_SLOTS : goal.returns-then-f-ne-NOBODY_SLOTS
 returns-then-f-ne-NOBODY_SLOTS c =
     simp (ne_eqb _ _ c.if-f-ne-NOBODY_SLOTS.true)

@@ -1,8 +1,8 @@
+-- The code's tests are the definition's.
 use Rattle.naming.specs.Naming.{searches}
 use borrow.Author.Tests.{eq-eqb, ne_eqb}
 use Rattle.naming.proofs.is_search.Goals as goal
 
--- The code's tests are the definition's.
 pub returns-then-command-eq-SEARCH_ROM : goal.returns-then-command-eq-SEARCH_ROM
 unfolding searches
 returns-then-command-eq-SEARCH_ROM c =

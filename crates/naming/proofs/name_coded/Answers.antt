@@ -1,3 +1,4 @@
+-- The code's own refusal decides.
 use borrow.Author.Tests.{eq-eqb, ne_eqb}
 use Rattle.naming.proofs.name_coded.Goals as goal
 

@@ -1,3 +1,6 @@
+-- Each return is one line of the definition: the tests before it came out the other way, its own came out its way.
+-- `present`, `no-search`, `no-alarm`, `somebody` and `no-pad` say what a test that came out the other way tells of the
+-- frame.
 use mathlib.Core.Path.{◌≡◌, sym, ap, ◌∙◌}
 use mathlib.Core.Bool.{true, false}
 use borrow.Author.Tests.{not-false}
@@ -8,9 +11,6 @@ use Rattle.naming.specs.Naming.{name_number, named, frame_number, sends, is_nobo
 use Rattle.naming.proofs.name_frame.Goals as goal
 use Rattle.naming.proofs.name_frame.Goals.{Else-is_nobody, Else-is_pad, Else-is_pass, Else-is_pass-2, Else-not-f}
 
--- Each return is one line of the definition: the tests before it came out the other way, its own came out its way.
--- `present`, `no-search`, `no-alarm`, `somebody` and `no-pad` say what a test that came out the other way tells of the
--- frame.
 -- the frame behind the first test
 present : (c : Else-not-f) → c.args.f.presence ≡ true
 present c = not-false c.args.f.presence c.if-not-f.false

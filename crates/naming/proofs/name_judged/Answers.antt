@@ -1,3 +1,4 @@
+-- The scratchpad's judgement decides.
 use borrow.Author.Tests.{eq-eqb, ne_eqb}
 use Rattle.naming.proofs.name_judged.Goals as goal
 

@@ -1,3 +1,4 @@
+-- What is read is named.
 use mathlib.Core.Path.{ap, ◌∙◌}
 use Rattle.naming.specs.Naming.{name_of_read}
 use Rattle.naming.specs.Laws.{line_read}

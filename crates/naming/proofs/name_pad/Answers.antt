@@ -1,3 +1,4 @@
+-- The code's CRC is looked at before the scratchpad.
 use borrow.Author.Tests.{eq-eqb, ne_eqb}
 use Rattle.naming.proofs.name_pad.Goals as goal
 

@@ -1,3 +1,4 @@
+-- The triples are looked at before the code.
 use Rattle.naming.proofs.name_pass.Goals as goal
 
 pub returns-then-pass : goal.returns-then-pass

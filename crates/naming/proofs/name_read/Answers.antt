@@ -1,3 +1,4 @@
+-- A refusal is passed on; else the frame is named.
 use borrow.Author.Tests.{eq-eqb, ne_eqb}
 use Rattle.naming.proofs.name_read.Goals as goal
 

@@ -1,3 +1,4 @@
+-- Nine bytes, read one by one, are the part of the bytes that the definition takes.
 use Rattle.naming.specs.Laws.{pad-bytes}
 use Rattle.naming.proofs.pad_in.Goals as goal
 

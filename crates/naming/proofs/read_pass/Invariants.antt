@@ -1,3 +1,5 @@
+-- The loop's invariant: the triples from `left` on are allowed, and `code` is the number of their third bits. The
+-- measure is `left`.
 use Prim.Native.Nat.{◌*◌, ◌≤◌}
 use mathlib.Core.Bool.{true}
 use mathlib.Core.Path.{◌≡◌}

@@ -1,3 +1,4 @@
+-- The characters are no more than there are and than the line has room for, and stand at its front.
 use Prim.Native.Nat.{◌+◌, ◌-◌, ◌≤◌, min}
 use mathlib.Core.Path.{◌≡◌, sym, ◌∙◌}
 use native.Mathlib.Nat.{le_of_lt}

@@ -1,8 +1,8 @@
+-- There is nothing at the front of the line.
 use Rattle.pieces.specs.Carried.{carried_in}
 use borrow.Author.Rules.{rules}
 use Rattle.pieces.proofs.nothing.Goals as goal
 
--- There is nothing at the front of the line.
 pub returns : goal.returns
 unfolding carried_in
 returns c =

@@ -1,3 +1,4 @@
+-- The characters are those at the front of the line, which has no more than that.
 use Prim.Native.Nat.{min}
 use mathlib.Core.Path.{◌≡◌}
 use native.Mathlib.Omega.{arith}
@@ -8,7 +9,6 @@ use borrow.Author.Rules.{rules}
 use Rattle.pieces.proofs.put_back.Goals as goal
 use Rattle.pieces.proofs.put_back.Goals.{Start}
 
--- The characters are those at the front of the line, which has no more than that.
 long : (c : Start) → length c.args.carried.line ≡ 257
 long c =
     search rules

@@ -1,3 +1,4 @@
+-- The stored reading goes into the two bytes of the register, the counts behind.
 use Rattle.scratchpad.specs.Stored.{scratchpad_after}
 use borrow.Author.Rules.{rules}
 use Rattle.scratchpad.proofs.after_conversion.Goals as goal

@@ -1,3 +1,4 @@
+-- The loop's invariant: whether all are zero is left to the bytes from i on.
 use Prim.Native.Nat.{◌≤◌, ◌<◌, ◌-◌}
 use mathlib.Core.Path.{◌≡◌, ◌∙◌, sym, refl}
 use native.Mathlib.Omega.{arith}

@@ -1,3 +1,6 @@
+-- Each return is one line of the definition: the tests before it came out the other way, its own came out its way.
+-- `simp` rewrites the definition's tests by what the calls promise and by the branches taken. A place is named for the
+-- call or the branch that it follows.
 use Rattle.scratchpad.specs.Judgement.{judged}
 use borrow.Author.Rules.{rules}
 use Rattle.scratchpad.proofs.judge.Goals as goal

@@ -1,3 +1,4 @@
+-- The count is measured with the configuration that stands in the scratchpad.
 use Rattle.scratchpad.specs.Stored.{stored_reading}
 use borrow.Author.Rules.{rules}
 use Rattle.scratchpad.proofs.stored_reading.Goals as goal

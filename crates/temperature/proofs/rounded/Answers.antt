@@ -1,3 +1,5 @@
+-- Each arm shifts the count right and multiplies back by the same power of two, which is the one law of rounding down,
+-- at 8, 4 and 2; at 1 the count is its own floor. Each step divides 2 ^ 15, so every product fits.
 use mathlib.Core.Path.{refl}
 use borrow.Author.Tests.{ne_eqb}
 use lib.Dec.{lit<}
@@ -8,8 +10,6 @@ use borrow.Author.Rules.{rules}
 use Rattle.temperature.proofs.rounded.Goals as goal
 use Rattle.temperature.proofs.rounded.Goals.{Start}
 
--- Each arm shifts the count right and multiplies back by the same power of two, which is the one law of rounding down,
--- at 8, 4 and 2; at 1 the count is its own floor. Each step divides 2 ^ 15, so every product fits.
 fits : (c : Start) → Fits16 c.args.count.0
 fits c =
     record { sfits = c.well_formed.0.1.1.0.1 }

@@ -1,3 +1,4 @@
+-- The count fits sixteen bits, so the code's quotient is the nearest number, which is exact.
 use mathlib.Core.Path.{refl}
 use Rattle.basic_laws.specs.ComplementLaws.{held_back}
 use Rattle.temperature.specs.DegreesLaws.{quotient, sixteen, sixteenths-exact}

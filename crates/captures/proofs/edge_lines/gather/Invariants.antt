@@ -1,3 +1,4 @@
+-- The invariant: the line with the first i characters is held.
 use Prim.Native.Nat.{◌-◌, ◌≤◌}
 use mathlib.Core.Path.{◌≡◌}
 use lib.ListN.{length, take}

@@ -1,3 +1,4 @@
+-- Each field by its own rule.
 use Rattle.captures.proofs.edge_lines.lengthen.Goals as goal
 
 pub returns : goal.returns

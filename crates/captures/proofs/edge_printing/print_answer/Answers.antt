@@ -1,3 +1,4 @@
+-- A refusal has its line behind the frames.
 use Rattle.captures.specs.EdgePrintingLaws.{printed-refused, printed-on}
 use mathlib.Core.Path.{◌∙◌}
 use Rattle.captures.proofs.edge_printing.print_answer.Goals as goal

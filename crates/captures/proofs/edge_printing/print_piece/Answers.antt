@@ -1,3 +1,4 @@
+-- What the reader answers is printed.
 use Rattle.captures.proofs.edge_printing.print_piece.Goals as goal
 
 pub returns : goal.returns

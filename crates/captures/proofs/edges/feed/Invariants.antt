@@ -1,3 +1,5 @@
+-- The invariant: what is still to come of the piece makes of reader and buffer what the whole piece makes of those at
+-- the start.
 use Prim.Native.Nat.{◌-◌, ◌≤◌}
 use mathlib.Core.Path.{◌≡◌}
 use lib.ListN.{length, drop}

@@ -1,3 +1,4 @@
+-- After a refusal nothing is read; else the line gets its characters, and its feed if it has one.
 use Rattle.captures.specs.Edges.{Reading}
 use Rattle.text.specs.Lines.{line_feed}
 use Rattle.basic_laws.specs.FirstLaws.{at-within}
@@ -9,7 +10,6 @@ use mathlib.Core.Path.{sym, ◌∙◌}
 use Rattle.captures.proofs.edges.feed_line.Goals as goal
 use Rattle.captures.proofs.edges.feed_line.Goals.{After-line_end-end}
 
--- After a refusal nothing is read; else the line gets its characters, and its feed if it has one.
 -- the characters end within the piece
 ends-within : (c : After-line_end-end) → c.line_end-end.result
     ≤ length c.args.s.now

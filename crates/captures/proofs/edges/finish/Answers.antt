@@ -1,3 +1,4 @@
+-- The reader has just started.
 use Rattle.captures.proofs.edges.finish.Goals as goal
 
 pub returns : goal.returns

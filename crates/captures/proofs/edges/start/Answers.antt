@@ -1,3 +1,4 @@
+-- A line without a character and a line that has not fallen.
 use Rattle.captures.proofs.edges.start.Goals as goal
 
 pub returns : goal.returns

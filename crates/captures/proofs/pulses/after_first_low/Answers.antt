@@ -1,3 +1,4 @@
+-- Below, within and above the bounds of a reset.
 use Prim.Native.Nat.{◌<◌, ◌≤◌}
 use native.Mathlib.Omega.{arith}
 use Rattle.captures.specs.RuleLaws.{first_short, first-reset, first-long}

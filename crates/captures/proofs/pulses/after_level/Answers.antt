@@ -1,3 +1,4 @@
+-- One return for each stage.
 use Rattle.captures.specs.declared.pulses.PulseStage.{PulseStage}
 use Rattle.captures.specs.Rule.{after_level}
 use mathlib.Core.Path.{sym, ap, ◌∙◌}

@@ -1,3 +1,4 @@
+-- One return for each kind of low.
 use Rattle.captures.proofs.pulses.after_low.Goals as goal
 
 pub returns-in-One : goal.returns-in-One

@@ -1,3 +1,4 @@
+-- Below, within and above the bounds of presence.
 use Rattle.captures.specs.RuleLaws.{presence-short, presence-seen, presence-long}
 use mathlib.Core.Path.{◌∙◌}
 use Rattle.captures.proofs.pulses.after_presence.Goals as goal

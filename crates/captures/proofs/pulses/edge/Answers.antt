@@ -1,3 +1,4 @@
+-- The first edge has no edge before it; every other is later than the last or refused.
 use Rattle.captures.specs.RuleLaws.{first_any, edge-late, edge-later}
 use mathlib.Core.Path.{sym, ◌∙◌}
 use Rattle.captures.proofs.pulses.edge.Goals as goal

@@ -1,3 +1,4 @@
+-- One return for each stage.
 use Rattle.captures.proofs.pulses.end_at.Goals as goal
 
 pub returns-in-Idle : goal.returns-in-Idle

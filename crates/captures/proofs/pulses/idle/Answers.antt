@@ -1,3 +1,4 @@
+-- The frame is blank.
 use Rattle.captures.proofs.pulses.idle.Goals as goal
 
 pub returns : goal.returns

@@ -1,9 +1,9 @@
+-- One return for each stretch between two bounds of the table.
 use Prim.Native.Nat.{◌<◌, ◌≤◌}
 use native.Mathlib.Omega.{arith}
 use Rattle.captures.specs.BoundsLaws.{pulse-none, pulse-one, pulse-zero, pulse-between, pulse-reset, pulse-long}
 use Rattle.captures.proofs.pulses.pulse_of.Goals as goal
 
--- One return for each stretch between two bounds of the table.
 pub returns-then-lasted-lt-SHORTEST_ONE : goal.returns-then-lasted-lt-SHORTEST_ONE
 returns-then-lasted-lt-SHORTEST_ONE c =
     let d = c.args.lasted in

@@ -1,3 +1,4 @@
+-- The frame is blank.
 use Rattle.captures.proofs.pulses.restart.Goals as goal
 
 pub returns : goal.returns

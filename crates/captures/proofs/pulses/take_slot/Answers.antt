@@ -1,3 +1,4 @@
+-- Without presence and at 512 slots the slot is refused.
 use Prim.Native.Nat.{◌≤◌}
 use native.Mathlib.Omega.{arith}
 use Rattle.captures.specs.RuleLaws.{slot-past}

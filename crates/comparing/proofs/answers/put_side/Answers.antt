@@ -1,3 +1,4 @@
+-- Word by word, as the tests say.
 use borrow.Author.Tests.{eq-eqb, ne_eqb}
 use Rattle.comparing.specs.Departure.{side_number}
 use Rattle.comparing.specs.declared.Side.TheVariants.{Other}

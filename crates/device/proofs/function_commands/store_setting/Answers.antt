@@ -1,3 +1,5 @@
+-- No more bytes than the family has settings (`last`, of its `row`); a byte within them is stored in the scratchpad
+-- (`pad`), and the next is awaited or all are there.
 use Rattle.device.specs.Hear.{store_setting}
 use Rattle.device.specs.SettingsLaws.{settings-few}
 use borrow.Author.Tests.{lt-ltb, le-ltb}
@@ -9,6 +11,11 @@ pub returns-then-last-k : goal.returns-then-last-k
 unfolding store_setting
 returns-then-last-k c =
     record { answer = simp (← c.row_of-row.ensures.answer, ← c.settings_count-last.ensures.answer, le-ltb _ _ c.if-last-k.true, c.with_stage.ensures.answer) }
+
+pub bounds-pad-place : goal.bounds-pad-place
+bounds-pad-place c =
+    let few = settings-few c.row_of-row.result in
+    omega (arith, c.settings_count-last.ensures.answer)
 
 pub returns-then-k-last : goal.returns-then-k-last
 unfolding store_setting

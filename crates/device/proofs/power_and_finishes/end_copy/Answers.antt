@@ -1,3 +1,4 @@
+-- A device that copies ends it with what it holds; any other is refused.
 use Rattle.device.specs.Finish.{copy_ended}
 use borrow.Author.Rules.{rules}
 use Rattle.device.proofs.power_and_finishes.end_copy.Goals as goal
@@ -5,14 +6,14 @@ use Rattle.device.proofs.power_and_finishes.end_copy.Goals as goal
 pub returns-in-Idle : goal.returns-in-Idle
 unfolding copy_ended
 returns-in-Idle c =
-    record { answer = simp (c.enum_told-1.given.1, c.refuse.ensures.answer) }
+    record { answer = simp (c.in-Idle.is, c.refuse.ensures.answer) }
 
 pub returns-in-Converting : goal.returns-in-Converting
 unfolding copy_ended
 returns-in-Converting c =
-    record { answer = simp (c.enum_told-in-Converting-1.given.1, c.refuse-in-Converting.ensures.answer) }
+    record { answer = simp (c.in-Converting.is, c.refuse-in-Converting.ensures.answer) }
 
 pub returns-in-Copying : goal.returns-in-Copying
 unfolding copy_ended
 returns-in-Copying c =
-    record { answer = simp (c.activity-1.given.1, ← c.finish_copy.ensures.answer) }
+    record { answer = simp (c.in-Copying.is, ← c.finish_copy.ensures.answer) }

@@ -1,3 +1,5 @@
+-- The reading, the scratchpad and the flag are those of the definition, each from the call that makes it, and each part
+-- is replaced by its own call.
 use Rattle.device.specs.Finish.{conversion_done}
 use borrow.Author.Rules.{rules}
 use Rattle.device.proofs.power_and_finishes.finish_conversion.Goals as goal

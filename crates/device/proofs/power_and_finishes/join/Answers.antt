@@ -1,3 +1,4 @@
+-- The pins are kept where the family has them, the configuration in its stored form, and the rest is power-up.
 use Rattle.device.specs.Power.{joined}
 use borrow.Author.Rules.{rules}
 use Rattle.device.proofs.power_and_finishes.join.Goals as goal
@@ -9,6 +10,6 @@ returns c =
       c.powered_up.ensures.answer,
       c.kept_configuration-configuration.ensures.answer,
       c.row_of-row.ensures.answer,
-      c.kept_Pins.ensures,
+      c.kept_pins-pins.ensures.answer,
       c.family_row.ensures.answer,
     ) }

@@ -1,3 +1,4 @@
+-- Presence, count, slots and feed, laid one behind the other, are the line.
 use Prim.Native.Nat.{◌+◌, ◌*◌, ◌-◌, ◌≤◌}
 use mathlib.Core.Path.{◌≡◌, sym, ◌∙◌}
 use native.Mathlib.Omega.{arith}
@@ -10,7 +11,6 @@ use borrow.Author.Rules.{rules}
 use Rattle.frame.proofs.frame_lines.put_line.Goals as goal
 use Rattle.frame.proofs.frame_lines.put_line.Goals.{Start}
 
--- Presence, count, slots and feed, laid one behind the other, are the line.
 -- the frame's array, and how much of it is written
 long : (c : Start) → length c.args.f.bits ≡ 64
 long c =

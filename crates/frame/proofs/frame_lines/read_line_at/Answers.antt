@@ -1,3 +1,4 @@
+-- The end of the line decides whether it has a feed and where the next one starts.
 use Prim.Native.Nat.{◌≤◌}
 use mathlib.Core.Path.{sym, ◌∙◌}
 use native.Mathlib.Omega.{arith}
@@ -10,7 +11,6 @@ use borrow.Author.Rules.{rules}
 use Rattle.frame.proofs.frame_lines.read_line_at.Goals as goal
 use Rattle.frame.proofs.frame_lines.read_line_at.Goals.{After-line_end-end}
 
--- The end of the line decides whether it has a feed and where the next one starts.
 -- the end is within the data
 within : (c : After-line_end-end) → c.line_end-end.result ≤ length c.args.s.now
 within c =

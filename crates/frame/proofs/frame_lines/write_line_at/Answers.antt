@@ -1,3 +1,4 @@
+-- One law of the definition for each of the ways a write can end.
 use Prim.Native.Nat.{◌+◌, ◌*◌, ◌≤◌}
 use mathlib.Core.Path.{◌≡◌, sym, ◌∙◌}
 use mathlib.Core.Bool.{true}
@@ -10,7 +11,6 @@ use borrow.Author.Rules.{rules}
 use Rattle.frame.proofs.frame_lines.write_line_at.Goals as goal
 use Rattle.frame.proofs.frame_lines.write_line_at.Goals.{After-bytes_for, Else-not-room, Else-not-sound, Start}
 
--- One law of the definition for each of the ways a write can end.
 long : (c : Start) → length c.args.f.bits ≡ 64
 long c =
     search rules

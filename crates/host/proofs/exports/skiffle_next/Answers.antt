@@ -1,3 +1,4 @@
+-- The buffer of 135 bytes is long enough.
 use Prim.Native.Nat.{◌≤◌}
 use mathlib.Core.Path.{◌≡◌}
 use native.Mathlib.Omega.{arith}

@@ -1,3 +1,4 @@
+-- The line is formed at the front of an array, and laid from there.
 use Rattle.std.proofs.Common.{◌≤◌, length, replicate, sym, refl, ap, ◌∙◌, arith, length-take-le}
 use Rattle.text.specs.Laying.{lay_answer, lay_leaves}
 use Rattle.mending.specs.NoticeLaws.{notice-read}

@@ -1,3 +1,4 @@
+-- Refused without room; nothing for a line that was kept; else the line is short enough and is laid.
 use Rattle.std.proofs.Common.{◌≡◌, sym, ap, ◌∙◌, arith}
 use Rattle.text.specs.declared.laying.Written.{Written}
 use Rattle.text.specs.PuttingLaws.{line_refused}

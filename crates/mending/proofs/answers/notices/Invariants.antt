@@ -1,3 +1,5 @@
+-- The loop's invariant is `Noting`: what is told of the first `i` lines is laid. The measure is what is left of the
+-- report.
 use Rattle.std.proofs.Common.{◌-◌, length}
 use Rattle.mending.specs.NoticesLaws.{Noting}
 use Rattle.mending.proofs.answers.notices.Given as goal

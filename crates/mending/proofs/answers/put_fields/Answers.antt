@@ -1,3 +1,4 @@
+-- Field after field.
 use Rattle.text.specs.Decimal.{decimal}
 use Rattle.text.specs.Lines.{line_feed, space}
 use Rattle.text.specs.PuttingLaws.{puts-field, field_puts}

@@ -1,3 +1,4 @@
+-- Each end of the call is a case of its definition.
 use Rattle.std.proofs.Common.{◌≤◌, length, ◌∙◌, arith}
 use Rattle.text.specs.Lines.{lines_of}
 use Rattle.mending.specs.Laws.{piece-done}

@@ -1,3 +1,4 @@
+-- Each end of the call is a case of its definition.
 use Rattle.std.proofs.Common.{ℕ, ◌≤◌, false, List, length, ap, ◌∙◌, arith}
 use Rattle.basic_laws.specs.Places.{part-all}
 use Rattle.text.specs.Lines.{lines_of}

@@ -1,3 +1,4 @@
+-- What is left of the line is laid, and its report behind those before it.
 use Rattle.std.proofs.Common.{ℕ, false, [], ◌∷◌, refl, ap, ◌∙◌}
 use Rattle.text.specs.Laying.{lay_leaves}
 use Rattle.mending.specs.LineLaws.{open_told}

@@ -1,3 +1,5 @@
+-- The loop's invariant is `MendingWalk`: text and report of the lines before `at` are laid, and what is to come is that
+-- of the lines from it on. The measure is what is left of the text.
 use Rattle.std.proofs.Common.{◌-◌, length}
 use Rattle.mending.specs.Laws.{MendingWalk}
 use Rattle.mending.proofs.texts.mend_whole.Given as goal

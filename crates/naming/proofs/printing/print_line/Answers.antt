@@ -1,3 +1,4 @@
+-- What is named is printed.
 use Rattle.naming.proofs.printing.print_line.Goals as goal
 
 pub returns : goal.returns

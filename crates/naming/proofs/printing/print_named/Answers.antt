@@ -1,3 +1,4 @@
+-- The text is as long as its count says, and is laid where it fits.
 use Prim.Native.Nat.{◌-◌, ◌≤◌}
 use mathlib.Core.Path.{◌≡◌}
 use lib.ListN.{length, take, drop}
@@ -9,7 +10,6 @@ use borrow.Author.Rules.{rules}
 use Rattle.naming.proofs.printing.print_named.Goals as goal
 use Rattle.naming.proofs.printing.print_named.Goals.{Start}
 
--- The text is as long as its count says, and is laid where it fits.
 -- a refusal is a byte
 refusal-fits : (c : Start) → Fits w8 c.args.named.refusal
 refusal-fits c =

@@ -1,3 +1,4 @@
+-- A refusal's text, or two parts, laid one behind the other.
 use Prim.Native.Nat.{◌+◌}
 use mathlib.Core.Path.{◌≡◌, ap, ◌∙◌}
 use native.Mathlib.Omega.{arith}
@@ -8,7 +9,6 @@ use Rattle.naming.specs.PrintingLaws.{word-length, word_next, word-laid, refused
 use Rattle.naming.proofs.printing.put_described.Goals as goal
 use Rattle.naming.proofs.printing.put_described.Goals.{After-put_word-word}
 
--- A refusal's text, or two parts, laid one behind the other.
 -- the place behind the word
 behind : (c : After-put_word-word) → c.put_word-word.result.next
     ≡ 0 + length (word c.args.named.name)

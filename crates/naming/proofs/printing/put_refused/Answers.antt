@@ -1,3 +1,4 @@
+-- The word and the number behind it are the text.
 use mathlib.Core.Path.{ap, ◌∙◌}
 use Rattle.text.specs.declared.laying.Written.{Written}
 use Rattle.naming.specs.PrintingLaws.{refused-laid, refused-next}

@@ -1,3 +1,4 @@
+-- The text and the feed behind it.
 use Prim.Native.Nat.{◌<◌}
 use native.Mathlib.Omega.{arith}
 use mir.Syntax.{w8}
@@ -7,7 +8,6 @@ use borrow.Author.Rules.{rules}
 use Rattle.naming.proofs.printing.text_of.Goals as goal
 use Rattle.naming.proofs.printing.text_of.Goals.{Start}
 
--- The text and the feed behind it.
 -- a refusal is a byte
 refusal-fits : (c : Start) → Fits w8 c.args.named.refusal
 refusal-fits c =

@@ -1,3 +1,4 @@
+-- The three ends of the call: no room, a last line without a feed, and none.
 use lib.Dec.{lit<}
 use Rattle.pieces.specs.Walk.{finish-open, finish-whole}
 use Rattle.naming.specs.Printing.{printed_line}

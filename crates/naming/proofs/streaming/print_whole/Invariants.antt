@@ -1,3 +1,5 @@
+-- The loop's invariant is `Running`: the text of the lines before `at` is laid, and what is to come is that of the
+-- lines from it on. The measure is what is left of the piece.
 use Prim.Native.Nat.{◌-◌}
 use lib.ListN.{length}
 use Rattle.pieces.specs.Walk.{Running}

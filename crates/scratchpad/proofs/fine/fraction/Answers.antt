@@ -1,3 +1,5 @@
+-- Every product, difference and sum stays far within 32 bits: whole degrees of 16 bits times at most 1020, and two
+-- small numbers.
 use Prim.Native.Nat.{ℕ, ◌-◌, ◌*◌, ◌<◌, ◌≤◌}
 use mathlib.Core.Path.{◌≡◌, ap}
 use native.Mathlib.Omega.{arith}
@@ -14,8 +16,6 @@ use borrow.Author.Rules.{rules}
 use Rattle.scratchpad.proofs.fine.fraction.Goals as goal
 use Rattle.scratchpad.proofs.fine.fraction.Goals.{After-struct_told-1}
 
--- Every product, difference and sum stays far within 32 bits: whole degrees of 16 bits times at most 1020, and two
--- small numbers.
 -- the steps on plain values: z whole degrees, p counts per degree, q = 4 p, l = 4 (p - remaining)
 module _ (z : ℤ) (f : Fits16 z) (p q l : ℕ) (some : 0 < q) (few : q ≤ 1020) (byte : p ≤ 255) (small : l ≤ 1020) where
   product-size : mag (z *ℤ pos q) < q * 32768

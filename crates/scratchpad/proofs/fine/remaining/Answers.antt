@@ -1,3 +1,4 @@
+-- The low four bits of the register are those of the count (`remaining-low`).
 use mathlib.Core.Path.{sym}
 use Rattle.scratchpad.specs.FineLaws.{remaining-low}
 use borrow.Author.Rules.{rules}

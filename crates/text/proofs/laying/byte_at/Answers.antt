@@ -1,3 +1,4 @@
+-- Both characters are digits, so the sum is below 256.
 use Prim.Native.Nat.{ℕ, ◌+◌, ◌<◌}
 use borrow.Author.Tests.{ltb-true}
 use native.Mathlib.Omega.{arith}
@@ -8,7 +9,6 @@ use borrow.Author.Rules.{rules}
 use Rattle.text.proofs.laying.byte_at.Goals as goal
 use Rattle.text.proofs.laying.byte_at.Goals.{Start}
 
--- Both characters are digits, so the sum is below 256.
 -- the value at a place is below 16
 small : (c : Start) (i : ℕ) → i < length c.args.s.now → value_of (get_or c.args.s.now i 0) < 16
 small c i h =

@@ -1,3 +1,5 @@
+-- The loop's invariant: the first `i` of the bytes that the digits stand for are laid from place 0. The measure is what
+-- is left.
 use lib.Seq.{take_all}
 use Rattle.basic_laws.specs.LaidLaws.{laid_next, laid_none}
 use Prim.Native.Nat.{◌+◌, ◌*◌, ◌≤◌, ◌<◌, ◌-◌}

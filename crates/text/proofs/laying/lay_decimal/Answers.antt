@@ -1,3 +1,4 @@
+-- The digits are counted, and laid where they fit.
 use Prim.Native.Nat.{◌+◌, ◌≤◌}
 use mathlib.Core.Path.{sym, ap, ◌∙◌}
 use borrow.Author.Tests.{leb-true, not-true, not-false}
@@ -11,7 +12,6 @@ use borrow.Author.Rules.{rules}
 use Rattle.text.proofs.laying.lay_decimal.Goals as goal
 use Rattle.text.proofs.laying.lay_decimal.Goals.{Else-not-room}
 
--- The digits are counted, and laid where they fit.
 -- behind the test there is room
 room-there : (c : Else-not-room) → 
     

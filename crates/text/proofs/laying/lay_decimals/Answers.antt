@@ -1,3 +1,4 @@
+-- The digits are laid where they fit.
 use Prim.Native.Nat.{◌+◌, ◌≤◌}
 use mathlib.Core.Path.{sym, ◌∙◌}
 use borrow.Author.Tests.{leb-true, not-true, not-false}
@@ -10,7 +11,6 @@ use borrow.Author.Rules.{rules}
 use Rattle.text.proofs.laying.lay_decimals.Goals as goal
 use Rattle.text.proofs.laying.lay_decimals.Goals.{Else-not-room}
 
--- The digits are laid where they fit.
 -- behind the test there is room
 room-there : (c : Else-not-room) → 
     

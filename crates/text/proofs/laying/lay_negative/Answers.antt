@@ -1,3 +1,4 @@
+-- Where there is room for both, the minus is stored and the digits are laid behind it.
 use Prim.Native.Nat.{◌+◌, ◌≤◌}
 use mathlib.Core.List.{◌∷◌}
 use mathlib.Core.Path.{◌≡◌, sym, ◌∙◌}
@@ -11,7 +12,6 @@ use borrow.Author.Rules.{rules}
 use Rattle.text.proofs.laying.lay_negative.Goals as goal
 use Rattle.text.proofs.laying.lay_negative.Goals.{Else-not-room}
 
--- Where there is room for both, the minus is stored and the digits are laid behind it.
 -- both are there
 room-there : (c : Else-not-room) → 
     c.args.at + (1 + length (decimal c.args.size)) ≤ length c.args.out.now

@@ -1,3 +1,4 @@
+-- By the sign, as the definition tests it.
 use lib.IntN.{nat_abs}
 use mathlib.Core.Path.{ap, ◌∙◌}
 use Rattle.text.specs.DecimalLaws.{signed-negative, signed-positive}

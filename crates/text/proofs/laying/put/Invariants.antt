@@ -1,3 +1,4 @@
+-- The loop's invariant: the first `i` characters are laid, and the slice has its length. The measure is what is left.
 use Prim.Native.Nat.{◌+◌, ◌-◌, ◌<◌, ◌≤◌}
 use mathlib.Core.Path.{◌≡◌, refl, ◌∙◌}
 use native.Mathlib.Omega.{arith}

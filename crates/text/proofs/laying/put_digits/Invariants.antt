@@ -1,3 +1,5 @@
+-- The loop's invariant: with the digits that are left laid too, the slice is as it is to be. The measure is how many
+-- are left.
 use Prim.Native.Nat.{ℕ, suc, ◌+◌, ◌-◌, ◌%◌, ◌<◌, ◌≤◌}
 use mathlib.Core.Path.{◌≡◌, refl, ap, ◌∙◌}
 use native.Mathlib.Omega.{arith}

@@ -1,3 +1,5 @@
+-- The loop's invariant: the digits of the first `i` bytes are laid, and the slice has its length. The measure is what
+-- is left.
 use Prim.Native.Nat.{◌≤◌, ◌<◌, ◌-◌}
 use mathlib.Core.Path.{◌≡◌, refl, ◌∙◌}
 use native.Mathlib.Omega.{arith}

@@ -1,3 +1,4 @@
+-- Another character, no room, or all the bytes laid.
 use Prim.Native.Nat.{◌+◌, ◌/◌, ◌≤◌}
 use mathlib.Core.Path.{◌≡◌, sym, ◌∙◌}
 use mathlib.Core.Bool.{true}
@@ -11,7 +12,6 @@ use borrow.Author.Rules.{rules}
 use Rattle.text.proofs.laying.read_bytes.Goals as goal
 use Rattle.text.proofs.laying.read_bytes.Goals.{Else-not-room, Else-not-spelt}
 
--- Another character, no room, or all the bytes laid.
 -- behind the first test all are digits, and behind the second there is room
 spelt-all : (c : Else-not-spelt) → spells 16 c.args.s.now ≡ true
 spelt-all c =

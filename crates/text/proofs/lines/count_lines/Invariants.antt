@@ -1,3 +1,4 @@
+-- The loop's invariant: so many lines stand before the place, at most one for each byte. The measure is what is left.
 use Prim.Native.Nat.{◌+◌, ◌-◌, ◌≤◌}
 use mathlib.Core.Path.{◌≡◌}
 use native.Mathlib.Omega.{arith}

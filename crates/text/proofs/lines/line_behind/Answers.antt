@@ -1,3 +1,4 @@
+-- The line ends behind its feed, which belongs to it, or at the end of the data.
 use Rattle.text.specs.LinesLaws.{behind-fed, behind-open}
 use borrow.Author.Rules.{rules}
 use Rattle.text.proofs.lines.line_behind.Goals as goal

@@ -1,3 +1,5 @@
+-- The loop's invariant: the texts have one length, and what is left of both from `i` on is the same just where the
+-- texts are. The measure is what is left.
 use Prim.Native.Nat.{◌≤◌, ◌-◌}
 use mathlib.Core.Path.{◌≡◌, sym, ◌∙◌}
 use native.Mathlib.Omega.{arith}

@@ -1,3 +1,4 @@
+-- The loop's invariant: whether the characters from `i` on are digits is whether all are. The measure is what is left.
 use mathlib.Core.Bool.{true, false}
 use borrow.Author.Tests.{lt-ltb, le-ltb}
 use lib.Dec.{ltb}

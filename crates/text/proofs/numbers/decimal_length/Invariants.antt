@@ -1,3 +1,5 @@
+-- The loop's invariant: the digits counted and those of what is left are one more than the number's, since the last
+-- digit of all is counted from the start. The measure is what is left.
 use Prim.Native.Nat.{◌+◌}
 use mathlib.Core.Path.{◌≡◌}
 use native.Mathlib.Omega.{arith}

@@ -1,3 +1,6 @@
+-- The loop's invariant: the first `i` characters are digits, and make a number up to the bound. A character that is no
+-- digit, or a digit that takes the number past the bound, ends the loop: digits behind it make no number smaller. The
+-- measure is what is left.
 use Prim.Native.Nat.{◌-◌, ◌<◌, ◌≤◌}
 use mathlib.Core.Path.{◌≡◌, refl, sym, ◌∙◌}
 use mathlib.Core.Bool.{true}

@@ -1,3 +1,4 @@
+-- Digits in the front of a line of digits are a number.
 use Prim.Native.Nat.{◌^◌, ◌<◌}
 use mathlib.Core.Path.{◌≡◌, ap, ◌∙◌}
 use mathlib.Core.Bool.{true}
@@ -14,7 +15,6 @@ use borrow.Author.Rules.{rules}
 use Rattle.frame.proofs.frame_lines.parsing.count_of.Goals as goal
 use Rattle.frame.proofs.frame_lines.parsing.count_of.Goals.{After-read_fixed-read, Start}
 
--- Digits in the front of a line of digits are a number.
 -- the four digits, and the number that was read
 four : (c : Start) → length (take 4 (drop 2 c.args.line.now)) ≡ 4
 four c =

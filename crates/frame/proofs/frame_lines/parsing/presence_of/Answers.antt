@@ -1,3 +1,4 @@
+-- Digits in the front of a line of digits are a number.
 use mathlib.Core.Path.{◌≡◌, ap, ◌∙◌}
 use native.Mathlib.Omega.{arith}
 use lib.ListN.{length, take}

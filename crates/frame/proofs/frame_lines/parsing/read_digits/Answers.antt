@@ -1,3 +1,4 @@
+-- One law of the definition for each answer; `shown` and `allowed` say what was read of the head.
 use Prim.Native.Nat.{ℕ, ◌+◌, ◌*◌, ◌-◌, ◌≤◌}
 use mathlib.Core.Path.{◌≡◌, sym, ap, ◌∙◌}
 use mathlib.Core.Bool.{◌||◌}
@@ -17,7 +18,6 @@ use borrow.Author.Rules.{rules}
 use Rattle.frame.proofs.frame_lines.parsing.read_digits.Goals as goal
 use Rattle.frame.proofs.frame_lines.parsing.read_digits.Goals.{After-count_allowed-allowed, After-presence_of-presence, Else-line-length, Else-not-allowed}
 
--- One law of the definition for each answer; `shown` and `allowed` say what was read of the head.
 -- the digits of presence, read
 shown : (c : After-presence_of-presence) → c.presence_of-presence.result ≡ presence_in c.args.line.now
 shown c =

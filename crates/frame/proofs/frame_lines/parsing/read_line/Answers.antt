@@ -1,3 +1,4 @@
+-- One law of the definition for each answer.
 use mathlib.Core.Path.{sym, ap, ◌∙◌}
 use borrow.Author.Tests.{not-true, not-false}
 use Rattle.frame.specs.ReadLine.{LineContent, found, line_answer_of}

@@ -1,3 +1,4 @@
+-- The decoded bytes lie over 64 zeros, and those before place n are the ones decoded.
 use borrow.Author.Tests.{not-true, not-false}
 use Prim.Native.Nat.{◌+◌, ◌-◌, ◌≤◌}
 use mathlib.Core.Path.{◌≡◌, sym, ap, ◌∙◌}
@@ -15,7 +16,6 @@ use borrow.Author.Rules.{rules}
 use Rattle.frame.proofs.frame_lines.parsing.read_slots.Goals as goal
 use Rattle.frame.proofs.frame_lines.parsing.read_slots.Goals.{After-clear_from-clear, After-read_bytes, Start}
 
--- The decoded bytes lie over 64 zeros, and those before place n are the ones decoded.
 -- how many bytes the digits stand for
 many : (c : Start) → length (bytes_of c.args.body.now) ≡ bytes_for c.args.count
 many c =

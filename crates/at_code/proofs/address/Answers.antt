@@ -1,0 +1,8 @@
+use Rattle.master_rules.specs.Access.{addressed}
+use borrow.Author.Rules.{rules}
+use Rattle.at_code.proofs.address.Goals as goal
+
+pub returns : goal.returns
+unfolding addressed
+returns c =
+    record { answer = simp (c.send-matching.ensures.answer, c.send-matched.ensures.answer, c.send.ensures.answer) }

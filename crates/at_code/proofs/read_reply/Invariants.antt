@@ -1,0 +1,19 @@
+use Prim.Native.Nat.{ℕ, ◌≤◌, ◌<◌, ◌-◌, ◌*◌}
+use mathlib.Core.Path.{◌≡◌, refl}
+use native.Mathlib.Omega.{arith}
+use lib.ListN.{length, replicate}
+use Rattle.basic_laws.specs.Laid.{laid}
+use Rattle.basic_laws.specs.LaidLaws.{laid_none}
+use Rattle.search_laws.specs.Wire.{slots}
+use Rattle.at_code.specs.Replies.{byte_read_of, replied}
+use Rattle.master_rules.specs.Access.{after_slots, bytes_shown}
+use Rattle.at_code.specs.Laws.{bytes-bench, bytes-more, bytes-all}
+use Rattle.at_code.proofs.read_reply.Given as goal
+
+abbrev pub invariant-loop-i : goal.invariant-loop-i
+invariant-loop-i l =
+    (l.i ≤ 9) × (l.b ≡ after_slots (8 * l.i) l.initial.b) × (l.pad ≡ laid l.initial.pad 0 (bytes_shown l.i l.initial.b))
+
+abbrev pub decreases-loop-i : goal.decreases-loop-i
+decreases-loop-i l =
+    9 - l.i

@@ -1,0 +1,15 @@
+use Prim.Native.Nat.{◌≤◌, ◌-◌}
+use mathlib.Core.Path.{◌≡◌, ◌∙◌, sym}
+use native.Mathlib.Omega.{arith}
+use Rattle.search_laws.specs.ReadsLaws.{bits-turn, bits-end}
+use Rattle.master_rules.specs.Buses.{calls}
+use Rattle.master_rules.specs.Wire.{sent}
+use Rattle.at_code.proofs.send.Given as goal
+
+abbrev pub invariant-loop-i : goal.invariant-loop-i
+invariant-loop-i l =
+    (l.i ≤ l.count) × (sent (l.count - l.i) l.left l.b ≡ sent l.count l.number l.initial.b)
+
+abbrev pub decreases-loop-i : goal.decreases-loop-i
+decreases-loop-i l =
+    l.count - l.i

@@ -1,0 +1,7 @@
+-- By the empty bench.
+use borrow.Author.Rules.{rules}
+use Rattle.bench.proofs.no_bench.Goals as goal
+
+pub returns : goal.returns
+returns c =
+    record { answer = rw c.new.ensures.answer }

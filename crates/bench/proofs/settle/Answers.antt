@@ -1,0 +1,7 @@
+-- By the table of all devices.
+use borrow.Author.Rules.{rules}
+use Rattle.bench.proofs.settle.Goals as goal
+
+pub returns : goal.returns
+returns c =
+    record { answer = rw c.settle_all.ensures.answer }

@@ -1,0 +1,22 @@
+use mathlib.Core.Path.{sym, ◌∙◌}
+use borrow.Author.Tests.{not-true, not-false}
+use Rattle.bench_answers.specs.Answers.{bit_line}
+use Rattle.bench_answers.specs.AnswersLaws.{bit-short}
+use Rattle.text.specs.PuttingLaws.{line_refused, line-done}
+use borrow.Author.Rules.{rules}
+use Rattle.bench_answers.proofs.bit_line.Goals as goal
+
+pub returns-then-not-room : goal.returns-then-not-room
+returns-then-not-room c =
+    let a = c.args in
+    let none = line_refused a.out.now a.at (bit_line a.refusal a.bit) (sym c.has_room-room.ensures.answer
+    ∙ c.if-not-room.true) in
+    record { answer = c.no_room.ensures.answer ∙ none.0; written = none.1 }
+
+pub returns : goal.returns
+returns c =
+    let a = c.args in
+    let short = bit-short a.refusal a.bit (search rules) in
+    let done = line-done a.out.now a.at (bit_line a.refusal a.bit) (sym c.has_room-room.ensures.answer
+    ∙ c.if-not-room.false) short _ _ c.put_bit.ensures in
+    record { answer = c.behind.ensures.answer ∙ done.0; written = done.1 }

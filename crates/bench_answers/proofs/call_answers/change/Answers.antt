@@ -1,0 +1,17 @@
+use mathlib.Core.Path.{ap, ◌∙◌}
+use Rattle.bench_answers.specs.Answers.{refusal_line}
+use Rattle.bench_answers.specs.AnswersLaws.{refusal-short}
+use Rattle.bench_answers.specs.SaidLaws.{said-so, said-short}
+use Rattle.bench_answers.specs.declared.call_answers.Said.{Said}
+use borrow.Author.Rules.{rules}
+use Rattle.bench_answers.proofs.call_answers.change.Goals as goal
+
+pub returns : goal.returns
+returns c =
+    let count = ap (λ (s : Said). s.count) c.say.ensures.answer in
+    
+    let short = refusal-short c.args.done.refusal (search rules) in
+    let answer = c.refusal_line-w.ensures.answer in
+    let said = said-so c.args.out.now (refusal_line c.args.done.refusal) c.refusal_line-w.result
+    c.args.done.bench answer in record { answer = c.say.ensures.answer ∙ said; written = c.refusal_line-w.ensures.written; fits = rw count (said-short c.args.out.now (refusal_line c.args.done.refusal) c.refusal_line-w.result
+            c.args.done.bench answer short) }

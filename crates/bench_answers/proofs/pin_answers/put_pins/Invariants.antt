@@ -1,0 +1,13 @@
+use Prim.Native.Nat.{◌-◌, ◌≤◌}
+use native.Mathlib.Omega.{arith}
+use lib.ListN.{length}
+use Rattle.bench_answers.specs.PinLinesLaws.{Put, put-none, put-size, put-more, put_all}
+use Rattle.bench_answers.proofs.pin_answers.put_pins.Given as goal
+
+abbrev pub invariant-loop-i : goal.invariant-loop-i
+invariant-loop-i l =
+    (l.i ≤ length l.codes) × Put l.initial.out l.at l.codes l.pins l.i l.to l.out
+
+abbrev pub decreases-loop-i : goal.decreases-loop-i
+decreases-loop-i l =
+    length l.codes - l.i

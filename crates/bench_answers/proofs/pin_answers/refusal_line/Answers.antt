@@ -1,0 +1,23 @@
+use mathlib.Core.Path.{sym, ◌∙◌}
+use borrow.Author.Tests.{not-true, not-false}
+use Rattle.master_rules.specs.declared.SharedPin.TheVariants.{NoPin}
+use Rattle.bench_answers.specs.PinLines.{pins_line}
+use Rattle.bench_answers.specs.PinLinesLaws.{pins-refusal-short}
+use Rattle.text.specs.PuttingLaws.{line_refused, line-done}
+use borrow.Author.Rules.{rules}
+use Rattle.bench_answers.proofs.pin_answers.refusal_line.Goals as goal
+
+pub returns-then-not-room : goal.returns-then-not-room
+returns-then-not-room c =
+    let a = c.args in
+    let none = line_refused a.out.now a.at (pins_line a.refusal 0 NoPin) (sym c.has_room-room.ensures.answer
+    ∙ c.if-not-room.true) in
+    record { answer = c.no_room.ensures.answer ∙ none.0; written = none.1 }
+
+pub returns : goal.returns
+returns c =
+    let a = c.args in
+    let short = pins-refusal-short a.refusal (search rules) in
+    let done = line-done a.out.now a.at (pins_line a.refusal 0 NoPin) (sym c.has_room-room.ensures.answer
+    ∙ c.if-not-room.false) short _ _ c.put_counts.ensures in
+    record { answer = c.behind.ensures.answer ∙ done.0; written = done.1 }

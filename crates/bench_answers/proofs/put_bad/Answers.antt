@@ -1,0 +1,10 @@
+use Rattle.bench_answers.specs.Answers.{bad_line}
+use Rattle.text.specs.PuttingLaws.{puts-laid}
+use borrow.Author.Rules.{rules}
+use Rattle.bench_answers.proofs.put_bad.Goals as goal
+
+pub returns : goal.returns
+returns c =
+    let a = c.args in
+    puts-laid a.out.now a.at bad_line c.lay-w.new.out c.lay-w.result c.lay-w.ensures.answer
+    c.lay-w.ensures.written

@@ -1,0 +1,14 @@
+use mathlib.Core.Path.{ap, ◌∙◌}
+use Rattle.lines.specs.Fields.{places_in}
+use borrow.Author.Rules.{rules}
+use Rattle.bench_requests.proofs.calls.pins.Goals as goal
+
+pub returns-then-places : goal.returns-then-places
+returns-then-places c =
+    let read = c.places_in-places.ensures.answer ∙ ap places_in c.word.ensures.answer in
+    rw (← read, c.if-places.true)
+
+pub returns : goal.returns
+returns c =
+    let read = c.places_in-places.ensures.answer ∙ ap places_in c.word.ensures.answer in
+    rw (← read, c.if-places.false)

@@ -1,0 +1,15 @@
+use borrow.Author.Tests.{lt-leb, le-leb}
+use Rattle.bench_requests.specs.Requests.{request_of}
+use borrow.Author.Rules.{rules}
+use Rattle.bench_requests.proofs.parse.Goals as goal
+
+-- By the definition's own tests.
+pub returns-then-line-gt-LONGEST : goal.returns-then-line-gt-LONGEST
+unfolding request_of
+returns-then-line-gt-LONGEST c =
+    record { answer = simp (lt-leb _ _ c.if-line-gt-LONGEST.true) }
+
+pub returns : goal.returns
+unfolding request_of
+returns c =
+    record { answer = simp (le-leb _ _ c.if-line-gt-LONGEST.false, c.of_bench.ensures) }

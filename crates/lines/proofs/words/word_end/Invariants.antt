@@ -1,0 +1,16 @@
+use Prim.Native.Nat.{◌+◌, ◌≤◌, ◌-◌}
+use mathlib.Core.Path.{◌≡◌, refl, sym, ◌∙◌}
+use native.Mathlib.Omega.{arith}
+use lib.ListN.{length, drop}
+use Rattle.text.specs.Lines.{space}
+use Rattle.lines.specs.Words.{space_at}
+use Rattle.basic_laws.specs.FirstLaws.{at_here, at_on, at-end}
+use Rattle.lines.proofs.words.word_end.Given as goal
+
+abbrev pub invariant-loop-i : goal.invariant-loop-i
+invariant-loop-i l =
+    (l.i ≤ length l.line) × (l.i + space_at (drop l.i l.line) ≡ l.at + space_at (drop l.at l.line))
+
+abbrev pub decreases-loop-i : goal.decreases-loop-i
+decreases-loop-i l =
+    length l.line - l.i

@@ -1,0 +1,19 @@
+use Prim.Native.Nat.{ℕ, ◌+◌, ◌*◌, ◌≤◌, ◌-◌}
+use mathlib.Core.Path.{◌≡◌, ◌∙◌, sym, ap, refl}
+use mathlib.Core.List.{◌++◌}
+use native.Mathlib.Omega.{arith}
+use lib.ListN.{length, take, drop, length-set}
+use Rattle.packed_bench.specs.Packed.{fields_of}
+use Rattle.packed_bench.specs.Table.{devices_in}
+use Rattle.packed_bench.specs.LoopLaws.{read-turn, read-stop, read-end}
+use Rattle.packed_bench.proofs.entries.read_entries.Given as goal
+
+abbrev pub invariant-loop-i : goal.invariant-loop-i
+invariant-loop-i l =
+    (l.i ≤ 32)
+    × (length l.devices ≡ 32)
+    × (devices_in 32 l.t ≡ take l.i l.devices ++ devices_in (32 - l.i) (drop (48 * l.i) l.t))
+
+abbrev pub decreases-loop-i : goal.decreases-loop-i
+decreases-loop-i l =
+    32 - l.i

@@ -1,0 +1,18 @@
+use Prim.Native.Nat.{ℕ, ◌+◌, ◌-◌, ◌≤◌}
+use mathlib.Core.Path.{◌≡◌, ap, ◌∙◌}
+use native.Mathlib.Omega.{arith}
+use lib.ListN.{length, take, get_or, length-take}
+use mathlib.Core.List.{List}
+use lib.Seq.{take_all}
+use Rattle.master_rules.specs.Pins.{have_pin}
+use Rattle.pins.specs.ReadingLaws.{have-none, have-more, have-few}
+use Rattle.pins.specs.Reading.{counted_pin}
+use Rattle.pins.proofs.have_pin.Given as goal
+
+abbrev pub invariant-loop-i : goal.invariant-loop-i
+invariant-loop-i l =
+    (l.i ≤ length l.pins) × (l.have ≡ have_pin (take l.i l.pins) l.pin) × (l.have ≤ l.i)
+
+abbrev pub decreases-loop-i : goal.decreases-loop-i
+decreases-loop-i l =
+    length l.pins - l.i

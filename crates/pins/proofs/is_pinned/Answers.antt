@@ -1,0 +1,6 @@
+use borrow.Author.Rules.{rules}
+use Rattle.pins.proofs.is_pinned.Goals as goal
+
+pub returns : goal.returns
+returns c =
+    record { answer = simp (c.properties_of-row.ensures.answer, c.family_of.ensures.answer) }

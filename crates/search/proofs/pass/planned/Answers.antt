@@ -1,0 +1,11 @@
+use borrow.Author.Tests.{le-ltb, lt-ltb}
+use borrow.Author.Rules.{rules}
+use Rattle.search.proofs.pass.planned.Goals as goal
+
+pub returns-then-place-departure : goal.returns-then-place-departure
+returns-then-place-departure c =
+    record { answer = simp (lt-ltb _ _ c.if-place-departure.true) }
+
+pub returns : goal.returns
+returns c =
+    record { answer = simp (le-ltb _ _ c.if-place-departure.false) }

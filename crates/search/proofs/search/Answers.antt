@@ -1,0 +1,8 @@
+use Rattle.history_laws.specs.Theorem.{search-promised}
+use borrow.Author.Rules.{rules}
+use Rattle.search.proofs.search.Goals as goal
+
+pub returns : goal.returns
+returns c =
+    let e = c.run_search.ensures in
+    record { answer = e.answer; listed = e.listed; written = e.written; history = search-promised _ _ _ }

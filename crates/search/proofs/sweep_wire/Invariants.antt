@@ -1,0 +1,24 @@
+use Prim.Native.Nat.{◌+◌, ◌≤◌, ◌-◌}
+use mathlib.Core.List.{List}
+use Prim.Native.Nat.{ℕ}
+use mathlib.Core.Path.{◌≡◌, refl, ap, ◌∙◌}
+use mathlib.Core.Logic.{⊎_elim}
+use native.Mathlib.Omega.{arith}
+use lib.Dec.{lit<}
+use lib.ListN.{length}
+use Rattle.bench.specs.declared.Bench.{Bench}
+use Rattle.master_rules.specs.Search.{fewest_places, fewest_bytes}
+use Rattle.search.specs.Sweep.{Sweeping, no_pass, sweeping-start, sweeping-as, sweeping-pass, sweeping-over}
+use Rattle.search.specs.Sweep.{sweeping-lengths, sweeping-end}
+use Rattle.search.proofs.sweep_wire.Given as goal
+
+abbrev pub invariant-loop-i : goal.invariant-loop-i
+invariant-loop-i l =
+    (l.i ≤ 32)
+    × ((b : Bench) (codes bytes : List ℕ) → fewest_places ≤ length codes → fewest_bytes ≤ length bytes
+    → Sweeping l.command b codes bytes 1 l.initial.s l.initial.list l.initial.recording
+    → Sweeping l.command b codes bytes l.i l.s l.list l.recording)
+
+abbrev pub decreases-loop-i : goal.decreases-loop-i
+decreases-loop-i l =
+    32 - l.i

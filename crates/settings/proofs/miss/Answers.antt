@@ -1,0 +1,6 @@
+use borrow.Author.Rules.{rules}
+use Rattle.settings.proofs.miss.Goals as goal
+
+pub returns : goal.returns
+returns c =
+    rw c.blank_entry.ensures

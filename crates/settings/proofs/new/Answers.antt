@@ -1,0 +1,6 @@
+use borrow.Author.Rules.{rules}
+use Rattle.settings.proofs.new.Goals as goal
+
+pub returns : goal.returns
+returns c =
+    record { answer = rw c.blank_entry-blank.ensures }

@@ -1,0 +1,8 @@
+use Rattle.settings.specs.Calls.{settings_read}
+use borrow.Author.Rules.{rules}
+use Rattle.settings.proofs.read.Goals as goal
+
+pub returns : goal.returns
+unfolding settings_read
+returns c =
+    record { answer = simp (← c.locate-found.ensures.answer) }

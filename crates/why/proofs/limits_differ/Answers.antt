@@ -1,0 +1,11 @@
+use borrow.Author.Tests.{ne_eqb, eq-eqb}
+use borrow.Author.Rules.{rules}
+use Rattle.why.proofs.limits_differ.Goals as goal
+
+pub returns-then-pad-page : goal.returns-then-pad-page
+returns-then-pad-page c =
+    simp (ne_eqb _ _ c.if-pad-page.true)
+
+pub returns : goal.returns
+returns c =
+    simp (eq-eqb _ _ c.if-pad-page.false)
