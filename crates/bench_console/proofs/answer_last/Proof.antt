@@ -6,7 +6,7 @@ use lib.ListN.{length-take}
 use Rattle.text.specs.Lines.{Line}
 use Rattle.bench_session.specs.SettingsSession.{both, bench_console}
 use Rattle.bench_session.specs.SettingsSessionLaws.{told-front}
-use Rattle.sessions.specs.SessionLaws.{end-said}
+use Rattle.sessions.proofs.SessionLaws.{end-said}
 use borrow.Author.Rules.{rules}
 use Rattle.bench_console.proofs.answer_last.Statement.{statement}
 use Rattle.bench_console.proofs.answer_last.Tie as tie

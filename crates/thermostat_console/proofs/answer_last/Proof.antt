@@ -6,7 +6,7 @@ use lib.ListN.{length-take}
 use Rattle.text.specs.Lines.{Line}
 use Rattle.thermostat_session.specs.ProbeSession.{probe_console}
 use Rattle.thermostat_session.specs.ProbeSessionLaws.{said-front}
-use Rattle.sessions.specs.SessionLaws.{end-said}
+use Rattle.sessions.proofs.SessionLaws.{end-said}
 use borrow.Author.Rules.{rules}
 use Rattle.thermostat_console.proofs.answer_last.Statement.{statement}
 use Rattle.thermostat_console.proofs.answer_last.Tie as tie
