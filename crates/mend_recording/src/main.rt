@@ -1,6 +1,8 @@
 // Mends a recording that went through an editor: reads it from standard input, and writes what is left of
 // it to standard output, and to standard error the number of each line that was not kept with the report
 // on it. It only moves bytes; what becomes of a line is decided by the libraries.
+#![tactic(auto)]
+
 ghost use Rattle.std.specs.Prelude.{◌+◌, ◌-◌, ◌*◌, ◌%◌, ◌^◌, ◌<◌, ◌≤◌, ◌≡◌, ◌++◌, length, take};
 ghost use Rattle.pieces.specs.Carried.{carried_in, most_carried, behind};
 ghost use Rattle.pieces.specs.Pieces.{said_whole, carried};
@@ -8,7 +10,6 @@ ghost use Rattle.mending.specs.Mending.{mended_bytes, mended_text, reports};
 ghost use Rattle.mending.specs.Claims.{most_held_of_mending, report_said};
 ghost use Rattle.mending.specs.Notice.{notices_of, lines_after, most_told, RoomToMend};
 
-use libc::{STDERR_FILENO, STDIN_FILENO, STDOUT_FILENO};
 use mending::{answers, texts};
 use pieces::Carried;
 
@@ -30,52 +31,60 @@ struct Run {
 }
 
 // Reads once, behind the bytes that are carried over, and answers how many bytes there are now.
-fn read_behind(buffer: &mut [u8], held: usize) -> usize
+fn read_behind(rt: &impl Input, buffer: &mut [u8], held: usize) -> usize
     requires { held ≤ length buffer.old }
     ensures answer { (held ≤ result) × (result ≤ length buffer.old) }
     ensures kept { take held buffer.new ≡ take held buffer.old }
 {
-    let got = libc::read(STDIN_FILENO, &mut buffer[held..]);
-    held + io::count(got, &buffer[held..])
+    held + streams::read(rt, &mut buffer[held..])
 }
 
 // Hands on what is left of the lines of a piece that have their feed.
-fn write_left(piece: &[u8], left: &[u8]) -> bool
+fn write_left(rt: &impl Print, piece: &[u8], left: &[u8]) -> bool
     requires { left.now ≡ said_whole mended_bytes piece.now }
 {
-    io::write_all(STDOUT_FILENO, left)
+    streams::write_all(rt, left)
 }
 
 // Hands on what is told of them, behind so many lines before.
-fn write_told(piece: &[u8], before: u64, told: &[u8])
+fn write_told(errors: &impl Print, piece: &[u8], before: u64, told: &[u8])
     requires { told.now ≡ notices_of before (said_whole report_said piece.now) }
 {
-    io::write_all(STDERR_FILENO, told);
+    streams::write_all(errors, told);
 }
 
 // The same of what was carried to the end of the input.
-fn write_last(carried: Carried, before: u64, left: &[u8], told: &[u8])
+fn write_last(
+    rt: &impl Print,
+    errors: &impl Print,
+    carried: Carried,
+    before: u64,
+    left: &[u8],
+    told: &[u8],
+)
     requires { (left.now ≡ mended_text (carried_in carried))
         × (told.now ≡ notices_of before (reports (carried_in carried))) }
 {
-    io::write_all(STDERR_FILENO, told);
-    io::write_all(STDOUT_FILENO, left);
+    streams::write_all(errors, told);
+    streams::write_all(rt, left);
 }
 
 // Tells of the lines of a piece by their reports; the answer is how many lines there are now.
-fn tell_piece(piece: &[u8], report: &[u8], before: u64, told: &mut [u8]) -> u64
+fn tell_piece(errors: &impl Print, piece: &[u8], report: &[u8], before: u64, told: &mut [u8]) -> u64
     requires { (report.now ≡ said_whole report_said piece.now)
         × (most_told * length report.now ≤ length told.old) }
     ensures answer { result ≡ lines_after before (said_whole report_said piece.now) }
 {
     let noticed = answers::notices(told, report, before);
     let end = noticed.written;
-    write_told(piece, before, &told[..end]);
+    write_told(errors, piece, before, &told[..end]);
     noticed.lines
 }
 
 // Mends the lines of a piece that have their feed. So many of its bytes were carried.
 fn mend_piece(
+    rt: &impl Print,
+    errors: &impl Print,
     run: Run,
     piece: &[u8],
     held: usize,
@@ -91,9 +100,9 @@ fn mend_piece(
 {
     let fed = texts::feed(piece, left, report);
     let count = fed.lines;
-    let lines = tell_piece(piece, &report[..count], run.lines, told);
+    let lines = tell_piece(errors, piece, &report[..count], run.lines, told);
     let end = fed.written;
-    let wrote = write_left(piece, &left[..end]);
+    let wrote = write_left(rt, piece, &left[..end]);
     let carried = fed.carried;
     let came = piece.len() - held;
     Run {
@@ -106,6 +115,8 @@ fn mend_piece(
 
 // One read. What came stands in the buffer behind what was carried.
 fn next_piece(
+    rt: &(impl Input + Print),
+    errors: &impl Print,
     run: Run,
     buffer: &mut [u8],
     left: &mut [u8],
@@ -123,12 +134,20 @@ fn next_piece(
 {
     let put = pieces::put_back(run.carried, buffer);
     let held = put.next;
-    let filled = read_behind(buffer, held);
-    mend_piece(run, &buffer[..filled], held, left, report, told)
+    let filled = read_behind(rt, buffer, held);
+    mend_piece(rt, errors, run, &buffer[..filled], held, left, report, told)
 }
 
 // What is carried to the end of the input: a last line without a feed.
-fn mend_last(run: Run, buffer: &mut [u8], left: &mut [u8], report: &mut [u8], told: &mut [u8])
+fn mend_last(
+    rt: &impl Print,
+    errors: &impl Print,
+    run: Run,
+    buffer: &mut [u8],
+    left: &mut [u8],
+    report: &mut [u8],
+    told: &mut [u8],
+)
     requires { (most_carried ≤ length buffer.old) × RoomToMend buffer.old left.old report.old told.old }
 {
     let put = pieces::put_back(run.carried, buffer);
@@ -138,10 +157,24 @@ fn mend_last(run: Run, buffer: &mut [u8], left: &mut [u8], report: &mut [u8], to
     let noticed = answers::notices(told, &report[..count], run.lines);
     let end = last.written;
     let told_end = noticed.written;
-    write_last(run.carried, run.lines, &left[..end], &told[..told_end]);
+    write_last(
+        rt,
+        errors,
+        run.carried,
+        run.lines,
+        &left[..end],
+        &told[..told_end],
+    );
 }
 
-fn mend_recording(buffer: &mut [u8], left: &mut [u8], report: &mut [u8], told: &mut [u8])
+fn mend_recording(
+    rt: &(impl Input + Print),
+    errors: &impl Print,
+    buffer: &mut [u8],
+    left: &mut [u8],
+    report: &mut [u8],
+    told: &mut [u8],
+)
     requires { (most_carried ≤ length buffer.old) × RoomToMend buffer.old left.old report.old told.old }
 {
     let mut run = Run {
@@ -151,15 +184,22 @@ fn mend_recording(buffer: &mut [u8], left: &mut [u8], report: &mut [u8], told: &
         reads: u64::MAX,
     };
     while run.reads > 0 {
-        run = next_piece(run, buffer, left, report, told);
+        run = next_piece(rt, errors, run, buffer, left, report, told);
     }
-    mend_last(run, buffer, left, report, told);
+    mend_last(rt, errors, run, buffer, left, report, told);
 }
 
-fn main() {
+fn main(rt: HostRuntime) {
     let mut buffer = [0u8; PIECE];
     let mut left = [0u8; PIECE];
     let mut report = [0u8; PIECE];
     let mut told = [0u8; TOLD];
-    mend_recording(&mut buffer, &mut left, &mut report, &mut told);
+    mend_recording(
+        &rt,
+        &rt.stderr(),
+        &mut buffer,
+        &mut left,
+        &mut report,
+        &mut told,
+    );
 }

@@ -1,12 +1,13 @@
 // Names the frames of a recording: reads it from standard input and prints one line for each of its
 // lines. It only moves bytes; what is printed is decided by the library.
+#![tactic(auto)]
+
 ghost use Rattle.std.specs.Prelude.{◌≡◌, ◌++◌, ◌-◌, ◌*◌, ◌<◌, ◌≤◌, length, take};
 ghost use Rattle.pieces.specs.Carried.{carried_in, most_carried, behind};
 ghost use Rattle.pieces.specs.Pieces.{said, said_whole, carried};
 ghost use Rattle.naming.specs.Printing.{printed_line};
 ghost use Rattle.naming.specs.Streaming.{most_printed, most_held_of_recording};
 
-use libc::{STDIN_FILENO, STDOUT_FILENO};
 use naming::streaming;
 use pieces::Carried;
 
@@ -25,31 +26,30 @@ struct Run {
 }
 
 // Reads once, behind the bytes that are carried over, and answers how many bytes there are now.
-fn read_behind(buffer: &mut [u8], held: usize) -> usize
+fn read_behind(rt: &impl Input, buffer: &mut [u8], held: usize) -> usize
     requires { held ≤ length buffer.old }
     ensures answer { (held ≤ result) × (result ≤ length buffer.old) }
     ensures kept { take held buffer.new ≡ take held buffer.old }
 {
-    let got = libc::read(STDIN_FILENO, &mut buffer[held..]);
-    held + io::count(got, &buffer[held..])
+    held + streams::read(rt, &mut buffer[held..])
 }
 
 // Hands to the output what is said for the whole lines of a piece.
-fn write_said(piece: &[u8], text: &[u8]) -> bool
+fn write_said(rt: &impl Print, piece: &[u8], text: &[u8]) -> bool
     requires { text.now ≡ said_whole printed_line piece.now }
 {
-    io::write_all(STDOUT_FILENO, text)
+    streams::write_all(rt, text)
 }
 
 // Hands to the output what is said for what was carried to the end of the input.
-fn write_last(carried: Carried, text: &[u8])
+fn write_last(rt: &impl Print, carried: Carried, text: &[u8])
     requires { text.now ≡ said printed_line (carried_in carried) }
 {
-    io::write_all(STDOUT_FILENO, text);
+    streams::write_all(rt, text);
 }
 
 // Prints the lines of a piece that have their feed. So many of its bytes were carried.
-fn print_piece(piece: &[u8], held: usize, reads: u64, text: &mut [u8]) -> Run
+fn print_piece(rt: &impl Print, piece: &[u8], held: usize, reads: u64, text: &mut [u8]) -> Run
     requires { (held ≤ length piece.now) × (most_printed * length piece.now ≤ length text.old) }
     ensures carries { carried_in result.carried ≡ carried most_held_of_recording piece.now }
     ensures came { result.came ≡ length piece.now - held }
@@ -59,7 +59,7 @@ fn print_piece(piece: &[u8], held: usize, reads: u64, text: &mut [u8]) -> Run
     let end = fed.written;
     let carried = fed.carried;
     let came = piece.len() - held;
-    let wrote = write_said(piece, &text[..end]);
+    let wrote = write_said(rt, piece, &text[..end]);
     Run {
         carried,
         came,
@@ -68,7 +68,7 @@ fn print_piece(piece: &[u8], held: usize, reads: u64, text: &mut [u8]) -> Run
 }
 
 // One read. What came stands in the buffer behind what was carried.
-fn next_piece(run: Run, buffer: &mut [u8], text: &mut [u8]) -> Run
+fn next_piece(rt: &(impl Input + Print), run: Run, buffer: &mut [u8], text: &mut [u8]) -> Run
     requires { (most_carried ≤ length buffer.old) × (most_printed * length buffer.old ≤ length text.old) }
     ensures carries { carried_in result.carried
         ≡ carried most_held_of_recording (carried_in run.carried
@@ -77,22 +77,22 @@ fn next_piece(run: Run, buffer: &mut [u8], text: &mut [u8]) -> Run
 {
     let put = pieces::put_back(run.carried, buffer);
     let held = put.next;
-    let filled = read_behind(buffer, held);
-    print_piece(&buffer[..filled], held, run.reads, text)
+    let filled = read_behind(rt, buffer, held);
+    print_piece(rt, &buffer[..filled], held, run.reads, text)
 }
 
 // Prints what is carried to the end of the input: a last line without a feed.
-fn print_last(run: Run, buffer: &mut [u8], text: &mut [u8])
+fn print_last(rt: &impl Print, run: Run, buffer: &mut [u8], text: &mut [u8])
     requires { (most_carried ≤ length buffer.old) × (most_printed * length buffer.old ≤ length text.old) }
 {
     let put = pieces::put_back(run.carried, buffer);
     let end = put.next;
     let last = streaming::finish(&buffer[..end], text);
     let text_end = last.next;
-    write_last(run.carried, &text[..text_end]);
+    write_last(rt, run.carried, &text[..text_end]);
 }
 
-fn print_recording(buffer: &mut [u8], text: &mut [u8])
+fn print_recording(rt: &(impl Input + Print), buffer: &mut [u8], text: &mut [u8])
     requires { (most_carried ≤ length buffer.old) × (most_printed * length buffer.old ≤ length text.old) }
 {
     let mut run = Run {
@@ -101,13 +101,13 @@ fn print_recording(buffer: &mut [u8], text: &mut [u8])
         reads: u64::MAX,
     };
     while run.reads > 0 {
-        run = next_piece(run, buffer, text);
+        run = next_piece(rt, run, buffer, text);
     }
-    print_last(run, buffer, text);
+    print_last(rt, run, buffer, text);
 }
 
-fn main() {
+fn main(rt: HostRuntime) {
     let mut buffer = [0u8; PIECE];
     let mut text = [0u8; TEXT];
-    print_recording(&mut buffer, &mut text);
+    print_recording(&rt, &mut buffer, &mut text);
 }

@@ -6,9 +6,9 @@ use Rattle.bench_answers.proofs.show_line.Goals as goal
 pub returns-then-refusal-eq-ACCEPTED : goal.returns-then-refusal-eq-ACCEPTED
 unfolding show_line
 returns-then-refusal-eq-ACCEPTED c =
-    let all = rw (eq-eqb _ _ c.if-refusal-eq-ACCEPTED.true) c.record_line.ensures in record { answer = all.0; written = all.1 }
+    rw (eq-eqb _ _ c.if-refusal-eq-ACCEPTED.true) (record { answer = c.record_line.ensures.answer; written = c.record_line.ensures.written })
 
 pub returns : goal.returns
 unfolding show_line
 returns c =
-    let all = rw (ne_eqb _ _ c.if-refusal-eq-ACCEPTED.false) c.record_line-2.ensures in record { answer = all.0; written = all.1 }
+    rw (ne_eqb _ _ c.if-refusal-eq-ACCEPTED.false) (record { answer = c.record_line-2.ensures.answer; written = c.record_line-2.ensures.written })

@@ -7,31 +7,31 @@ use Rattle.bench_answers.proofs.pin_answers.ask.Goals as goal
 pub slice_bounds-say-end : goal.slice_bounds-say-end
 slice_bounds-say-end c =
     let a = c.args in
-    codes-within a.bench a.list.now c.read_pins-answer.new.1.0 c.read_pins-answer.result
+    codes-within a.bench a.list.now c.read_pins-answer.new.list c.read_pins-answer.result
     c.read_pins-answer.ensures.answer c.read_pins-answer.ensures.listed
 
 pub slice_bounds-say-end-2 : goal.slice_bounds-say-end-2
 slice_bounds-say-end-2 c =
     let a = c.args in
-    sym (length-take-le c.read_pins-answer.result.codes c.read_pins-answer.new.1.0
-    (codes-within a.bench a.list.now c.read_pins-answer.new.1.0 c.read_pins-answer.result
+    sym (length-take-le c.read_pins-answer.result.codes c.read_pins-answer.new.list
+    (codes-within a.bench a.list.now c.read_pins-answer.new.list c.read_pins-answer.result
     c.read_pins-answer.ensures.answer c.read_pins-answer.ensures.listed))
 
 pub slice_bounds-say-end-3 : goal.slice_bounds-say-end-3
 slice_bounds-say-end-3 c =
     let a = c.args in
     sym (length-take-le c.read_pins-answer.result.codes c.read_pins-answer.result.pins
-    (pins-within a.bench a.list.now c.read_pins-answer.new.1.0 c.read_pins-answer.result
+    (pins-within a.bench a.list.now c.read_pins-answer.new.list c.read_pins-answer.result
     c.read_pins-answer.ensures.answer c.read_pins-answer.ensures.listed))
 
 pub say-requires : goal.say-requires
 say-requires c =
     let a = c.args in
-    let few = asked-few a.bench a.list.now c.read_pins-answer.new.1.0 c.read_pins-answer.result
+    let few = asked-few a.bench a.list.now c.read_pins-answer.new.list c.read_pins-answer.result
     c.read_pins-answer.ensures.answer c.read_pins-answer.ensures.listed in (
       few.0,
       few.1,
-      asked-short a.bench a.list.now c.read_pins-answer.new.1.0 c.read_pins-answer.result
+      asked-short a.bench a.list.now c.read_pins-answer.new.list c.read_pins-answer.result
           c.read_pins-answer.ensures.answer c.read_pins-answer.ensures.listed (search rules),
       c.requires,
     )
@@ -40,6 +40,6 @@ pub returns : goal.returns
 returns c =
     let a = c.args in
     let say = c.say in
-    says-asked a.bench a.list.now c.read_pins-answer.new.1.0 c.read_pins-answer.result
-    c.read_pins-answer.ensures.answer c.read_pins-answer.ensures.listed a.out.now say.new.1.1.1.1.1.0
+    says-asked a.bench a.list.now c.read_pins-answer.new.list c.read_pins-answer.result
+    c.read_pins-answer.ensures.answer c.read_pins-answer.ensures.listed a.out.now say.new.out
     say.result say.ensures

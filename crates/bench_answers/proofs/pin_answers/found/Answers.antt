@@ -10,3 +10,10 @@ returns-then-out-lt-ROOM c =
     let a = c.args in
     let none = whole-refused a.bench (of_pins (pins_outcome a.bench a.places)) a.out.now c.if-out-lt-ROOM.true in
     record { answer = none.0; written = none.1; fits = none.2 }
+
+pub returns : goal.returns
+returns c =
+    let a = c.args in
+    let done = whole-said a.bench (of_pins (pins_outcome a.bench a.places)) a.out.now c.if-out-lt-ROOM.false
+    c.answer.new.out c.answer.result c.answer.ensures in
+    record { answer = done.0; written = done.1; fits = done.2 }

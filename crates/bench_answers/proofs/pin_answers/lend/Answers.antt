@@ -15,10 +15,20 @@ slice_bounds-ask-end-then-places-lt-FEWEST_PLACES c =
     let few = c.if-places-lt-FEWEST_PLACES.true in
     sym (length-take-le c.args.places c.args.list.now (omega (arith, long, few)))
 
+pub returns-then-places-lt-FEWEST_PLACES : goal.returns-then-places-lt-FEWEST_PLACES
+returns-then-places-lt-FEWEST_PLACES c =
+    let a = c.args in
+    let long = c.requires.0 in
+    let few = c.if-places-lt-FEWEST_PLACES.true in
+    let same : pins_outcome a.bench (length (take a.places a.list.now)) ≡ pins_outcome a.bench a.places =
+    ap (pins_outcome a.bench) (length-take-le a.places a.list.now (omega (arith, long, few))) in
+    subst (λ (o : PinsOutcome). Says a.out.now (of_pins o) c.ask.new.out c.ask.result) same
+    c.ask.ensures
+
 pub returns : goal.returns
 returns c =
     let a = c.args in
     let same : pins_outcome a.bench (length a.list.now) ≡ pins_outcome a.bench a.places =
     ap (pins_outcome a.bench) c.requires.0 ∙ pins-just-enough a.bench a.places c.if-places-lt-FEWEST_PLACES.false in
-    subst (λ (o : PinsOutcome). Says a.out.now (of_pins o) c.ask-2.new.1.1.0 c.ask-2.result) same
+    subst (λ (o : PinsOutcome). Says a.out.now (of_pins o) c.ask-2.new.out c.ask-2.result) same
     c.ask-2.ensures

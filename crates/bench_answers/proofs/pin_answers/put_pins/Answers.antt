@@ -19,12 +19,6 @@ loop-i-preserved c =
     c.loop-i.invariant.1 c.put_pin-to.ensures.0 c.put_pin-to.ensures.1 in
     (omega (arith, within), next)
 
-pub shape_of-out : goal.shape_of-out
-shape_of-out c =
-    let a = c.args in
-    put-size a.out.now a.at a.codes.now a.pins.now c.requires.0 c.requires.1 c.loop-i.i
-    c.loop-i.to c.loop-i.out c.loop-i.invariant.0 c.loop-i.invariant.1
-
 pub returns : goal.returns
 returns c =
     let a = c.args in

@@ -11,3 +11,11 @@ returns-then-out-lt-ROOM c =
     let none = whole-refused a.bench (of_search
     (search_outcome (command_for a.alarms) a.bench a.places a.bytes)) a.out.now c.if-out-lt-ROOM.true in
     record { answer = none.0; written = none.1; fits = none.2 }
+
+pub returns : goal.returns
+returns c =
+    let a = c.args in
+    let done = whole-said a.bench (of_search
+    (search_outcome (command_for a.alarms) a.bench a.places a.bytes)) a.out.now c.if-out-lt-ROOM.false
+    c.search.new.out c.search.result c.search.ensures in
+    record { answer = done.0; written = done.1; fits = done.2 }

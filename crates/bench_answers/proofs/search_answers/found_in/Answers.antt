@@ -11,9 +11,9 @@ slice_bounds-say_found-end c =
     let a = c.args in
     let done = c.run-r.ensures in
     let codes = codes-part (command_for a.alarms) a.bench a.list.now a.recording.now
-    c.run-r.new.1.1.0 c.run-r.new.1.1.1.0 c.run-r.result done.answer done.listed in
+    c.run-r.new.list c.run-r.new.recording c.run-r.result done.answer done.listed in
     let bytes = bytes-part (command_for a.alarms) a.bench a.list.now a.recording.now
-    c.run-r.new.1.1.0 c.run-r.new.1.1.1.0 c.run-r.result done.answer done.written in
+    c.run-r.new.list c.run-r.new.recording c.run-r.result done.answer done.written in
     codes.0
 
 pub slice_bounds-say_found-end-2 : goal.slice_bounds-say_found-end-2
@@ -21,9 +21,9 @@ slice_bounds-say_found-end-2 c =
     let a = c.args in
     let done = c.run-r.ensures in
     let codes = codes-part (command_for a.alarms) a.bench a.list.now a.recording.now
-    c.run-r.new.1.1.0 c.run-r.new.1.1.1.0 c.run-r.result done.answer done.listed in
+    c.run-r.new.list c.run-r.new.recording c.run-r.result done.answer done.listed in
     let bytes = bytes-part (command_for a.alarms) a.bench a.list.now a.recording.now
-    c.run-r.new.1.1.0 c.run-r.new.1.1.1.0 c.run-r.result done.answer done.written in
+    c.run-r.new.list c.run-r.new.recording c.run-r.result done.answer done.written in
     codes.2
 
 pub slice_bounds-say_found-end-3 : goal.slice_bounds-say_found-end-3
@@ -31,9 +31,9 @@ slice_bounds-say_found-end-3 c =
     let a = c.args in
     let done = c.run-r.ensures in
     let codes = codes-part (command_for a.alarms) a.bench a.list.now a.recording.now
-    c.run-r.new.1.1.0 c.run-r.new.1.1.1.0 c.run-r.result done.answer done.listed in
+    c.run-r.new.list c.run-r.new.recording c.run-r.result done.answer done.listed in
     let bytes = bytes-part (command_for a.alarms) a.bench a.list.now a.recording.now
-    c.run-r.new.1.1.0 c.run-r.new.1.1.1.0 c.run-r.result done.answer done.written in
+    c.run-r.new.list c.run-r.new.recording c.run-r.result done.answer done.written in
     bytes.0
 
 pub slice_bounds-say_found-end-4 : goal.slice_bounds-say_found-end-4
@@ -41,9 +41,9 @@ slice_bounds-say_found-end-4 c =
     let a = c.args in
     let done = c.run-r.ensures in
     let codes = codes-part (command_for a.alarms) a.bench a.list.now a.recording.now
-    c.run-r.new.1.1.0 c.run-r.new.1.1.1.0 c.run-r.result done.answer done.listed in
+    c.run-r.new.list c.run-r.new.recording c.run-r.result done.answer done.listed in
     let bytes = bytes-part (command_for a.alarms) a.bench a.list.now a.recording.now
-    c.run-r.new.1.1.0 c.run-r.new.1.1.1.0 c.run-r.result done.answer done.written in
+    c.run-r.new.list c.run-r.new.recording c.run-r.result done.answer done.written in
     bytes.2
 
 pub say_found-requires : goal.say_found-requires
@@ -51,9 +51,9 @@ say_found-requires c =
     let a = c.args in
     let done = c.run-r.ensures in
     let codes = codes-part (command_for a.alarms) a.bench a.list.now a.recording.now
-    c.run-r.new.1.1.0 c.run-r.new.1.1.1.0 c.run-r.result done.answer done.listed in
+    c.run-r.new.list c.run-r.new.recording c.run-r.result done.answer done.listed in
     let bytes = bytes-part (command_for a.alarms) a.bench a.list.now a.recording.now
-    c.run-r.new.1.1.0 c.run-r.new.1.1.1.0 c.run-r.result done.answer done.written in
+    c.run-r.new.list c.run-r.new.recording c.run-r.result done.answer done.written in
     let few = search-bounded (command_for a.alarms) a.bench (length a.list.now)
     (length a.recording.now) in (
       rw codes.1 few.codes-most,
@@ -66,10 +66,10 @@ returns c =
     let a = c.args in
     let done = c.run-r.ensures in
     let codes = codes-part (command_for a.alarms) a.bench a.list.now a.recording.now
-    c.run-r.new.1.1.0 c.run-r.new.1.1.1.0 c.run-r.result done.answer done.listed in
+    c.run-r.new.list c.run-r.new.recording c.run-r.result done.answer done.listed in
     let bytes = bytes-part (command_for a.alarms) a.bench a.list.now a.recording.now
-    c.run-r.new.1.1.0 c.run-r.new.1.1.1.0 c.run-r.result done.answer done.written in
+    c.run-r.new.list c.run-r.new.recording c.run-r.result done.answer done.written in
     let say = c.say_found in
     says-outcome a.out.now (search_outcome (command_for a.alarms) a.bench (length a.list.now)
-    (length a.recording.now)) c.run-r.result _ _ say.new.1.1.1.1.1.1.0 say.result done.answer
+    (length a.recording.now)) c.run-r.result _ _ say.new.out say.result done.answer
     codes.1 bytes.1 say.ensures

@@ -38,5 +38,5 @@ returns c =
     ≡ search_outcome (command_for c.args.alarms) c.args.bench c.args.places c.args.bytes =
     rw (codes, room) (just_enough (command_for c.args.alarms) c.args.bench c.args.places
     c.args.bytes) in
-    subst (λ (o : Outcome). Says c.args.out.now (of_search o) c.found_in.new.1.1.1.1.0
+    subst (λ (o : Outcome). Says c.args.out.now (of_search o) c.found_in.new.out
     c.found_in.result) same c.found_in.ensures

@@ -26,12 +26,6 @@ loop-i-preserved c =
     c.code_line-w.ensures.written in
     (omega arith, next.0, next.1)
 
-pub shape_of-out : goal.shape_of-out
-shape_of-out c =
-    let so = c.loop-i.invariant in
-    codes-size c.args.out.now c.args.at c.args.codes.now c.requires c.loop-i.i
-    c.loop-i.out so.0 so.2
-
 pub returns : goal.returns
 returns c =
     let so = c.loop-i.invariant in let all = codes-end c.args.out.now c.args.at c.args.codes.now c.requires c.loop-i.i

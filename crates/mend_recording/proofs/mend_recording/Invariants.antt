@@ -1,0 +1,12 @@
+use mathlib.Core.Path.{◌≡◌}
+use lib.ListN.{length}
+use Rattle.mend_recording.proofs.mend_recording.Given as goal
+
+abbrev pub invariant-loop-run : goal.invariant-loop-run
+invariant-loop-run g l =
+    (length l.buffer ≡ length l.initial.buffer) × (length l.left ≡ length l.initial.left) × (length l.report ≡ length l.initial.report)
+    × (length l.told ≡ length l.initial.told)
+
+abbrev pub decreases-loop-run : goal.decreases-loop-run
+decreases-loop-run g l =
+    l.run.reads

@@ -1,0 +1,16 @@
+use Prim.Native.Nat.{ℕ, ◌*◌, ◌≤◌}
+use mathlib.Core.Path.{◌≡◌, sym}
+use lib.Dec.{lit≤}
+use lib.ListN.{length-replicate}
+use Rattle.name_frames.proofs.main.Goals as goal
+
+roomy : (b t n m : ℕ) → b ≡ n → t ≡ m → 257 ≤ n → 10 * n ≤ m → (257 ≤ b) × (10 * b ≤ t)
+roomy b t n m e f h k = rw (e, f) (h, k)
+
+pub slice_bounds-print_recording-end-2 : goal.slice_bounds-print_recording-end-2
+slice_bounds-print_recording-end-2 c = sym (length-replicate {0} {A = ℕ} 656710 0)
+
+pub print_recording-requires : goal.print_recording-requires
+print_recording-requires c =
+    roomy _ _ 65671 656710 (length-replicate {0} {A = ℕ} 65671 0) (length-replicate {0} {A = ℕ} 656710 0) (lit≤ tt)
+    (lit≤ tt)
