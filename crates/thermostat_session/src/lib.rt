@@ -1,4 +1,6 @@
 // The thermostat console: a line of input is one request to a DS1821, and its answer is one line of text.
+#![tactic(auto)]
+
 pub mod answers;
 pub mod requests;
 

@@ -1,0 +1,14 @@
+-- By the definition's own test.
+use borrow.Author.Tests.{lt-leb, le-leb}
+use Rattle.thermostat_session.specs.ProbeRequests.{probe_request_of}
+use Rattle.thermostat_session.proofs.requests.parse.Goals as goal
+
+pub returns-then-line-gt-LONGEST : goal.returns-then-line-gt-LONGEST
+unfolding probe_request_of
+returns-then-line-gt-LONGEST c =
+    record { answer = simp (lt-leb _ _ c.if-line-gt-LONGEST.true) }
+
+pub returns : goal.returns
+unfolding probe_request_of
+returns c =
+    record { answer = simp (le-leb _ _ c.if-line-gt-LONGEST.false, c.of_words.ensures) }
