@@ -1,6 +1,8 @@
 // Drives a bench and a settings store by lines: one call a line on standard input, its answer on standard output at
 // once. It only moves bytes: `sessions::gathering` says where a line ends, and `bench_session::settings_console` reads
 // it, makes the call and forms the answer.
+#![tactic(auto)]
+
 ghost use Rattle.std.specs.Prelude.{◌≡◌, true, false, ◌<◌, ◌≤◌, length, take};
 ghost use Rattle.text.specs.Lines.{Line};
 ghost use Rattle.bench_answers.specs.Whole.{room};
@@ -12,7 +14,6 @@ use bench::Bench;
 use bench_answers::search_answers::ROOM;
 use bench_session::settings_console;
 use bench_session::settings_console::Told;
-use libc::{STDIN_FILENO, STDOUT_FILENO};
 use sessions::gathering;
 use sessions::gathering::MOST_HELD;
 use settings::Store;
@@ -34,21 +35,21 @@ struct Run {
 }
 
 // Hands to the output what is said to a line in the state in hand.
-fn write_answer(bench: Bench, store: Store, line: &[u8], text: &[u8])
+fn write_answer(rt: &impl Print, bench: Bench, store: Store, line: &[u8], text: &[u8])
     requires { text.now ≡ bench_console.says (both bench store) (record { chars = line.now; fed = true }) }
 {
-    io::write_all(STDOUT_FILENO, text);
+    streams::write_all(rt, text);
 }
 
 // Hands to the output what is said at the end to what is held.
-fn write_last(bench: Bench, store: Store, line: &[u8], text: &[u8])
+fn write_last(rt: &impl Print, bench: Bench, store: Store, line: &[u8], text: &[u8])
     requires { text.now ≡ at_end bench_console (record { state = both bench store; held = line.now }) }
 {
-    io::write_all(STDOUT_FILENO, text);
+    streams::write_all(rt, text);
 }
 
 // A line that has its feed, answered.
-fn answer_line(bench: Bench, store: Store, line: &[u8], out: &mut [u8]) -> Told
+fn answer_line(rt: &impl Print, bench: Bench, store: Store, line: &[u8], out: &mut [u8]) -> Told
     requires { room ≤ length out.old }
     ensures { both result.said.bench result.store
         ≡ bench_console.next (both bench store) (record { chars = line.now; fed = true }) }
@@ -56,22 +57,23 @@ fn answer_line(bench: Bench, store: Store, line: &[u8], out: &mut [u8]) -> Told
     let told = settings_console::answer(bench, store, line, true, out);
     let said = told.said;
     let count = said.count;
-    write_answer(bench, store, line, &out[..count]);
+    write_answer(rt, bench, store, line, &out[..count]);
     told
 }
 
 // A last line without a feed, answered.
-fn answer_last(bench: Bench, store: Store, line: &[u8], out: &mut [u8])
+fn answer_last(rt: &impl Print, bench: Bench, store: Store, line: &[u8], out: &mut [u8])
     requires { (room ≤ length out.old) × (0 < length line.now) }
 {
     let told = settings_console::answer(bench, store, line, false, out);
     let said = told.said;
     let count = said.count;
-    write_last(bench, store, line, &out[..count]);
+    write_last(rt, bench, store, line, &out[..count]);
 }
 
 // A line that has its feed is answered, and held no more.
 fn end_line(
+    rt: &impl Print,
     bench: Bench,
     store: Store,
     line: &[u8],
@@ -84,7 +86,7 @@ fn end_line(
         ≡ held_ended bench_console (run_at (both bench store) line.now held) whole) × (result.held ≤ held) }
 {
     if whole {
-        let told = answer_line(bench, store, &line[..held], out);
+        let told = answer_line(rt, bench, store, &line[..held], out);
         let said = told.said;
         let bench_after = said.bench;
         let store_after = told.store;
@@ -98,7 +100,13 @@ fn end_line(
 }
 
 // A piece, line by line.
-fn answer_piece(start: State, line: &mut [u8], piece: &[u8], out: &mut [u8]) -> State
+fn answer_piece(
+    rt: &impl Print,
+    start: State,
+    line: &mut [u8],
+    piece: &[u8],
+    out: &mut [u8],
+) -> State
     requires { (room ≤ length out.old) × Holding line.old start.held }
     ensures run { run_at (both result.bench result.store) line.new result.held
         ≡ run_after bench_console (run_at (both start.bench start.store) line.old start.held)
@@ -111,14 +119,20 @@ fn answer_piece(start: State, line: &mut [u8], piece: &[u8], out: &mut [u8]) -> 
         let bench = s.bench;
         let store = s.store;
         let gathered = gathering::take_line(line, s.held, piece, at);
-        s = end_line(bench, store, line, gathered.held, gathered.whole, out);
+        s = end_line(rt, bench, store, line, gathered.held, gathered.whole, out);
         at = gathered.next;
     }
     s
 }
 
 // One read. What came stands at the front of the buffer.
-fn next_piece(run: Run, buffer: &mut [u8], line: &mut [u8], out: &mut [u8]) -> Run
+fn next_piece(
+    rt: &(impl Input + Print),
+    run: Run,
+    buffer: &mut [u8],
+    line: &mut [u8],
+    out: &mut [u8],
+) -> Run
     requires { (room ≤ length out.old) × Holding line.old run.state.held }
     ensures run { run_at (both result.state.bench result.state.store) line.new result.state.held
         ≡ run_after bench_console (run_at (both run.state.bench run.state.store) line.old
@@ -126,10 +140,9 @@ fn next_piece(run: Run, buffer: &mut [u8], line: &mut [u8], out: &mut [u8]) -> R
     ensures holding { Holding line.new result.state.held }
     ensures reads { 0 < run.reads → result.reads < run.reads }
 {
-    let got = libc::read(STDIN_FILENO, buffer);
-    let came = io::count(got, buffer);
+    let came = streams::read(rt, buffer);
     let before = run.state;
-    let state = answer_piece(before, line, &buffer[..came], out);
+    let state = answer_piece(rt, before, line, &buffer[..came], out);
     Run {
         state,
         came,
@@ -137,7 +150,7 @@ fn next_piece(run: Run, buffer: &mut [u8], line: &mut [u8], out: &mut [u8]) -> R
     }
 }
 
-fn finish(run: Run, line: &[u8], out: &mut [u8])
+fn finish(rt: &impl Print, run: Run, line: &[u8], out: &mut [u8])
     requires { (room ≤ length out.old) × Holding line.now run.state.held }
 {
     let state = run.state;
@@ -145,7 +158,7 @@ fn finish(run: Run, line: &[u8], out: &mut [u8])
     let store = state.store;
     let held = state.held;
     if held > 0 {
-        answer_last(bench, store, &line[..held], out);
+        answer_last(rt, bench, store, &line[..held], out);
     }
 }
 
@@ -166,19 +179,19 @@ fn first_run() -> Run
 }
 
 // The line and the answer have just the room that they need.
-fn answer_input(buffer: &mut [u8], line: &mut [u8], out: &mut [u8])
+fn answer_input(rt: &(impl Input + Print), buffer: &mut [u8], line: &mut [u8], out: &mut [u8])
     requires { (room ≤ length out.old) × (length line.old ≡ most_held) }
 {
     let mut run = first_run();
     while run.reads > 0 {
-        run = next_piece(run, buffer, line, out);
+        run = next_piece(rt, run, buffer, line, out);
     }
-    finish(run, line, out);
+    finish(rt, run, line, out);
 }
 
-fn main() {
+fn main(rt: HostRuntime) {
     let mut buffer = [0u8; 4096];
     let mut line = [0u8; MOST_HELD];
     let mut out = [0u8; ROOM];
-    answer_input(&mut buffer, &mut line, &mut out);
+    answer_input(&rt, &mut buffer, &mut line, &mut out);
 }

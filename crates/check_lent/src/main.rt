@@ -1,9 +1,10 @@
 // Runs what the console cannot lend: lists and recordings that are longer than a search needs. All that
 // is lent is 7 before; each line tells the five numbers of a search, then the first two places of
 // the list, and the bytes of the recording on both sides of the end of one frame.
+#![tactic(auto)]
+
 use bench::Bench;
 use device::{Joining, Power};
-use libc::STDOUT_FILENO;
 use search::Searched;
 
 const CODE: u64 = 0x1E00_0000_0000_0028;
@@ -15,18 +16,18 @@ const ROOM: usize = 1825;
 // The length of a frame of 200 slots, with its feed.
 const FRAME: usize = 57;
 
-fn say(text: &[u8]) {
-    io::write_all(STDOUT_FILENO, text);
+fn say(rt: &impl Print, text: &[u8]) {
+    streams::write_all(rt, text);
 }
 
-fn say_number(n: u64) {
-    say(b" ");
-    io::print_decimal(STDOUT_FILENO, n);
+fn say_number(rt: &impl Print, n: u64) {
+    say(rt, b" ");
+    streams::print_decimal(rt, n);
 }
 
-fn say_code(code: u64) {
-    say(b" ");
-    io::print_hex(STDOUT_FILENO, code, 16);
+fn say_code(rt: &impl Print, code: u64) {
+    say(rt, b" ");
+    streams::print_hex(rt, code, 16);
 }
 
 fn one_device() -> Bench {
@@ -41,39 +42,42 @@ fn one_device() -> Bench {
     bench::add(bench::new(), new).bench
 }
 
-fn say_answer(r: Searched) {
-    say_number(r.refusal as u64);
-    say_number(r.codes as u64);
-    say_number(r.passes as u64);
-    say_number(r.slots as u64);
-    say_number(r.bytes as u64);
+fn say_answer(rt: &impl Print, r: Searched) {
+    say_number(rt, r.refusal as u64);
+    say_number(rt, r.codes as u64);
+    say_number(rt, r.passes as u64);
+    say_number(rt, r.slots as u64);
+    say_number(rt, r.bytes as u64);
 }
 
-fn say_lent(list: [u64; PLACES], recording: [u8; ROOM]) {
-    say_code(list[0]);
-    say_code(list[1]);
-    say_number(recording[FRAME - 1] as u64);
-    say_number(recording[FRAME] as u64);
-    say(b"\n");
+fn say_lent(rt: &impl Print, list: [u64; PLACES], recording: [u8; ROOM]) {
+    say_code(rt, list[0]);
+    say_code(rt, list[1]);
+    say_number(rt, recording[FRAME - 1] as u64);
+    say_number(rt, recording[FRAME] as u64);
+    say(rt, b"\n");
 }
 
-fn all_lent() {
+fn all_lent(rt: &impl Print) {
     let mut list = [7u64; PLACES];
     let mut recording = [7u8; ROOM];
-    say(b"33 places, 1825 bytes:");
-    say_answer(search::search(one_device(), &mut list, &mut recording));
-    say_lent(list, recording);
+    say(rt, b"33 places, 1825 bytes:");
+    say_answer(rt, search::search(one_device(), &mut list, &mut recording));
+    say_lent(rt, list, recording);
 }
 
-fn too_few_places() {
+fn too_few_places(rt: &impl Print) {
     let mut list = [7u64; PLACES];
     let mut recording = [7u8; ROOM];
-    say(b"31 places, 1825 bytes:");
-    say_answer(search::search(one_device(), &mut list[..31], &mut recording));
-    say_lent(list, recording);
+    say(rt, b"31 places, 1825 bytes:");
+    say_answer(
+        rt,
+        search::search(one_device(), &mut list[..31], &mut recording),
+    );
+    say_lent(rt, list, recording);
 }
 
-fn main() {
-    all_lent();
-    too_few_places();
+fn main(rt: HostRuntime) {
+    all_lent(&rt);
+    too_few_places(&rt);
 }

@@ -1,32 +1,33 @@
 // Reads comma-separated text on standard input and prints its readings, lines `CODE COUNT`, on standard
 // output, or the one line `REFUSED N`. It only moves bytes; what is printed is decided by the library.
+#![tactic(auto)]
+
 ghost use Rattle.std.specs.Prelude.{◌≡◌, ◌≤◌, length};
 ghost use Rattle.readings.specs.Csv.{most_text};
 ghost use Rattle.reading_programs.specs.Answers.{lines_answer};
 
-use libc::{STDIN_FILENO, STDOUT_FILENO};
 use reading_programs::csv_answers;
 
 // Hands the answer to an input to the output.
-fn write_answer(input: &[u8], text: &[u8])
+fn write_answer(rt: &impl Print, input: &[u8], text: &[u8])
     requires { text.now ≡ lines_answer input.now }
 {
-    io::write_all(STDOUT_FILENO, text);
+    streams::write_all(rt, text);
 }
 
 // An input that goes on behind the buffer is judged by what is in it: a header and 32 rows are far
 // shorter, so that it is refused.
-fn convert(input: &mut [u8], text: &mut [u8])
+fn convert(rt: &(impl Input + Print), input: &mut [u8], text: &mut [u8])
     requires { most_text ≤ length text.old }
 {
-    let count = io::read_full(STDIN_FILENO, input);
+    let count = streams::read_full(rt, input);
     let written = csv_answers::to_lines(&input[..count], text);
     let end = written.next;
-    write_answer(&input[..count], &text[..end]);
+    write_answer(rt, &input[..count], &text[..end]);
 }
 
-fn main() {
+fn main(rt: HostRuntime) {
     let mut input = [0u8; 65536];
     let mut text = [0u8; 4096];
-    convert(&mut input, &mut text);
+    convert(&rt, &mut input, &mut text);
 }

@@ -1,9 +1,10 @@
 // Fixed work on a bench: searches, and slots one by one. An `s` on standard input asks for the searches
 // alone, another byte for the slots alone, no input for both. A second byte says how many devices there
 // are; else there are 32.
+#![tactic(auto)]
+
 use bench::{Bench, Slotted};
 use device::{Joining, Power};
-use libc::{STDIN_FILENO, STDOUT_FILENO};
 use search::Searched;
 
 const SEARCHES: u32 = 100;
@@ -28,14 +29,14 @@ struct Totals {
     bytes: u64,
 }
 
-fn say(text: &[u8]) {
-    io::write_all(STDOUT_FILENO, text);
+fn say(rt: &impl Print, text: &[u8]) {
+    streams::write_all(rt, text);
 }
 
-fn say_number(label: &[u8], n: u64) {
-    say(label);
-    io::print_decimal(STDOUT_FILENO, n);
-    say(b"\n");
+fn say_number(rt: &impl Print, label: &[u8], n: u64) {
+    say(rt, label);
+    streams::print_decimal(rt, n);
+    say(rt, b"\n");
 }
 
 // The code of family 28h with this serial number.
@@ -88,7 +89,7 @@ fn mix(list: &[u64]) -> u64 {
     mixed
 }
 
-fn search_often(bench: Bench, list: &mut [u64], recording: &mut [u8]) {
+fn search_often(rt: &impl Print, bench: Bench, list: &mut [u64], recording: &mut [u8]) {
     let mut b = bench;
     let mut t = Totals {
         codes: 0,
@@ -103,18 +104,18 @@ fn search_often(bench: Bench, list: &mut [u64], recording: &mut [u8]) {
         b = r.bench;
         i += 1;
     }
-    say_number(b"codes ", t.codes);
-    say_number(b"passes ", t.passes);
-    say_number(b"slots ", t.slots);
-    say_number(b"bytes ", t.bytes);
-    say_number(b"list ", mix(list));
-    say_number(b"recording ", crc::crc_of(recording) as u64);
+    say_number(rt, b"codes ", t.codes);
+    say_number(rt, b"passes ", t.passes);
+    say_number(rt, b"slots ", t.slots);
+    say_number(rt, b"bytes ", t.bytes);
+    say_number(rt, b"list ", mix(list));
+    say_number(rt, b"recording ", crc::crc_of(recording) as u64);
 }
 
-fn search_in_room(bench: Bench) {
+fn search_in_room(rt: &impl Print, bench: Bench) {
     let mut list = [0u64; CODES];
     let mut recording = [0u8; BYTES];
-    search_often(bench, &mut list, &mut recording);
+    search_often(rt, bench, &mut list, &mut recording);
 }
 
 // What the master offers in a slot of a round.
@@ -133,7 +134,7 @@ fn bit_at(place: u32) -> bool {
 
 // The answer of a slot is kept whole and its bench handed on, since a bench in a variable of its own is
 // copied once more.
-fn read_often(bench: Bench) {
+fn read_often(rt: &impl Print, bench: Bench) {
     let mut s = Slotted {
         bench,
         refusal: 0,
@@ -155,21 +156,21 @@ fn read_often(bench: Bench) {
         }
         i += 1;
     }
-    say_number(b"ones ", ones);
+    say_number(rt, b"ones ", ones);
 }
 
-fn main() {
+fn main(rt: HostRuntime) {
     let mut asked = [0u8, MOST];
-    let got = io::read_full(STDIN_FILENO, &mut asked);
+    let got = streams::read_full(&rt, &mut asked);
     let b = bench_of(asked[1]);
     if got == 0 {
-        search_in_room(b);
-        read_often(b);
+        search_in_room(&rt, b);
+        read_often(&rt, b);
         return;
     }
     if asked[0] == b's' {
-        search_in_room(b);
+        search_in_room(&rt, b);
     } else {
-        read_often(b);
+        read_often(&rt, b);
     }
 }

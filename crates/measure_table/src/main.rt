@@ -1,7 +1,8 @@
 // Fixed work on a table of 32 devices: the slots that `measure_search` makes on the records, one by one,
 // each unpacked from the bytes and packed again.
+#![tactic(auto)]
+
 use device::{Joining, Power};
-use libc::STDOUT_FILENO;
 use packed_bench::calls;
 use packed_bench::table::TABLE_BYTES;
 
@@ -10,10 +11,10 @@ const SLOTS: u32 = 500000;
 // The slots after one reset: 33h, the code, BEh, the scratchpad.
 const ROUND: u32 = 152;
 
-fn say_number(label: &[u8], n: u64) {
-    io::write_all(STDOUT_FILENO, label);
-    io::print_decimal(STDOUT_FILENO, n);
-    io::write_all(STDOUT_FILENO, b"\n");
+fn say_number(rt: &impl Print, label: &[u8], n: u64) {
+    streams::write_all(rt, label);
+    streams::print_decimal(rt, n);
+    streams::write_all(rt, b"\n");
 }
 
 // The code of family 28h with this serial number.
@@ -68,7 +69,7 @@ fn slot_at(t: &mut [u8], i: u32) -> bool {
     line_of(t, bit_at(place))
 }
 
-fn read_often(t: &mut [u8]) {
+fn read_often(rt: &impl Print, t: &mut [u8]) {
     let mut ones: u64 = 0;
     let mut i: u32 = 0;
     while i < SLOTS {
@@ -78,11 +79,11 @@ fn read_often(t: &mut [u8]) {
         }
         i += 1;
     }
-    say_number(b"ones ", ones);
+    say_number(rt, b"ones ", ones);
 }
 
-fn main() {
+fn main(rt: HostRuntime) {
     let mut t = [0u8; TABLE_BYTES];
     fill(&mut t);
-    read_often(&mut t);
+    read_often(&rt, &mut t);
 }

@@ -1,0 +1,14 @@
+use native.Mathlib.Nat.{le_trans}
+use lib.ListN.{take}
+use Rattle.reading_programs.specs.Answers.{lines_answer}
+use Rattle.reading_programs.specs.AnswersLaws.{answer-front}
+use Rattle.csv_to_readings.proofs.convert.Goals as goal
+
+pub write_answer-requires : goal.write_answer-requires
+write_answer-requires g c =
+    let made = c.to_lines-written in
+    let read = c.read_full-count in
+    let s = take read.result read.new.into in
+    let brief = made.ensures.short in
+    answer-front c.args.text.now (lines_answer s) (le_trans brief c.requires) made.result made.new.out
+    made.ensures.answer made.ensures.written
