@@ -6,7 +6,7 @@ use Rattle.text.specs.Digits.{hex_of}
 use Rattle.text.specs.Lines.{line_feed}
 use Rattle.basic_laws.specs.Laid.{laid}
 use Rattle.basic_laws.specs.LaidLaws.{laid-length}
-use Rattle.text.specs.PuttingLaws.{field_puts}
+use Rattle.text.proofs.PuttingLaws.{field_puts}
 use Rattle.packed_session.specs.TableAnswers.{entry_line, table_text}
 use Rattle.packed_session.specs.TableAnswersLaws.{line-length, text-length, text-turn, text-end}
 use borrow.Author.Rules.{rules}
@@ -28,7 +28,7 @@ loop-i-preserved c =
     let same = c.loop-i.invariant.1 in
     let part : 48 * i + 48 - 48 * i ≡ 48 = omega arith in
     let put = field_puts out c.loop-i.to (hex_of e) line_feed c.put_bytes-to.new.out c.put_bytes-to.result
-    (rw part at c.put_bytes-to.ensures) in
+    (rw part at c.put_bytes-to.ensures.answer, rw part at c.put_bytes-to.ensures.written) in
     let d = length-drop (48 * i) t in
     let w = line-length (drop (48 * i) t) (omega arith) in
     let fits : 97 * i + length (entry_line e) ≤ length out = omega arith in

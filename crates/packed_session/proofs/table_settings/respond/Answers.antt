@@ -61,7 +61,6 @@ returns-in_default c =
     let a = c.args in
     let own = own-request a.request (spoken a.t.now (record { chars = a.line.now; fed = a.fed }))
     (written_on a.t.now a.store) (speaks (store_says a.store a.request) a.t.now)
-    (λ e. let k = own-number (rw e at c.in-Other.keys3) in omega arith)
-    (λ code e. let k = own-number (rw e at c.in-Other.keys3) in omega arith) in
+    c.in_default.not-Other c.in_default.not-Write in
     rw own (called-tells a.out.now c.requires a.t.now a.store a.request c.call-done.new.out
     c.call-done.result c.call-done.ensures.answer c.call-done.ensures.written)
