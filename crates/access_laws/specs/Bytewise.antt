@@ -41,12 +41,12 @@ use Rattle.temperature.specs.declared.Sixteenths.{Sixteenths}
 use Rattle.scratchpad.specs.Fine.{counts_per_degree, remaining_of}
 use Rattle.scratchpad.specs.FineLaws.{remaining-bounds}
 use Rattle.scratchpad.specs.Stored.{stored_reading, with_counts, scratchpad_after}
-use Rattle.scratchpad.specs.StoredLaws.{after-seventh, stored-range}
+use Rattle.scratchpad.proofs.StoredLaws.{after-seventh, stored-range}
 use Rattle.search_laws.specs.Numbers.{Below}
 use Rattle.device.specs.Finish.{conversion_done, copy_done}
 use Rattle.device.specs.Hear.{after_bit, rom_command, hear_rom, idle_command, function_command, hear_function, store_setting}
 use Rattle.device.specs.Hear.{hear_settings, hear_at, hear_of}
-use Rattle.device.specs.Outcomes.{hear-outcome}
+use Rattle.device.proofs.Outcomes.{hear-outcome}
 use Rattle.device.specs.Power.{reset_of, powered_up, power_up, joined}
 use Rattle.device.specs.Record.{with_stage, with_scratchpad, family_row, row_of, busy}
 use Rattle.device.specs.Settings.{settings_in, with_limits, with_settings, settings_count, setting_byte}
@@ -64,13 +64,14 @@ use Rattle.device.specs.declared.Stage.TheVariants.{SendScratchpad, SendStatus, 
 use Rattle.bench.specs.Bench.{live}
 use Rattle.bench.specs.Slot.{line_bit, slotted, reset_done}
 use Rattle.bench.specs.declared.Bench.{Bench}
-use Rattle.bench.specs.Everywhere.{Invariant, heard-each, restarted-each}
-use Rattle.bench.specs.Laws.{slot_cases, reset-cases}
+use Rattle.bench.specs.Everywhere.{Invariant}
+use Rattle.bench.proofs.Everywhere.{heard-each, restarted-each}
+use Rattle.bench.proofs.Laws.{slot_cases, reset-cases}
 use Rattle.bench.specs.Sound.{codes_of, BenchSound}
-use Rattle.bench.specs.SoundLaws.{heard-codes, restarted-codes, slotted-sound, reset-done-sound}
-use Rattle.history_laws.specs.Corollaries.{bench-is-sound}
+use Rattle.bench.proofs.SoundLaws.{heard-codes, restarted-codes, slotted-sound, reset-done-sound}
+use Rattle.history_laws.proofs.Corollaries.{bench-is-sound}
 use Rattle.history_laws.specs.History.{Call, add, Typed, after}
-use Rattle.history_laws.specs.Reached.{reached-after}
+use Rattle.history_laws.proofs.Reached.{reached-after}
 use Rattle.access_laws.specs.Lasting.{lasts_after}
 
 abbrev pub LimitBytes : Settings → Type 0

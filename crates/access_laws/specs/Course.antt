@@ -22,9 +22,9 @@ use Rattle.commands.specs.BytesLaws.{shifted-cases}
 use Rattle.device.specs.Hear.{await_function, after_bit, function_command, idle_command, store_setting, hear_settings, hear_at}
 use Rattle.device.specs.Hear.{hear_of}
 use Rattle.device.specs.Settings.{settings_count}
-use Rattle.device.specs.Laws.{quiet-stays, quiet-offers}
+use Rattle.device.proofs.Laws.{quiet-stays, quiet-offers}
 use Rattle.device.specs.Offer.{offer_of}
-use Rattle.device.specs.Outcomes.{hear-outcome}
+use Rattle.device.proofs.Outcomes.{hear-outcome}
 use Rattle.device.specs.Power.{reset_of}
 use Rattle.device.specs.Record.{with_stage, row_of, busy}
 use Rattle.device.specs.Stages.{awaits_function}

@@ -13,7 +13,7 @@ use Rattle.temperature.specs.declared.Reading.TheVariants.{InSixteenths}
 use Rattle.temperature.specs.declared.Sixteenths.{Sixteenths}
 use Rattle.scratchpad.specs.declared.fine.FineDegrees.{FineDegrees}
 use Rattle.scratchpad.specs.Stored.{fine_in, scratchpad_after}
-use Rattle.scratchpad.specs.StoredLaws.{after-fine}
+use Rattle.scratchpad.proofs.StoredLaws.{after-fine}
 use Rattle.device.specs.Finish.{conversion_done}
 use Rattle.device.specs.Record.{family_row, row_of}
 use Rattle.device.specs.Sound.{Sound}
@@ -22,11 +22,11 @@ use Rattle.bench.specs.Bench.{live, vacant, place_of, free}
 use Rattle.bench.specs.Calls.{device_at, conversion_finished}
 use Rattle.bench.specs.declared.Bench.{Bench}
 use Rattle.bench.specs.declared.Place.TheVariants.{At}
-use Rattle.bench.specs.Laws.{OneChanged, device-live, conversion-cases}
+use Rattle.bench.proofs.Laws.{OneChanged, device-live, conversion-cases}
 use Rattle.bench.specs.Sound.{BenchSound}
-use Rattle.bench.specs.SoundLaws.{place_is}
+use Rattle.bench.proofs.SoundLaws.{place_is}
 use Rattle.master_rules.specs.Access.{read_at}
-use Rattle.history_laws.specs.Corollaries.{bench-is-sound}
+use Rattle.history_laws.proofs.Corollaries.{bench-is-sound}
 use Rattle.history_laws.specs.History.{Call, finish_conversion, Typed, apply, step, start, ledger, after}
 use Rattle.access_laws.specs.Bytewise.{Readable, readable-after}
 use Rattle.access_laws.specs.ReadLaws.{read-answered}

@@ -14,11 +14,12 @@ use Rattle.device.specs.declared.Joining.{Joining}
 use Rattle.bench.specs.Bench.{live}
 use Rattle.bench.specs.Slot.{line_bit, slotted, reset_done}
 use Rattle.bench.specs.declared.Bench.{Bench}
-use Rattle.bench.specs.Everywhere.{Invariant, heard-each, restarted-each, conversion-each, copy-each, cycle-each}
-use Rattle.bench.specs.Laws.{slot_cases, reset-cases, added-cases}
+use Rattle.bench.specs.Everywhere.{Invariant}
+use Rattle.bench.proofs.Everywhere.{heard-each, restarted-each, conversion-each, copy-each, cycle-each}
+use Rattle.bench.proofs.Laws.{slot_cases, reset-cases, added-cases}
 use Rattle.bench.specs.Sound.{BenchSound}
-use Rattle.bench.specs.SoundLaws.{empty-sound, slotted-sound, reset-done-sound, added-sound, conversion-finished-sound}
-use Rattle.bench.specs.SoundLaws.{copy-finished-sound, power-cycled-sound}
+use Rattle.bench.proofs.SoundLaws.{empty-sound, slotted-sound, reset-done-sound, added-sound, conversion-finished-sound}
+use Rattle.bench.proofs.SoundLaws.{copy-finished-sound, power-cycled-sound}
 use Rattle.history_laws.specs.History.{Call, add, reset, slot, finish_conversion, finish_copy, power_cycle, search}
 use Rattle.history_laws.specs.History.{search_alarms, read, write, read_pins, Typed, apply, Ledger, step, start, ledger}
 use Rattle.history_laws.specs.History.{after}

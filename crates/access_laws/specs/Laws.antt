@@ -22,12 +22,13 @@ use Rattle.device.specs.Power.{reset_of}
 use Rattle.device.specs.declared.Device.{Device}
 use Rattle.device.specs.Record.{holds_wire}
 use Rattle.bench.specs.Bench.{live, free}
-use Rattle.bench.specs.Laws.{line-live, heard-live, restarted-live, free-live, slot-accepted, reset-accepted}
+use Rattle.bench.proofs.Laws.{line-live, heard-live, restarted-live, free-live, slot-accepted, reset-accepted}
 use Rattle.bench.specs.Slot.{line_bit, heard, presence_of, restarted, reset_done}
 use Rattle.bench.specs.declared.Bench.{Bench}
 use Rattle.master_rules.specs.Buses.{slot_rule, calls}
 use Rattle.master_rules.specs.Course.{Throughout, Runs, runs_append}
-use Rattle.master_rules.specs.OnTheBench.{Free, free-restarted}
+use Rattle.master_rules.specs.OnTheBench.{Free}
+use Rattle.master_rules.proofs.OnTheBench.{free-restarted}
 use Rattle.commands.specs.Commands.{match_rom, read_scratchpad, write_scratchpad}
 use Rattle.family.specs.Families.{properties_of}
 use Rattle.family.specs.declared.Properties.{Properties}
@@ -39,7 +40,7 @@ use Rattle.master_rules.specs.Wire.{sent}
 use Rattle.master_rules.specs.Access.{refused_at, addressed, after_slots, bytes_shown, fetched, on_presence, read_back}
 use Rattle.master_rules.specs.Access.{admission, read_at, settings_sent, as_asked, written_and_read, write_at}
 use Rattle.master_rules.specs.Issued.{issued, Granted}
-use Rattle.master_rules.specs.IssuedLaws.{slots-presence, granted-run}
+use Rattle.master_rules.proofs.IssuedLaws.{slots-presence, granted-run}
 use Rattle.access_laws.specs.Unrefused.{address_bits, read_bits, settings_bits, write_bits, Unrefused, ReadClaim}
 use Rattle.access_laws.specs.Unrefused.{WriteClaim}
 use Rattle.access_laws.specs.Course.{Calm, Hears, Settled, settled-calm, settled-hears, Access, reading, writing}

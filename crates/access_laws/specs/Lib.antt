@@ -11,10 +11,8 @@ pub mod Lasting
 pub mod Bytewise
 pub mod ReadLaws
 pub mod NeverLaws
-pub mod WriteLaws
 pub mod FinishedLaws
 pub mod SearchLaws
 pub mod Pinning
-pub mod PinningLaws
 pub mod Names
 pub mod NamesLaws

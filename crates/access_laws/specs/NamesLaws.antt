@@ -29,23 +29,24 @@ use Rattle.search_laws.specs.OnTheWire.{triples_shown}
 use Rattle.search_laws.specs.Pass.{Triple, triple, found}
 use Rattle.bench.specs.Bench.{live, free}
 use Rattle.bench.specs.Sound.{codes_of, BenchSound}
-use Rattle.bench.specs.SoundLaws.{codes-count}
+use Rattle.bench.proofs.SoundLaws.{codes-count}
 use Rattle.bench.specs.declared.Bench.{Bench}
 use Rattle.master_rules.specs.OnTheBench as bench
+use Rattle.master_rules.proofs.OnTheBench as wired
 use Rattle.master_rules.specs.OnTheBench.{flagged_codes}
 use Rattle.bench.specs.Slot.{reset_done}
 use Rattle.master_rules.specs.Search.{fewest_places, fewest_bytes, most_passes, frame_of, refused_outcome, lonely_outcome}
 use Rattle.master_rules.specs.Search.{found_outcome, search_run, search_outcome, Outcome}
 use Rattle.history_laws.specs.History.{after, added}
 use Rattle.history_laws.specs.Demand.{alarms}
-use Rattle.history_laws.specs.Corollaries.{bench-is-sound, codes-are-added}
-use Rattle.history_laws.specs.Theorem.{presence-is, presence-shown, codes-fit, flagged-are-alarms}
+use Rattle.history_laws.proofs.Corollaries.{bench-is-sound, codes-are-added}
+use Rattle.history_laws.proofs.Theorem.{presence-is, presence-shown, codes-fit, flagged-are-alarms}
 use Rattle.master_rules.specs.SearchLaws.{passes-made, nobody-there}
 use Rattle.basic_laws.specs.LaidLaws.{laid-read}
 use Rattle.text.specs.Lines.{Line, lines_of}
 use Rattle.frame.specs.ReadLine.{carries, read_line}
 use Rattle.frame.specs.Recording.{read_all, write_all, Writable, none, one}
-use Rattle.frame.specs.RecordingLaws.{read_back}
+use Rattle.frame.proofs.RecordingLaws.{read_back}
 use Rattle.search_laws.specs.Wire.{Search as SearchBy}
 use Rattle.master_rules.specs.Buses.{slot_rule}
 use Rattle.access_laws.specs.Names.{names_of, recorded, NamesClaim, FramesClaim}
@@ -225,10 +226,10 @@ module _ (b : Bench) (s : BenchSound b) (f : free b
   search-reads (n ∷ ns) e =
       let some : 0 < length (codes_of b) = rw e (omega arith) in
       rw (passes-made search_rom b places room p q f (there n ns e))
-      (listed-reads search_rom Search search-named b (bench.search_on most_passes b) (bench.search-calls most_passes b f)
+      (listed-reads search_rom Search search-named b (bench.search_on most_passes b) (wired.search-calls most_passes b f)
       (codes_of b)
       (each_fits (codes_of b) l s.codes-sound)
-      (bench.search-complete most_passes b l s.codes-distinct some few-codes) n ns some)
+      (wired.search-complete most_passes b l s.codes-distinct some few-codes) n ns some)
 
   alarm-reads : (ns ks : List ℕ) → codes_of b ≡ ns → flagged_codes b ≡ ks
       → Reads Alarm ns (search_outcome alarm_search b places room)
@@ -236,8 +237,8 @@ module _ (b : Bench) (s : BenchSound b) (f : free b
   alarm-reads (n ∷ ns) [] e k =
       rw (
         passes-made alarm_search b places room p q f (there n ns e),
-        bench.alarm-calls most_passes b f,
-        bench.alarm-none 31 b k,
+        wired.alarm-calls most_passes b f,
+        wired.alarm-none 31 b k,
       )
       record {
         writable = frame-writable unheard_bits ten [] none;
@@ -251,15 +252,15 @@ module _ (b : Bench) (s : BenchSound b) (f : free b
       ten = let b = bits-length 8 alarm_search in simp length-append (omega arith)
   alarm-reads (n ∷ ns) (c ∷ ks) e k =
       let some : 0 < length (flagged_codes b) = rw k (omega arith) in
-      let few = bench.flagged-few b in
+      let few = wired.flagged-few b in
       let most = few-codes in
       let room-left : length (flagged_codes b) ≤ most_passes = omega arith in
       rw (passes-made alarm_search b places room p q f (there n ns e))
       (listed-reads alarm_search Alarm alarm-named b (bench.alarm_search_on most_passes b)
-      (bench.alarm-calls most_passes b f) (flagged_codes b)
-      (each_fits (flagged_codes b) (bench.flagged-below b l)
-      (bench.some-each (λ c. sound c ≡ true) (λ d. d.alarm) (live b) s.codes-sound))
-      (bench.alarm-complete most_passes b l s.codes-distinct some room-left) n ns some)
+      (wired.alarm-calls most_passes b f) (flagged_codes b)
+      (each_fits (flagged_codes b) (wired.flagged-below b l)
+      (wired.some-each (λ c. sound c ≡ true) (λ d. d.alarm) (live b) s.codes-sound))
+      (wired.alarm-complete most_passes b l s.codes-distinct some room-left) n ns some)
 
 pub recording-named : NamesClaim
 recording-named h t f places recording p q =

@@ -22,11 +22,11 @@ use Rattle.bench.specs.Slot.{presence_of, restarted, reset_done}
 use Rattle.bench.specs.declared.Bench.{Bench}
 use Rattle.bench.specs.declared.Place.{Place}
 use Rattle.bench.specs.declared.Place.TheVariants.{At, Nowhere}
-use Rattle.bench.specs.Laws.{reset-accepted, reset-cases}
+use Rattle.bench.proofs.Laws.{reset-accepted, reset-cases}
 use Rattle.master_rules.specs.declared.Access.{Access}
 use Rattle.master_rules.specs.Access.{refused_at, fetched, on_presence, read_back, admission, read_at, settings_sent}
 use Rattle.master_rules.specs.Access.{as_asked, written_and_read, write_at}
-use Rattle.master_rules.specs.AccessLaws.{read-unsent, write-unsent}
+use Rattle.master_rules.proofs.AccessLaws.{read-unsent, write-unsent}
 use Rattle.history_laws.specs.History.{Code64, after}
 use Rattle.history_laws.specs.Kept.{written_keeps}
 use Rattle.access_laws.specs.Bytewise.{Readable, readable-after, readable-slot, readable-reset}

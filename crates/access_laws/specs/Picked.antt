@@ -18,7 +18,7 @@ use Rattle.basic_laws.specs.Choice.{if◌then◌else◌}
 use Rattle.basic_laws.specs.Bits.{bit_at, bits_of}
 use Rattle.commands.specs.Commands.{match_rom, read_scratchpad}
 use Rattle.rom.specs.Code.{code_bits}
-use Rattle.search_laws.specs.NumbersLaws.{bits-differ}
+use Rattle.search_laws.proofs.NumbersLaws.{bits-differ}
 use Rattle.device.specs.Hear.{await_function, function_command, hear_of}
 use Rattle.device.specs.Power.{reset_of}
 use Rattle.device.specs.Record.{with_stage}

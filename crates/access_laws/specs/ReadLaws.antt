@@ -20,7 +20,7 @@ use Rattle.crc.specs.Crc.{crc_bits, crc_of}
 use Rattle.rom.specs.Code.{family_of, crc_byte_of, code_refusal, sound}
 use Rattle.scratchpad.specs.Judgement.{crc_right, all_zeros, judged}
 use Rattle.scratchpad.specs.Stored.{reading_in, fine_in}
-use Rattle.scratchpad.specs.StoredLaws.{raw-range}
+use Rattle.scratchpad.proofs.StoredLaws.{raw-range}
 use Rattle.device.specs.Offer.{nine_bytes}
 use Rattle.device.specs.OfferLaws.{nine-length, nine-byte, nine-crc}
 use Rattle.device.specs.Record.{row_of}
@@ -30,7 +30,7 @@ use Rattle.bench.specs.Calls.{device_at}
 use Rattle.bench.specs.Slot.{presence_of, restarted}
 use Rattle.bench.specs.declared.Bench.{Bench}
 use Rattle.bench.specs.declared.Place.TheVariants.{At}
-use Rattle.bench.specs.Laws.{reset-accepted, place-live, place_found, device-live}
+use Rattle.bench.proofs.Laws.{reset-accepted, place-live, place_found, device-live}
 use Rattle.master_rules.specs.Access.{addressed, after_slots, judged_reply, fetched, read_back, admission, read_at}
 use Rattle.master_rules.specs.Issued.{issued}
 use Rattle.history_laws.specs.History.{after}

@@ -27,7 +27,8 @@ use Rattle.basic_laws.specs.Bytes.{Bytes}
 use Rattle.search_laws.specs.Reads.{read_slots}
 use Rattle.search_laws.specs.Wire.{slots}
 use Rattle.device.specs.Hear.{after_scratchpad, hear_of}
-use Rattle.device.specs.Laws.{only_moves, hear-only-stage, quiet-stays, quiet-offers}
+use Rattle.device.specs.Laws.{only_moves}
+use Rattle.device.proofs.Laws.{hear-only-stage, quiet-stays, quiet-offers}
 use Rattle.device.specs.Offer.{offer_of, nine_bytes, scratchpad_slot}
 use Rattle.device.specs.OfferLaws.{nine-length}
 use Rattle.device.specs.declared.Device.{Device}
@@ -36,8 +37,9 @@ use Rattle.device.specs.declared.Stage.TheVariants.{SendScratchpad, Quiet}
 use Rattle.bench.specs.Bench.{live}
 use Rattle.bench.specs.Slot.{line_bit, heard}
 use Rattle.bench.specs.declared.Bench.{Bench}
-use Rattle.bench.specs.Laws.{line-live, heard-live, slot-accepted}
-use Rattle.master_rules.specs.OnTheBench.{Free, free-heard}
+use Rattle.bench.proofs.Laws.{line-live, heard-live, slot-accepted}
+use Rattle.master_rules.specs.OnTheBench.{Free}
+use Rattle.master_rules.proofs.OnTheBench.{free-heard}
 use Rattle.master_rules.specs.Thermometers.{unstaged, Moving}
 use Rattle.master_rules.specs.Wire.{shown}
 use Rattle.master_rules.specs.Access.{after_slots, bytes_shown}

@@ -5,10 +5,10 @@ use Rattle.basic_laws.specs.Choice.{if◌then◌else◌}
 use Rattle.commands.specs.Commands.{search_rom, alarm_search}
 use Rattle.refusals.specs.Refusals.{no_room, wire_busy}
 use Rattle.bench.specs.Bench.{live, free}
-use Rattle.bench.specs.Laws.{reset-cases}
+use Rattle.bench.proofs.Laws.{reset-cases}
 use Rattle.bench.specs.Slot.{reset_done}
 use Rattle.bench.specs.declared.Bench.{Bench}
-use Rattle.master_rules.specs.OnTheBench.{restarted-keeps, search-calls, search-keeps, alarm-calls, alarm-keeps}
+use Rattle.master_rules.proofs.OnTheBench.{restarted-keeps, search-calls, search-keeps, alarm-calls, alarm-keeps}
 use Rattle.master_rules.specs.Search.{fewest_places, fewest_bytes, most_passes, refused_outcome, lonely_outcome}
 use Rattle.master_rules.specs.Search.{found_outcome, search_run, search_outcome}
 use Rattle.master_rules.specs.Thermometers.{unstaged}

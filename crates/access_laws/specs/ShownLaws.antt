@@ -30,10 +30,11 @@ use Rattle.bench.specs.Bench.{live, vacant}
 use Rattle.bench.specs.Calls.{device_at}
 use Rattle.bench.specs.Slot.{presence_of, restarted}
 use Rattle.bench.specs.declared.Bench.{Bench}
-use Rattle.bench.specs.Laws.{reset-accepted, restarted-live, place_found, place-live, place-nowhere, device-live}
+use Rattle.bench.proofs.Laws.{reset-accepted, restarted-live, place_found, place-live, place-nowhere, device-live}
 use Rattle.bench.specs.Sound.{codes_of}
 use Rattle.master_rules.specs.Buses.{slot_rule}
-use Rattle.master_rules.specs.OnTheBench.{Free, restarted-keeps, free-restarted}
+use Rattle.master_rules.specs.OnTheBench.{Free}
+use Rattle.master_rules.proofs.OnTheBench.{restarted-keeps, free-restarted}
 use Rattle.master_rules.specs.Thermometers.{unstaged}
 use Rattle.master_rules.specs.Access.{refused_at, addressed, after_slots, read_back, admission, read_at}
 use Rattle.access_laws.specs.Unrefused.{address_bits}

@@ -21,10 +21,7 @@ pub mod BitsLaws
 pub mod Bytes
 pub mod BytesLaws
 pub mod Sums
-pub mod SumsLaws
 pub mod XorLaws
 pub mod Rounding
-pub mod RoundingLaws
-pub mod DifferencesLaws
 pub mod Complement
 pub mod ComplementLaws

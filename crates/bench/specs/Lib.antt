@@ -10,4 +10,3 @@ pub mod Calls
 pub mod Laws
 pub mod Everywhere
 pub mod Sound
-pub mod SoundLaws

@@ -5,7 +5,7 @@ use Rattle.basic_laws.specs.Laid.{laid}
 use Rattle.basic_laws.specs.LaidLaws.{laid_none, laid-length, laid-front, laid_then}
 use Rattle.refusals.specs.Refusals.{accepted}
 use Rattle.text.specs.Laying.{lay_answer, lay_leaves}
-use Rattle.text.specs.LayingLaws.{lay-fits}
+use Rattle.text.proofs.LayingLaws.{lay-fits}
 use Rattle.text.specs.declared.laying.Written.{Written}
 use Rattle.frame.specs.Recording.{write_all}
 use Rattle.bench.specs.declared.Bench.{Bench}

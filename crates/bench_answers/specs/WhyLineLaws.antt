@@ -3,7 +3,7 @@ use Rattle.std.specs.Prelude.{ℕ, ◌<◌, ◌≤◌, Bool, ℤ, length}
 use Rattle.std.proofs.Common.{arith, lit≤, length-append, SFits}
 use Rattle.std.specs.Int.{w16, w32}
 use Rattle.basic_laws.specs.Complement.{Fits16}
-use Rattle.basic_laws.specs.ComplementLaws.{wider}
+use Rattle.basic_laws.proofs.ComplementLaws.{wider}
 use Rattle.text.specs.Putting.{line_room}
 use Rattle.text.specs.FieldsLaws.{byte-digits, signed-digits, flag-length}
 use Rattle.bench_answers.specs.WhyLine.{why_fields}

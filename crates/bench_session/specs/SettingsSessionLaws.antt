@@ -11,7 +11,7 @@ use Rattle.bench_requests.specs.declared.Request.{Request}
 use Rattle.bench_requests.specs.declared.Request.TheVariants.{Bad}
 use Rattle.sessions.specs.GatheringLaws.{held_reads, held_tells}
 use Rattle.sessions.specs.Session.{in_turn, fresh_run, session, cut, HeldEnough}
-use Rattle.sessions.specs.SessionLaws.{session-cuts}
+use Rattle.sessions.proofs.SessionLaws.{session-cuts}
 use Rattle.bench.specs.declared.Bench.{Bench}
 use Rattle.bench_answers.specs.Said.{Answered}
 use Rattle.bench_answers.specs.Whole.{room}

@@ -16,11 +16,11 @@ use Rattle.basic_laws.specs.Laid.{laid}
 use Rattle.basic_laws.specs.LaidLaws.{laid_more, laid-length}
 use Rattle.refusals.specs.Refusals.{accepted, no_room, not_hex}
 use Rattle.text.specs.declared.laying.Written.{Written}
-use Rattle.text.specs.LayingLaws.{lay-fits, lay-short}
+use Rattle.text.proofs.LayingLaws.{lay-fits, lay-short}
 use Rattle.frame.specs.Writing.{fed_line}
 use Rattle.frame.specs.declared.Frame.{Frame}
 use Rattle.frame.specs.Recording.{write_all, Writable, none, one}
-use Rattle.frame.specs.RecordingLaws.{write-append}
+use Rattle.frame.proofs.RecordingLaws.{write-append}
 use Rattle.captures.specs.declared.pulses.Wire.{Wire}
 use Rattle.captures.specs.declared.pulses.Ending.{Ending}
 use Rattle.captures.specs.Rule.{ending_at}
@@ -30,7 +30,7 @@ use Rattle.captures.specs.declared.edges.Reader.{Reader}
 use Rattle.captures.specs.declared.edges.Answer.{Answer}
 use Rattle.captures.specs.Edges.{refused_with, frame_written, closed_leaves, Reading, answers_of, finished_with, end_answer}
 use Rattle.captures.specs.Edges.{end_leaves}
-use Rattle.captures.specs.EdgesLaws.{last_done, last-refused, end-again, end-in-line, end_low, end-closes, end-nothing}
+use Rattle.captures.proofs.EdgesLaws.{last_done, last-refused, end-again, end-in-line, end_low, end-closes, end-nothing}
 use Rattle.capture_laws.specs.Capture.{EdgeCourse, refused_end, last_closed, ended_at, course_ended, FrameSound}
 use Rattle.capture_laws.specs.StepLaws.{Kept}
 use Rattle.capture_laws.specs.Claims.{Filled, Closed}

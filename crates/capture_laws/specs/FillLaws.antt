@@ -23,7 +23,7 @@ use Rattle.text.specs.Digits.{spells, number_in}
 use Rattle.text.specs.Lines.{line_feed, not_feed, lines_of}
 use Rattle.text.specs.LinesLaws.{lines_cut, plain_lines}
 use Rattle.text.specs.declared.laying.Written.{Written}
-use Rattle.text.specs.LayingLaws.{lay-fits, lay-short}
+use Rattle.text.proofs.LayingLaws.{lay-fits, lay-short}
 use Rattle.frame.specs.declared.Frame.{Frame}
 use Rattle.frame.specs.Writing.{fed_line}
 use Rattle.frame.specs.Recording.{write_all}
@@ -35,8 +35,8 @@ use Rattle.captures.specs.PartialLaws.{gathered-count, gathered-spelt, gathered-
 use Rattle.captures.specs.declared.edges.Reader.{Reader}
 use Rattle.captures.specs.Edges.{refused_with, taken_so_far, on_edge, line_ended, frame_written, fed_line_reader, fed_line_leaves}
 use Rattle.captures.specs.Edges.{Reading, on_byte, fed_bytes}
-use Rattle.captures.specs.EdgesLaws.{edge-refused, edge-taken, line_other, line-length, line-time, closing-refused}
-use Rattle.captures.specs.EdgesLaws.{closing-done, feed-closes, feed-moves, refused-stays, on-character, on-feed}
+use Rattle.captures.proofs.EdgesLaws.{edge-refused, edge-taken, line_other, line-length, line-time, closing-refused}
+use Rattle.captures.proofs.EdgesLaws.{closing-done, feed-closes, feed-moves, refused-stays, on-character, on-feed}
 use Rattle.capture_laws.specs.Capture.{line_step, EdgeCourse, course_stopped, closing, course_onward, course_of}
 use Rattle.capture_laws.specs.Capture.{FrameSound}
 use Rattle.capture_laws.specs.Claims.{Filled}

@@ -9,8 +9,6 @@ pub mod EndLaws
 pub mod Taken
 pub mod Room
 pub mod RoomLaws
-pub mod Theorem
-pub mod RoomTheorem
 pub mod Cases
 pub mod Transcript
 pub mod TranscriptLaws

@@ -16,14 +16,14 @@ use Rattle.text.specs.Digits.{spells, number_in}
 use Rattle.text.specs.Lines.{Line, line_feed, not_feed, lines_of, lines_bytes}
 use Rattle.text.specs.LinesLaws.{lines-bytes}
 use Rattle.frame.specs.Writing.{fed_line}
-use Rattle.frame.specs.WritingLaws.{lineable-count, fed-length}
+use Rattle.frame.proofs.WritingLaws.{lineable-count, fed-length}
 use Rattle.frame.specs.Recording.{write_all}
 use Rattle.captures.specs.declared.pulses.Wire.{Wire}
 use Rattle.captures.specs.Rule.{untouched, refuses, edge_step}
 use Rattle.captures.specs.Partial.{time_digits}
 use Rattle.captures.specs.declared.edges.Reader.{Reader}
 use Rattle.captures.specs.Edges.{fresh_reader, taken_so_far, Reading, fed_bytes}
-use Rattle.captures.specs.EdgesLaws.{refused-stays}
+use Rattle.captures.proofs.EdgesLaws.{refused-stays}
 use Rattle.capture_laws.specs.Capture.{line_step, EdgeCourse, course_stopped, closing, course_onward, course_of}
 use Rattle.capture_laws.specs.Capture.{FrameSound}
 use Rattle.capture_laws.specs.StepLaws.{blank-sound, open_bytes, Fair, line-fair, course-kept}

@@ -16,7 +16,7 @@ use Rattle.text.specs.Lines.{Line}
 use Rattle.frame.specs.Frames.{most_slots, blank_frame, pushed}
 use Rattle.frame.specs.FramesLaws.{blank-held, blank-lineable, push-count, push-held, push-lineable}
 use Rattle.frame.specs.Writing.{fed_line}
-use Rattle.frame.specs.WritingLaws.{fed-length}
+use Rattle.frame.proofs.WritingLaws.{fed-length}
 use Rattle.frame.specs.Recording.{Writable, none, one}
 use Rattle.captures.specs.declared.pulses.Pulse.{Pulse}
 use Rattle.captures.specs.declared.pulses.Pulse.TheVariants.{One, Zero, Reset, Other}

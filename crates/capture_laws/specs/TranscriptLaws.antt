@@ -12,14 +12,14 @@ use Rattle.basic_laws.specs.LaidLaws.{laid_none, laid-length, laid-read, laid_th
 use Rattle.refusals.specs.Refusals.{accepted, not_hex}
 use Rattle.text.specs.Lines.{not_feed, lines_of}
 use Rattle.text.specs.declared.laying.Written.{Written}
-use Rattle.text.specs.LayingLaws.{lay-fits}
+use Rattle.text.proofs.LayingLaws.{lay-fits}
 use Rattle.naming.specs.Naming.{refused_name}
 use Rattle.naming.specs.PrintingLaws.{printed-length}
 use Rattle.frame.specs.declared.Frame.{Frame}
 use Rattle.frame.specs.Writing.{fed_line}
-use Rattle.frame.specs.WritingLaws.{lineable-count, fed-length}
+use Rattle.frame.proofs.WritingLaws.{lineable-count, fed-length}
 use Rattle.frame.specs.Recording.{write_all}
-use Rattle.frame.specs.RecordingLaws.{write-append}
+use Rattle.frame.proofs.RecordingLaws.{write-append}
 use Rattle.captures.specs.declared.pulses.Wire.{Wire}
 use Rattle.captures.specs.declared.pulses.PulseStage.{PulseStage}
 use Rattle.captures.specs.declared.pulses.PulseStage.TheVariants.{Idle, FirstLow, Released, Presence, High, Low}

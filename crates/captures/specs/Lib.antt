@@ -6,6 +6,5 @@ pub mod Cases
 pub mod Partial
 pub mod PartialLaws
 pub mod Edges
-pub mod EdgesLaws
 pub mod EdgePrinting
 pub mod EdgePrintingLaws

@@ -10,7 +10,7 @@ use Rattle.text.specs.Lines.{line_feed, space}
 use Rattle.text.specs.Laying.{has_room}
 use Rattle.text.specs.declared.laying.Written.{Written}
 use Rattle.text.specs.Putting.{Puts, line_room, line_answer, line_leaves}
-use Rattle.text.specs.PuttingLaws.{puts-field}
+use Rattle.text.proofs.PuttingLaws.{puts-field}
 use Rattle.comparing.specs.Departure.{departure_of, side_number}
 use Rattle.comparing.specs.declared.Side.TheVariants.{Other}
 use Rattle.comparing.specs.Heading.{side_word, heading_of, heading_for}

@@ -11,4 +11,3 @@ pub mod Finish
 pub mod Outcomes
 pub mod Laws
 pub mod Sound
-pub mod SoundLaws

@@ -5,5 +5,4 @@ pub mod ReadLineLaws
 pub mod Writing
 pub mod WritingLaws
 pub mod Recording
-pub mod RecordingLaws
 pub mod Cases

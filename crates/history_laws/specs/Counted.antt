@@ -12,7 +12,7 @@ use Rattle.frame.specs.Frames.{bytes_for, most_slots}
 use Rattle.frame.specs.FramesLaws.{recorded-all}
 use Rattle.frame.specs.Recording.{write_all}
 use Rattle.frame.specs.Writing.{fed_line}
-use Rattle.frame.specs.WritingLaws.{fed-length}
+use Rattle.frame.proofs.WritingLaws.{fed-length}
 use Rattle.frame.specs.declared.Frame.{Frame}
 use Rattle.basic_laws.specs.Each.{Each}
 use Rattle.master_rules.specs.Search.{frame_of, count_pass, passes_in, slots_in}

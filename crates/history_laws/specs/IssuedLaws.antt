@@ -13,12 +13,13 @@ use Rattle.bench.specs.Slot.{presence_of, restarted}
 use Rattle.bench.specs.declared.Bench.{Bench}
 use Rattle.master_rules.specs.Buses.{slot_rule}
 use Rattle.master_rules.specs.Course.{Course}
-use Rattle.master_rules.specs.OnTheBench.{Free, free-restarted, free-pass, free-unheard}
+use Rattle.master_rules.specs.OnTheBench.{Free}
+use Rattle.master_rules.proofs.OnTheBench.{free-restarted, free-pass, free-unheard}
 use Rattle.master_rules.specs.Thermometers.{thermometers, Moving}
 use Rattle.master_rules.specs.Search.{frame_of}
 use Rattle.master_rules.specs.Issued.{issued, Granted}
 use Rattle.history_laws.specs.Demand.{pass_of, unheard}
-use Rattle.master_rules.specs.IssuedLaws.{slots-presence, granted-run}
+use Rattle.master_rules.proofs.IssuedLaws.{slots-presence, granted-run}
 
 -- what some passes leave is what the passes of the laws leave
 pub record SamePasses (command : ℕ) (codes : List ℕ) (b : Bench) : Type 0 where

@@ -4,5 +4,3 @@ pub mod IssuedLaws
 pub mod Kept
 pub mod Reached
 pub mod Counted
-pub mod Theorem
-pub mod Corollaries

@@ -18,7 +18,8 @@ use Rattle.refusals.specs.Refusals.{accepted}
 use Rattle.text.specs.Lines.{Line, line_feed, not_feed, lines_of, feed_at, first_line, width}
 use Rattle.text.specs.LinesLaws.{lines_cut}
 use Rattle.pieces.specs.Pieces.{said, say_all, together, Enough}
-use Rattle.pieces.specs.Cuts.{cut-same, alone-open}
+use Rattle.pieces.specs.Cuts.{alone-open}
+use Rattle.pieces.proofs.Cuts.{cut-same}
 use Rattle.frame.specs.ReadLineLaws.{read-long}
 use Rattle.naming.specs.Naming.{name_number, line_named}
 use Rattle.naming.specs.declared.Name.{Name}

@@ -3,10 +3,8 @@ pub mod StepLaws
 pub mod Repair
 pub mod LineLaws
 pub mod Claims
-pub mod ClaimsLaws
 pub mod MendingText
 pub mod Laws
 pub mod Notice
 pub mod NoticeLaws
 pub mod NoticesLaws
-pub mod RoomLaws

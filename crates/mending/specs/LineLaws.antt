@@ -11,7 +11,7 @@ use Rattle.refusals.specs.Refusals.{accepted, not_hex, malformed}
 use Rattle.text.specs.Digits.{spells}
 use Rattle.text.specs.Lines.{Line, line_feed, lines_bytes}
 use Rattle.text.specs.Laying.{lay_answer, lay_leaves}
-use Rattle.text.specs.LayingLaws.{lay-fits}
+use Rattle.text.proofs.LayingLaws.{lay-fits}
 use Rattle.frame.specs.ReadLine.{LineContent, carries, no_frame, read_line, longest_line, found, line_answer_of}
 use Rattle.frame.specs.ReadLineLaws.{read-accepted, refused-number}
 use Rattle.mending.specs.Mending.{mended_chars, altered_by, content_refusal, line_refusal, mended_line, longest_mended}

@@ -12,7 +12,7 @@ use Rattle.basic_laws.specs.LaidLaws.{laid_none, laid-length, laid-read}
 use Rattle.refusals.specs.Refusals.{accepted, no_room}
 use Rattle.text.specs.declared.laying.Written.{Written}
 use Rattle.text.specs.Laying.{lay_answer, lay_leaves}
-use Rattle.text.specs.LayingLaws.{lay-fits, lay-behind}
+use Rattle.text.proofs.LayingLaws.{lay-fits, lay-behind}
 use Rattle.mending.specs.declared.answers.Noticed.{Noticed}
 use Rattle.mending.specs.NoticeLaws.{notice-most}
 use Rattle.mending.specs.Notice.{notice_of, line_number, notices_of, most_told, notices_room, lines_after}

@@ -5,4 +5,3 @@ pub mod PassesLaws
 pub mod Printing
 pub mod PrintingLaws
 pub mod Streaming
-pub mod StreamingLaws

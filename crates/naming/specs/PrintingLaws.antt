@@ -11,7 +11,7 @@ use Rattle.text.specs.Decimal.{decimal}
 use Rattle.text.specs.DecimalLaws.{decimal-length, decimal-most}
 use Rattle.text.specs.Lines.{line_feed}
 use Rattle.text.specs.Laying.{lay_answer, lay_leaves}
-use Rattle.text.specs.LayingLaws.{lay-fits, lay-behind}
+use Rattle.text.proofs.LayingLaws.{lay-fits, lay-behind}
 use Rattle.naming.specs.declared.Name.{Name}
 use Rattle.naming.specs.declared.Name.TheVariants.{Empty, Search, Alarm, Nobody, Pad, Other}
 use Rattle.naming.specs.declared.Named.{Named}

@@ -11,7 +11,7 @@ use Rattle.std.proofs.lemmas.Bool.{false≢true}
 use Rattle.basic_laws.specs.Choice.{if◌then◌else◌}
 use Rattle.basic_laws.specs.Bits.{bit_number}
 use Rattle.basic_laws.specs.Sums.{plus, sum, ones}
-use Rattle.basic_laws.specs.SumsLaws.{plus-self, sum-at}
+use Rattle.basic_laws.proofs.SumsLaws.{plus-self, sum-at}
 use Rattle.noise_laws.specs.Noise.{differences, OnlyWithin}
 
 -- ## How many

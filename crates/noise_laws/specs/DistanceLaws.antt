@@ -13,10 +13,10 @@ use Rattle.std.specs.Int.Bits.{xor_zero_l}
 use Rattle.basic_laws.specs.Bits.{bits_of, number_of}
 use Rattle.basic_laws.specs.BitsLaws.{bits-number, number_lt}
 use Rattle.basic_laws.specs.Sums.{sum, ones}
-use Rattle.basic_laws.specs.SumsLaws.{sum-length, same-if-none, ones-append, ones-zeros, none-anywhere}
+use Rattle.basic_laws.proofs.SumsLaws.{sum-length, same-if-none, ones-append, ones-zeros, none-anywhere}
 use Rattle.crc.specs.Crc.{taps, crc_bit, crc_bits}
 use Rattle.crc.specs.Laws.{crc-more, crc-append, crc-bit-lt, crc-lt}
-use Rattle.crc.specs.SumLaws.{crc-sum-zero, crc-merge}
+use Rattle.crc.proofs.SumLaws.{crc-sum-zero, crc-merge}
 use Rattle.noise_laws.specs.Claims.{Distance}
 use Rattle.noise_laws.specs.DifferencesLaws.{differences-ones, ones-within}
 use Rattle.noise_laws.specs.HoldsLaws.{from_one, quiet}

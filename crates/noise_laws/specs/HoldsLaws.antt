@@ -14,11 +14,11 @@ use Rattle.std.proofs.lemmas.Nat.{xor_lt}
 use Rattle.basic_laws.specs.Choice.{if◌then◌else◌}
 use Rattle.basic_laws.specs.Bits.{odd, bits_of, bytes_bits}
 use Rattle.basic_laws.specs.Sums.{ones}
-use Rattle.basic_laws.specs.SumsLaws.{ones-zeros}
+use Rattle.basic_laws.proofs.SumsLaws.{ones-zeros}
 use Rattle.basic_laws.specs.XorLaws.{xor-none}
 use Rattle.crc.specs.Crc.{taps, crc_bit, crc_bits, crc_of}
 use Rattle.crc.specs.Laws.{crc-none, crc-more, crc-append, crc-bit-lt, crc-lt, crc-bytes-append, crc-bytes-lt}
-use Rattle.crc.specs.SumLaws.{crc-merge, crc-own}
+use Rattle.crc.proofs.SumLaws.{crc-merge, crc-own}
 
 pub from_zero : (y : ℕ) → y < 256 → crc_bit y false ≡ 0 → y ≡ 0
 from_zero y h = by-test (odd y) refl

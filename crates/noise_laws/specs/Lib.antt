@@ -5,5 +5,3 @@ pub mod HoldsLaws
 pub mod ParityLaws
 pub mod DistanceLaws
 pub mod HiddenLaws
-pub mod NoticedLaws
-pub mod Theorem

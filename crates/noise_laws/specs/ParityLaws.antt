@@ -12,7 +12,7 @@ use Rattle.basic_laws.specs.Choice.{if◌then◌else◌}
 use Rattle.basic_laws.specs.Bits.{odd, bit_number, bits_of}
 use Rattle.basic_laws.specs.BitsLaws.{bits-length}
 use Rattle.basic_laws.specs.Sums.{ones}
-use Rattle.basic_laws.specs.SumsLaws.{sum-parity, bits-xor}
+use Rattle.basic_laws.proofs.SumsLaws.{sum-parity, bits-xor}
 use Rattle.crc.specs.Crc.{taps, crc_bit, crc_bits}
 use Rattle.crc.specs.Laws.{crc-none, crc-more, crc-bit-lt}
 

@@ -7,8 +7,8 @@ use Rattle.std.proofs.Common.{arith}
 use Rattle.family.specs.declared.Unit.{Unit}
 use Rattle.family.specs.declared.Unit.TheVariants.{Sixteenths as inSixteenths, HalfDegrees as inHalfDegrees}
 use Rattle.basic_laws.specs.Complement.{Fits16}
-use Rattle.basic_laws.specs.ComplementLaws.{signed-fits}
-use Rattle.basic_laws.specs.RoundingLaws.{floor-one}
+use Rattle.basic_laws.proofs.ComplementLaws.{signed-fits}
+use Rattle.basic_laws.proofs.RoundingLaws.{floor-one}
 use Rattle.temperature.specs.declared.Reading.{Reading}
 use Rattle.temperature.specs.declared.Reading.TheVariants.{InSixteenths, InHalves}
 use Rattle.temperature.specs.Register.{unit_of, count_of, raw_reading, register_of, cleared_of}

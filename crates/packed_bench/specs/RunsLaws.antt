@@ -11,7 +11,7 @@ use Rattle.basic_laws.specs.EachLaws.{each_snoc}
 use Rattle.basic_laws.specs.Same.{same}
 use Rattle.refusals.specs.Refusals.{accepted}
 use Rattle.family.specs.Layout.{configuration_place}
-use Rattle.temperature.specs.MeasuredLaws.{measured-fits}
+use Rattle.temperature.proofs.MeasuredLaws.{measured-fits}
 use Rattle.temperature.specs.Range.{in_range}
 use Rattle.temperature.specs.RangeLaws.{between-size}
 use Rattle.temperature.specs.Register.{count_of}
@@ -19,16 +19,17 @@ use Rattle.temperature.specs.declared.Reading.TheVariants.{InSixteenths}
 use Rattle.temperature.specs.declared.Sixteenths.{Sixteenths}
 use Rattle.scratchpad.specs.Stored.{stored_reading}
 use Rattle.device.specs.Finish.{conversion_done}
-use Rattle.device.specs.Laws.{hear-code, hear-page, power-up-fresh, joined-fresh, conversion-code, copy-only}
+use Rattle.device.proofs.Laws.{hear-code, hear-page, power-up-fresh, joined-fresh, conversion-code, copy-only}
 use Rattle.device.specs.Power.{joined}
 use Rattle.device.specs.Record.{row_of}
 use Rattle.device.specs.Sound.{Sound}
-use Rattle.device.specs.SoundLaws.{joined-sound, reset-sound, hear-sound, power-up-sound, conversion-sound, copy-sound}
+use Rattle.device.proofs.SoundLaws.{joined-sound, reset-sound, hear-sound, power-up-sound, conversion-sound, copy-sound}
 use Rattle.device.specs.declared.Device.{Device}
 use Rattle.device.specs.declared.Joining.{Joining}
 use Rattle.bench.specs.Bench.{live, empty_bench}
-use Rattle.bench.specs.Everywhere.{Invariant, heard-each, restarted-each, conversion-each, copy-each, cycle-each}
-use Rattle.bench.specs.Laws.{slot_cases, reset-cases, added-cases}
+use Rattle.bench.specs.Everywhere.{Invariant}
+use Rattle.bench.proofs.Everywhere.{heard-each, restarted-each, conversion-each, copy-each, cycle-each}
+use Rattle.bench.proofs.Laws.{slot_cases, reset-cases, added-cases}
 use Rattle.bench.specs.Records.{codes_fit}
 use Rattle.bench.specs.Slot.{line_bit}
 use Rattle.bench.specs.declared.Bench.{Bench}

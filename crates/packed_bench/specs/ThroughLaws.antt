@@ -17,7 +17,7 @@ use Rattle.refusals.specs.Refusals.{accepted}
 use Rattle.rom.specs.Code.{sound}
 use Rattle.temperature.specs.declared.Sixteenths.{Sixteenths}
 use Rattle.device.specs.Finish.{conversion_done, copy_done}
-use Rattle.device.specs.Laws.{power-up-fresh, conversion-code, copy-only}
+use Rattle.device.proofs.Laws.{power-up-fresh, conversion-code, copy-only}
 use Rattle.device.specs.Power.{power_up}
 use Rattle.device.specs.declared.Device.{Device}
 use Rattle.device.specs.declared.Joining.{Joining}
@@ -25,11 +25,12 @@ use Rattle.bench.specs.Bench.{vacant, live, empty_bench, place_of}
 use Rattle.bench.specs.Calls.{added_to, conversion_finished, copy_finished, power_cycled, looked}
 use Rattle.bench.specs.Slot.{line_bit, heard, slotted, restarted, reset_done}
 use Rattle.bench.specs.declared.Bench.{Bench}
-use Rattle.bench.specs.Laws.{slot_cases, reset-cases, heard-count, heard-places, heard-rest, restarted-count}
-use Rattle.bench.specs.Laws.{restarted-places, restarted-rest, Added, added-cases, OneChanged, conversion-cases}
-use Rattle.bench.specs.Laws.{copy-cases, cycle-cases}
+use Rattle.bench.proofs.Laws.{slot_cases, reset-cases, heard-count, heard-places, heard-rest, restarted-count}
+use Rattle.bench.specs.Laws.{Added}
+use Rattle.bench.proofs.Laws.{restarted-places, restarted-rest, added-cases, OneChanged, conversion-cases}
+use Rattle.bench.proofs.Laws.{copy-cases, cycle-cases}
 use Rattle.bench.specs.Sound.{codes_of}
-use Rattle.bench.specs.SoundLaws.{heard-codes, restarted-codes, added-codes, codes-new, one-changed-codes}
+use Rattle.bench.proofs.SoundLaws.{heard-codes, restarted-codes, added-codes, codes-new, one-changed-codes}
 use Rattle.packed_bench.specs.Types.{InTypes}
 use Rattle.packed_bench.specs.Table.{table_bytes, table_of, held, unpacked, pack_refusal, packed_into}
 use Rattle.packed_bench.specs.Tabled.{Tabled}

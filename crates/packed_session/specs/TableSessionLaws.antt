@@ -11,7 +11,7 @@ use Rattle.lines.specs.Words.{words_of}
 use Rattle.bench_requests.specs.declared.Request.{Request}
 use Rattle.sessions.specs.GatheringLaws.{held_reads}
 use Rattle.sessions.specs.Session.{in_turn, fresh_run, session, cut, HeldEnough}
-use Rattle.sessions.specs.SessionLaws.{session-cuts}
+use Rattle.sessions.proofs.SessionLaws.{session-cuts}
 use Rattle.bench_answers.specs.Whole.{room}
 use Rattle.bench_session.specs.Console.{answered}
 use Rattle.settings.specs.declared.Store.{Store}

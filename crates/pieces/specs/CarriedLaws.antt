@@ -6,7 +6,7 @@ use Rattle.basic_laws.specs.Choice.{if◌then◌else◌}
 use Rattle.basic_laws.specs.LaidLaws.{laid-read}
 use Rattle.text.specs.declared.laying.Written.{Written}
 use Rattle.text.specs.Laying.{lay_answer, lay_leaves}
-use Rattle.text.specs.LayingLaws.{lay-fits}
+use Rattle.text.proofs.LayingLaws.{lay-fits}
 use Rattle.pieces.specs.Carried.{behind, reads_left}
 
 pub laid-taken : (out x : List ℕ) → length x ≤ length out → (w : Written) (after : List ℕ) → w ≡ lay_answer out 0 x

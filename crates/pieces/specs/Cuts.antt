@@ -82,7 +82,7 @@ parts say s =
 -- ## Characters without a feed in front of a text
 
 -- the first line with characters in front
-abbrev prefixed : List ℕ → List Line → List Line
+abbrev pub prefixed : List ℕ → List Line → List Line
 prefixed u [] = record { chars = u; fed = false } ∷ []
 prefixed u (l ∷ ls) = record { chars = u ++ l.chars; fed = l.fed } ∷ ls
 
@@ -104,7 +104,7 @@ lines-prefixed c (d ∷ u) r h =
     again [] = refl
     again (l ∷ ls) = refl
 
-nonempty-prefixed : (u r : List ℕ) → 0 < length u → all not_feed u ≡ true → lines_of (u ++ r) ≡ prefixed u (lines_of r)
+pub nonempty-prefixed : (u r : List ℕ) → 0 < length u → all not_feed u ≡ true → lines_of (u ++ r) ≡ prefixed u (lines_of r)
 nonempty-prefixed [] r h k = absurd (omega arith)
 nonempty-prefixed (c ∷ u) r h k = lines-prefixed c u r k
 
@@ -117,65 +117,3 @@ module _ (say : Line → List ℕ) where
       let e : lines_of u ≡ record { chars = u; fed = false } ∷ [] =
       ap lines_of (sym (append-nil u)) ∙ nonempty-prefixed u [] h k in
       ap (say_all say) e ∙ append-nil (say record { chars = u; fed = false })
-
--- ## The unfinished line may be cut to what is carried
-
-module _ (say : Line → List ℕ) (most : ℕ) (enough : Enough say most) where
-  -- lines that agree in what is carried go on to say the same
-  module _ (u v : List ℕ) (long-u : most ≤ length u) (long-v : most ≤ length v) (agree : take most u
-      ≡ take most v) where
-    front_same : (x : List ℕ) (t : Bool) → say record { chars = u ++ x; fed = t }
-        ≡ say record { chars = v ++ x; fed = t }
-    front_same x t =
-        let a : most ≤ length (u ++ x) = rw (length-append u x) (omega arith) in
-        let b : most ≤ length (v ++ x) = rw (length-append v x) (omega arith) in
-        let e : take most (u ++ x) ≡ take most (v ++ x) =
-        take-append-le most u x long-u ∙ agree ∙ sym (take-append-le most v x long-v) in
-        enough.same record { chars = u ++ x; fed = t } record { chars = v ++ x; fed = t } a b e refl
-
-    prefixed-same : (ls : List Line) → say_all say (prefixed u ls) ≡ say_all say (prefixed v ls)
-    unfolding say_all
-    prefixed-same [] = let e = front_same [] false in
-        ap (λ (x : List ℕ). x ++ []) (rw (append-nil u, append-nil v) at e)
-    prefixed-same (l ∷ ls) = ap (λ (x : List ℕ). x ++ say_all say ls) (front_same l.chars l.fed)
-
-  pub cut-same : (u r : List ℕ) → all not_feed u ≡ true → said say (take most u ++ r) ≡ said say (u ++ r)
-  cut-same u r h = by-test (leb (length u) most) refl
-    where
-      by-test : (t : Bool) → leb (length u) most ≡ t → said say (take most u ++ r) ≡ said say (u ++ r)
-      by-test true e = rw (take_all most u (leb-true (length u) most e))
-      by-test false e =
-          let k = leb-false (length u) most e in
-          let v = take most u in
-          let some = enough.some in
-          let l : length v ≡ most = length-take-le most u (omega arith) in
-          let a : most ≤ length v = omega arith in
-          let b : most ≤ length u = omega arith in
-          let p : 0 < length v = omega arith in
-          let q : 0 < length u = omega arith in
-          let agree : take most v ≡ take most u = take-take most most u (omega arith) in
-          rw (
-            nonempty-prefixed v r p (all_take not_feed most u h),
-            nonempty-prefixed u r q h,
-          ) (prefixed-same v u a b agree (lines_of r))
-
-  -- ## Every way of cutting
-
-  pieces-on : (cs : List (List ℕ)) (u : List ℕ) → pieces say most u cs ≡ said say (u ++ together cs)
-  unfolding pieces together
-  pieces-on [] u = rw (append-nil u)
-  pieces-on (c ∷ cs) u =
-      let s = u ++ c in
-      let i = pieces-on cs (carried most s) in
-      let k = cut-same (rest (lines_of s)) (together cs) (rest_plain s) in
-      rw (
-        ← append_assoc u c (together cs),
-        lines_split s (together cs),
-        say-append say (whole (lines_of s)) (lines_of (rest (lines_of s) ++ together cs)),
-        i,
-        k,
-      )
-
-  -- what is said for the pieces of a text is what is said for the whole
-  pub any-cuts : (cs : List (List ℕ)) → pieces say most [] cs ≡ said say (together cs)
-  any-cuts cs = pieces-on cs []

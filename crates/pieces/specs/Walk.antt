@@ -17,7 +17,7 @@ use Rattle.text.specs.Lines.{Line, lines_of, width, feed_at}
 use Rattle.text.specs.LinesLaws.{first-size, lines-fed, lines-open, lines-done}
 use Rattle.text.specs.declared.laying.Written.{Written}
 use Rattle.text.specs.Laying.{lay_answer, lay_leaves}
-use Rattle.text.specs.LayingLaws.{lay-fits}
+use Rattle.text.proofs.LayingLaws.{lay-fits}
 use Rattle.pieces.specs.declared.Carried.{Carried}
 use Rattle.pieces.specs.declared.Fed.{Fed}
 use Rattle.pieces.specs.declared.Progress.{Progress}

@@ -6,12 +6,12 @@ use Rattle.std.proofs.Common.{sym, ap, ◌∙◌, arith, le-leb}
 use Rattle.std.proofs.Math.IntN.{sub_ℕ, +ℤ-neg_ℤ_cancel}
 use Rattle.family.specs.declared.Unit.TheVariants.{HalfDegrees as inHalfDegrees}
 use Rattle.basic_laws.specs.Complement.{Fits16, bits8, bits16}
-use Rattle.basic_laws.specs.DifferencesLaws.{difference-cases, difference-same, pos-difference, negative-difference}
-use Rattle.basic_laws.specs.DifferencesLaws.{difference-negated, difference-sum}
+use Rattle.basic_laws.proofs.DifferencesLaws.{difference-cases, difference-same, pos-difference, negative-difference}
+use Rattle.basic_laws.proofs.DifferencesLaws.{difference-negated, difference-sum}
 use Rattle.basic_laws.specs.Rounding.{floor_div}
-use Rattle.basic_laws.specs.RoundingLaws.{sub-above}
+use Rattle.basic_laws.proofs.RoundingLaws.{sub-above}
 use Rattle.temperature.specs.Measured.{nearest_halves}
-use Rattle.temperature.specs.MeasuredLaws.{whole-nearest}
+use Rattle.temperature.proofs.MeasuredLaws.{whole-nearest}
 use Rattle.temperature.specs.Units.{whole_of}
 use Rattle.temperature.specs.declared.Reading.TheVariants.{InHalves}
 use Rattle.temperature.specs.declared.Sixteenths.{Sixteenths}

@@ -1,7 +1,6 @@
 pub mod Fine
 pub mod FineLaws
 pub mod Stored
-pub mod StoredLaws
 pub mod Judgement
 pub mod InDegrees
 pub mod Cases

@@ -30,7 +30,7 @@ use Rattle.bench.specs.Settling.{settled_of, settled_bench}
 use Rattle.bench.specs.Slot.{line_bit, heard, slotted}
 use Rattle.bench.specs.declared.Bench.{Bench}
 use Rattle.bench.specs.declared.Slotted.{Slotted}
-use Rattle.bench.specs.Laws.{heard-live}
+use Rattle.bench.proofs.Laws.{heard-live}
 use Rattle.search.specs.Place.{chosen, placed}
 use Rattle.device.specs.Stages.{quiet_at, first_of, starts_at}
 use Rattle.search.specs.Standing.{fits, one_at, zero_sent_at, survey_start, surveyed_with}

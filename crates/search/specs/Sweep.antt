@@ -28,19 +28,21 @@ use Rattle.refusals.specs.Refusals.{accepted, no_room, wire_busy}
 use Rattle.frame.specs.Frames.{blank_frame, lineable}
 use Rattle.frame.specs.FramesLaws.{recorded-all, blank-held, blank-lineable}
 use Rattle.frame.specs.Recording.{write_all}
-use Rattle.frame.specs.RecordingLaws.{write-append}
+use Rattle.frame.proofs.RecordingLaws.{write-append}
 use Rattle.frame.specs.Writing.{fed_line, line_write_answer, line_write_leaves}
-use Rattle.frame.specs.WritingLaws.{fed-length, write_done}
+use Rattle.frame.proofs.WritingLaws.{fed-length, write_done}
 use Rattle.frame.specs.declared.Frame.{Frame}
 use Rattle.text.specs.declared.laying.Written.{Written}
 use Rattle.search_laws.specs.Issued.{slots_length}
 use Rattle.search_laws.specs.Pass.{triple, choice}
 use Rattle.search_laws.specs.PassLaws.{on_some_lem}
 use Rattle.search_laws.specs.Departure.{takes}
-use Rattle.search_laws.specs.PassLoop.{Walk as PassWalk, walk, walk_on, walk_ends, onward, bit_step, steps, started_pass}
-use Rattle.search_laws.specs.PassLoop.{loop_pass}
-use Rattle.search_laws.specs.SearchLoop.{Sweep as SearchSweep, sweep, with_pass, turns, turns-turn, turns-end}
-use Rattle.search_laws.specs.SearchLoop.{turns-over, turn-pass, loop_search, SameSearch, loop-search}
+use Rattle.search_laws.specs.PassLoop.{Walk as PassWalk, walk, walk_on, walk_ends}
+use Rattle.search_laws.proofs.PassLoop.{onward, bit_step, steps, started_pass}
+use Rattle.search_laws.proofs.PassLoop.{loop_pass}
+use Rattle.search_laws.specs.SearchLoop.{Sweep as SearchSweep, sweep}
+use Rattle.search_laws.proofs.SearchLoop.{with_pass, turns, turns-turn, turns-end}
+use Rattle.search_laws.proofs.SearchLoop.{turns-over, turn-pass, loop_search, SameSearch, loop-search}
 use Rattle.search_laws.specs.Wire.{Bus, slots}
 use Rattle.bench.specs.Bench.{free}
 use Rattle.bench.specs.Slot.{reset_done}

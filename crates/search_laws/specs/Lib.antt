@@ -2,7 +2,6 @@ pub mod Codes
 pub mod Pass
 pub mod PassLaws
 pub mod Listing
-pub mod ListingLaws
 pub mod Lists
 pub mod Wire
 pub mod Issued
@@ -15,14 +14,10 @@ pub mod SearchersLaws
 pub mod Sits
 pub mod OnTheWire
 pub mod Complete
-pub mod CompleteLaws
 pub mod Keeps
 pub mod Departure
-pub mod DepartureLaws
 pub mod PassLoop
 pub mod SearchLoop
 pub mod Numbers
-pub mod NumbersLaws
 pub mod Small
-pub mod Examples
 pub mod Whole

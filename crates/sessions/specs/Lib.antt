@@ -1,4 +1,3 @@
 pub mod Gathering
 pub mod GatheringLaws
 pub mod Session
-pub mod SessionLaws

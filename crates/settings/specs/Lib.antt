@@ -4,4 +4,3 @@ pub mod Written
 pub mod StoreLaws
 pub mod Runs
 pub mod KeptLaws
-pub mod RunsLaws

@@ -1,4 +1,1 @@
 pub mod Shared
-pub mod HeldLaws
-pub mod SharedLaws
-pub mod RaisedLaws

@@ -6,8 +6,8 @@ use Rattle.std.specs.Int.Signed.{le_z}
 use Rattle.std.specs.Int.{w8}
 use Rattle.refusals.specs.Refusals.{accepted}
 use Rattle.basic_laws.specs.Complement.{signed8}
-use Rattle.basic_laws.specs.ComplementLaws.{signed-bits8, bits-signed8, signed-fits8}
-use Rattle.basic_laws.specs.RoundingLaws.{le_total, le_trans}
+use Rattle.basic_laws.proofs.ComplementLaws.{signed-bits8, bits-signed8, signed-fits8}
+use Rattle.basic_laws.proofs.RoundingLaws.{le_total, le_trans}
 use Rattle.temperature.specs.declared.WholeDegrees.{WholeDegrees}
 use Rattle.temperature.specs.Alarm.{limit_of, limit_byte_of, alarms_at}
 use Rattle.temperature.specs.Range.{is_limit}

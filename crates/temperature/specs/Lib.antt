@@ -3,7 +3,6 @@ pub mod RangeLaws
 pub mod Units
 pub mod UnitsLaws
 pub mod Measured
-pub mod MeasuredLaws
 pub mod Alarm
 pub mod AlarmLaws
 pub mod Register

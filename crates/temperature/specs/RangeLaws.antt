@@ -4,9 +4,9 @@ use Rattle.std.specs.Prelude.{ℕ, ◌<◌, ◌≤◌, ◌≡◌, true, ℤ, pos
 use Rattle.std.proofs.Common.{arith, leb-true}
 use Rattle.std.specs.Int.Signed.{le_z, mag}
 use Rattle.basic_laws.specs.ChoiceLaws.{and_left, and_right}
-use Rattle.basic_laws.specs.DifferencesLaws.{le-plus}
+use Rattle.basic_laws.proofs.DifferencesLaws.{le-plus}
 use Rattle.basic_laws.specs.Rounding.{floor_div, floor_to}
-use Rattle.basic_laws.specs.RoundingLaws.{floor-below, floor-mono, div_mono, le_trans}
+use Rattle.basic_laws.proofs.RoundingLaws.{floor-below, floor-mono, div_mono, le_trans}
 use Rattle.temperature.specs.Range.{between}
 
 -- ## A range as its two bounds

@@ -5,7 +5,7 @@ use Rattle.std.proofs.Common.{arith}
 use Rattle.family.specs.declared.Unit.{Unit}
 use Rattle.family.specs.declared.Unit.TheVariants.{Sixteenths as inSixteenths, HalfDegrees as inHalfDegrees}
 use Rattle.basic_laws.specs.Complement.{Fits16, signed16, bits16}
-use Rattle.basic_laws.specs.ComplementLaws.{signed-bits, bits-signed}
+use Rattle.basic_laws.proofs.ComplementLaws.{signed-bits, bits-signed}
 use Rattle.temperature.specs.declared.Reading.{Reading}
 use Rattle.temperature.specs.declared.Reading.TheVariants.{InSixteenths, InHalves}
 use Rattle.temperature.specs.Register.{unit_of, count_of, reading_with, count_bytes, register_of, raw_reading}

@@ -3,9 +3,9 @@
 use Rattle.std.specs.Prelude.{◌≡◌, refl, true}
 use Rattle.std.proofs.Common.{ap, arith, lit<, lit≤}
 use Rattle.basic_laws.specs.Complement.{Fits16}
-use Rattle.basic_laws.specs.ComplementLaws.{mul-fits}
+use Rattle.basic_laws.proofs.ComplementLaws.{mul-fits}
 use Rattle.basic_laws.specs.Rounding.{floor_to}
-use Rattle.basic_laws.specs.RoundingLaws.{floor-below, floor-near, mul-div}
+use Rattle.basic_laws.proofs.RoundingLaws.{floor-below, floor-near, mul-div}
 use Rattle.temperature.specs.declared.HalfDegrees.{HalfDegrees}
 use Rattle.temperature.specs.declared.Reading.TheVariants.{InSixteenths, InHalves}
 use Rattle.temperature.specs.declared.Sixteenths.{Sixteenths}

@@ -8,7 +8,5 @@ pub mod NumbersLaws
 pub mod Lines
 pub mod LinesLaws
 pub mod Laying
-pub mod LayingLaws
 pub mod Putting
-pub mod PuttingLaws
 pub mod FieldsLaws

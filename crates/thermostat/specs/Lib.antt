@@ -7,6 +7,4 @@ pub mod Slot
 pub mod Calls
 pub mod Race
 pub mod RaceCases
-pub mod RaceLaws
-pub mod CallsLaws
 pub mod Replies

@@ -3,7 +3,7 @@ use Rattle.std.specs.Prelude.{ℕ, ◌+◌, ◌<◌, ◌≤◌, ◌≡◌, refl,
 use Rattle.std.proofs.Common.{ap, arith, lit≤, length-append, SFits}
 use Rattle.std.specs.Int.{w16, w32}
 use Rattle.basic_laws.specs.Complement.{Fits16}
-use Rattle.basic_laws.specs.ComplementLaws.{wider}
+use Rattle.basic_laws.proofs.ComplementLaws.{wider}
 use Rattle.text.specs.DigitsLaws.{digits-length}
 use Rattle.text.specs.Laying.{has_room}
 use Rattle.text.specs.declared.laying.Written.{Written}

@@ -8,7 +8,7 @@ use Rattle.text.specs.Lines.{Line, lines_of}
 use Rattle.pieces.specs.Pieces.{together}
 use Rattle.text.specs.Putting.{line_room}
 use Rattle.sessions.specs.Session.{in_turn, fresh_run, session, cut, HeldEnough}
-use Rattle.sessions.specs.SessionLaws.{session-cuts}
+use Rattle.sessions.proofs.SessionLaws.{session-cuts}
 use Rattle.thermostat.specs.declared.Thermostat.{Thermostat}
 use Rattle.thermostat_session.specs.declared.requests.ProbeRequest.{ProbeRequest}
 use Rattle.thermostat_session.specs.declared.requests.ProbeRequest.TheVariants.{Bad}

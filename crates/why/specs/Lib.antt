@@ -1,4 +1,3 @@
 pub mod Why
 pub mod WhyLaws
 pub mod Book
-pub mod BookLaws

@@ -1,5 +1,5 @@
 use Rattle.master_rules.specs.Access.{write_at}
-use Rattle.access_laws.specs.WriteLaws.{write-promised}
+use Rattle.access_laws.proofs.WriteLaws.{write-promised}
 use borrow.Author.Tests.{eq-eqb, ne_eqb}
 use borrow.Author.Rules.{rules}
 use Rattle.at_code.proofs.write_at.Goals as goal

@@ -2,7 +2,7 @@ use mathlib.Core.Path.{sym, ◌∙◌}
 use borrow.Author.Tests.{not-true, not-false}
 use Rattle.bench_answers.specs.Answers.{bad_line}
 use Rattle.bench_answers.specs.AnswersLaws.{bad-short}
-use Rattle.text.specs.PuttingLaws.{line_refused, line-done}
+use Rattle.text.proofs.PuttingLaws.{line_refused, line-done}
 use borrow.Author.Rules.{rules}
 use Rattle.bench_answers.proofs.bad_line.Goals as goal
 

@@ -2,7 +2,7 @@ use mathlib.Core.Path.{sym, ◌∙◌}
 use borrow.Author.Tests.{not-true, not-false}
 use Rattle.bench_answers.specs.Answers.{bit_line}
 use Rattle.bench_answers.specs.AnswersLaws.{bit-short}
-use Rattle.text.specs.PuttingLaws.{line_refused, line-done}
+use Rattle.text.proofs.PuttingLaws.{line_refused, line-done}
 use borrow.Author.Rules.{rules}
 use Rattle.bench_answers.proofs.bit_line.Goals as goal
 

@@ -2,7 +2,7 @@ use mathlib.Core.Path.{sym, ◌∙◌}
 use borrow.Author.Tests.{not-true, not-false}
 use Rattle.bench_answers.specs.Answers.{code_line}
 use Rattle.bench_answers.specs.AnswersLaws.{code-short}
-use Rattle.text.specs.PuttingLaws.{line_refused, line-done, field_puts}
+use Rattle.text.proofs.PuttingLaws.{line_refused, line-done, field_puts}
 use Rattle.text.specs.Digits.{hex_digits}
 use borrow.Author.Rules.{rules}
 use Rattle.bench_answers.proofs.code_line.Goals as goal

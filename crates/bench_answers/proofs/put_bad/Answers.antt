@@ -1,5 +1,5 @@
 use Rattle.bench_answers.specs.Answers.{bad_line}
-use Rattle.text.specs.PuttingLaws.{puts-laid}
+use Rattle.text.proofs.PuttingLaws.{puts-laid}
 use borrow.Author.Rules.{rules}
 use Rattle.bench_answers.proofs.put_bad.Goals as goal
 

@@ -3,7 +3,7 @@ use mathlib.Core.Path.{◌≡◌, sym, ◌∙◌}
 use borrow.Author.Tests.{not-true, not-false}
 use Rattle.bench_answers.specs.Answers.{record_line}
 use Rattle.bench_answers.specs.AnswersLaws.{record-short}
-use Rattle.text.specs.PuttingLaws.{line_refused, line-done}
+use Rattle.text.proofs.PuttingLaws.{line_refused, line-done}
 use borrow.Author.Rules.{rules}
 use Rattle.bench_answers.proofs.record_line.Goals as goal
 

@@ -2,7 +2,7 @@ use mathlib.Core.Path.{sym, ◌∙◌}
 use borrow.Author.Tests.{not-true, not-false}
 use Rattle.bench_answers.specs.Answers.{refusal_line}
 use Rattle.bench_answers.specs.AnswersLaws.{refusal-short}
-use Rattle.text.specs.PuttingLaws.{line_refused, line-done, field_puts}
+use Rattle.text.proofs.PuttingLaws.{line_refused, line-done, field_puts}
 use Rattle.text.specs.Decimal.{decimal}
 use borrow.Author.Rules.{rules}
 use Rattle.bench_answers.proofs.refusal_line.Goals as goal

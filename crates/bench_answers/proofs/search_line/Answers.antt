@@ -2,7 +2,7 @@ use mathlib.Core.Path.{sym, ◌∙◌}
 use borrow.Author.Tests.{not-true, not-false}
 use Rattle.bench_answers.specs.Answers.{search_line}
 use Rattle.bench_answers.specs.AnswersLaws.{search-short}
-use Rattle.text.specs.PuttingLaws.{line_refused, line-done}
+use Rattle.text.proofs.PuttingLaws.{line_refused, line-done}
 use borrow.Author.Rules.{rules}
 use Rattle.bench_answers.proofs.search_line.Goals as goal
 

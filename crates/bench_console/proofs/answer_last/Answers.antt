@@ -4,7 +4,7 @@ use mathlib.Core.Bool.{false}
 use Rattle.text.specs.Lines.{Line}
 use Rattle.bench_session.specs.SettingsSession.{both, bench_console}
 use Rattle.bench_session.specs.SettingsSessionLaws.{told-front}
-use Rattle.sessions.specs.SessionLaws.{end-said}
+use Rattle.sessions.proofs.SessionLaws.{end-said}
 use Rattle.bench_console.proofs.answer_last.Goals as goal
 
 pub write_last-requires : goal.write_last-requires

@@ -1,5 +1,5 @@
 -- One entry of a table that has its rule.
-use Rattle.crc.specs.TableLaws.{crc-by-table}
+use Rattle.crc.proofs.TableLaws.{crc-by-table}
 use Rattle.crc.proofs.crc_byte.Goals as goal
 
 pub returns : goal.returns

@@ -4,7 +4,7 @@ use mathlib.Core.Path.{◌≡◌, refl, ap, ◌∙◌}
 use native.Mathlib.Nat.{sub-zero}
 use lib.ListN.{take, drop}
 use Rattle.text.specs.Laying.{lay_leaves}
-use Rattle.text.specs.LayingLaws.{lay-fits}
+use Rattle.text.proofs.LayingLaws.{lay-fits}
 use Rattle.host.specs.Laws.{held-size, held-within, held-laid}
 use Rattle.host.proofs.hold.Goals as goal
 

@@ -5,10 +5,10 @@ use lib.ListN.{length, take}
 use Rattle.pieces.specs.Carried.{carried_in}
 use Rattle.pieces.specs.CarriedLaws.{laid-taken}
 use Rattle.mending.specs.Mending.{mended_text, reports}
-use Rattle.mending.specs.Laws.{text-said, text-noted}
+use Rattle.mending.proofs.Laws.{text-said, text-noted}
 use Rattle.mending.specs.Notice.{notices_of, RoomToMend}
 use Rattle.mending.specs.NoticesLaws.{notices-told}
-use Rattle.mending.specs.RoomLaws.{room-less, room-text, room-all}
+use Rattle.mending.proofs.RoomLaws.{room-less, room-text, room-all}
 use Rattle.mend_recording.proofs.mend_last.Goals as goal
 use Rattle.mend_recording.proofs.mend_last.Given.{Over}
 use Rattle.mend_recording.proofs.mend_last.Goals.{After-put_back-put}

@@ -4,8 +4,8 @@ use Prim.Native.Nat.{◌-◌}
 use mathlib.Core.Path.{refl}
 use lib.ListN.{length}
 use Rattle.pieces.specs.CarriedLaws.{reads-less}
-use Rattle.mending.specs.Laws.{piece-said, piece-noted, piece-carries}
-use Rattle.mending.specs.RoomLaws.{room-text, room_whole}
+use Rattle.mending.proofs.Laws.{piece-said, piece-noted, piece-carries}
+use Rattle.mending.proofs.RoomLaws.{room-text, room_whole}
 use Rattle.mend_recording.proofs.mend_piece.Goals as goal
 
 pub tell_piece-lines-requires : goal.tell_piece-lines-requires

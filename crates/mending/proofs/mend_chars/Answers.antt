@@ -5,7 +5,7 @@ use Rattle.basic_laws.specs.Choice.{if◌then◌else◌}
 use Rattle.basic_laws.specs.Laid.{laid}
 use Rattle.basic_laws.specs.LaidLaws.{laid-length, laid-read}
 use Rattle.mending.specs.Mending.{raised, longest_mended}
-use Rattle.mending.specs.Repair.{return-place, repaired}
+use Rattle.mending.proofs.RepairLaws.{return-place, repaired}
 use Rattle.mending.proofs.mend_chars.Goals as goal
 use Rattle.mending.proofs.mend_chars.Goals.{After-before_return-unreturned}
 

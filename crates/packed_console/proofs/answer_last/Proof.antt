@@ -6,7 +6,7 @@ use lib.ListN.{length-take}
 use Rattle.text.specs.Lines.{Line}
 use Rattle.packed_session.specs.TableSession.{table_state, table_console}
 use Rattle.packed_session.specs.TableSessionLaws.{table-front}
-use Rattle.sessions.specs.SessionLaws.{end-said}
+use Rattle.sessions.proofs.SessionLaws.{end-said}
 use borrow.Author.Rules.{rules}
 use Rattle.packed_console.proofs.answer_last.Statement.{statement}
 use Rattle.packed_console.proofs.answer_last.Tie as tie

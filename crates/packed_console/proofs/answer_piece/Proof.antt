@@ -5,7 +5,7 @@ use mathlib.Core.Path.{◌≡◌, refl, sym, ◌∙◌}
 use native.Mathlib.Omega.{arith}
 use lib.ListN.{length, drop}
 use Rattle.sessions.specs.Session.{run_after, run_at, Holding}
-use Rattle.sessions.specs.SessionLaws.{piece-done, line-few, line-place, line-rest, line-holds}
+use Rattle.sessions.proofs.SessionLaws.{piece-done, line-few, line-place, line-rest, line-holds}
 use Rattle.packed_session.specs.TableSession.{table_state, table_console}
 use borrow.Author.Rules.{rules}
 use Rattle.packed_console.proofs.answer_piece.Statement.{statement}

@@ -1,4 +1,4 @@
-use Rattle.history_laws.specs.Theorem.{alarm-promised}
+use Rattle.history_laws.proofs.Theorem.{alarm-promised}
 use borrow.Author.Rules.{rules}
 use Rattle.search.proofs.alarm_search.Goals as goal
 

@@ -1,4 +1,4 @@
-use Rattle.history_laws.specs.Theorem.{search-promised}
+use Rattle.history_laws.proofs.Theorem.{search-promised}
 use borrow.Author.Rules.{rules}
 use Rattle.search.proofs.search.Goals as goal
 

@@ -4,8 +4,8 @@ use mathlib.Core.Path.{refl}
 use borrow.Author.Tests.{ne_eqb}
 use lib.Dec.{lit<}
 use Rattle.basic_laws.specs.Complement.{Fits16}
-use Rattle.basic_laws.specs.ComplementLaws.{floor-code, floor-code-fits}
-use Rattle.basic_laws.specs.RoundingLaws.{floor-one}
+use Rattle.basic_laws.proofs.ComplementLaws.{floor-code, floor-code-fits}
+use Rattle.basic_laws.proofs.RoundingLaws.{floor-one}
 use borrow.Author.Rules.{rules}
 use Rattle.temperature.proofs.rounded.Goals as goal
 use Rattle.temperature.proofs.rounded.Goals.{Start}

@@ -1,6 +1,6 @@
 -- The count fits sixteen bits, so the code's quotient is the nearest number, which is exact.
 use mathlib.Core.Path.{refl}
-use Rattle.basic_laws.specs.ComplementLaws.{held_back}
+use Rattle.basic_laws.proofs.ComplementLaws.{held_back}
 use Rattle.temperature.specs.DegreesLaws.{quotient, sixteen, sixteenths-exact}
 use borrow.Author.Rules.{rules}
 use Rattle.temperature.proofs.to_degrees.Goals as goal

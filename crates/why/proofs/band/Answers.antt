@@ -1,7 +1,7 @@
 use mathlib.Core.Bool.{true, false}
 use mathlib.Core.Path.{◌≡◌}
 use lib.Signed.{le_z}
-use Rattle.basic_laws.specs.ComplementLaws.{held_back}
+use Rattle.basic_laws.proofs.ComplementLaws.{held_back}
 use borrow.Author.Rules.{rules}
 use Rattle.why.proofs.band.Goals as goal
 

@@ -8,7 +8,7 @@ use mir.Val.{SFits}
 use mir.ValLaws.{to_z-of_z}
 use Rattle.text.specs.declared.laying.Written.{Written}
 use Rattle.text.specs.Putting.{Puts, line_room}
-use Rattle.text.specs.PuttingLaws.{line_refused, line-done}
+use Rattle.text.proofs.PuttingLaws.{line_refused, line-done}
 use Rattle.bench_answers.specs.AccessLine.{access_line}
 use Rattle.bench_answers.specs.AccessLineLaws.{access-short}
 use borrow.Author.Rules.{rules}

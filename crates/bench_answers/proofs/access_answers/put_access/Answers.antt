@@ -9,7 +9,7 @@ use Rattle.text.specs.Decimal.{decimal, signed_decimal}
 use Rattle.text.specs.Digits.{hex_of}
 use Rattle.temperature.specs.declared.Register.{Register}
 use Rattle.text.specs.Putting.{Puts}
-use Rattle.text.specs.PuttingLaws.{puts-field, field_puts}
+use Rattle.text.proofs.PuttingLaws.{puts-field, field_puts}
 use Rattle.bench_answers.specs.AccessLine.{reading_digits, access_fields}
 use Rattle.bench_answers.specs.AccessLineLaws.{mark-behind}
 use borrow.Author.Rules.{rules}

@@ -3,7 +3,7 @@ use borrow.Author.Tests.{not-true, not-false}
 use Rattle.master_rules.specs.declared.SharedPin.TheVariants.{NoPin}
 use Rattle.bench_answers.specs.PinLines.{pins_line}
 use Rattle.bench_answers.specs.PinLinesLaws.{pins-refusal-short}
-use Rattle.text.specs.PuttingLaws.{line_refused, line-done}
+use Rattle.text.proofs.PuttingLaws.{line_refused, line-done}
 use borrow.Author.Rules.{rules}
 use Rattle.bench_answers.proofs.pin_answers.refusal_line.Goals as goal
 

@@ -1,5 +1,5 @@
 use Rattle.text.specs.Decimal.{decimal}
-use Rattle.text.specs.PuttingLaws.{puts-field, field_puts}
+use Rattle.text.proofs.PuttingLaws.{puts-field, field_puts}
 use Rattle.bench_answers.specs.SettingsLines.{change_line}
 use Rattle.bench_answers.specs.SettingsLinesLaws.{change-short}
 use borrow.Author.Rules.{rules}

@@ -1,6 +1,6 @@
 use Rattle.text.specs.Decimal.{decimal}
 use Rattle.text.specs.Digits.{hex_digits}
-use Rattle.text.specs.PuttingLaws.{puts-field, field_puts}
+use Rattle.text.proofs.PuttingLaws.{puts-field, field_puts}
 use Rattle.bench_answers.specs.SettingsLines.{settings_fields}
 use Rattle.bench_answers.specs.SettingsLinesLaws.{settings-fields-short}
 use borrow.Author.Rules.{rules}

@@ -5,10 +5,11 @@ use lib.IntN.{ℤ}
 use mir.Syntax.{w32}
 use mir.Val.{to_z, of_z}
 use Rattle.basic_laws.specs.Complement.{Fits16}
-use Rattle.basic_laws.specs.ComplementLaws.{read16, held16, widened, widened-back}
+use Rattle.basic_laws.specs.ComplementLaws.{read16, held16}
+use Rattle.basic_laws.proofs.ComplementLaws.{widened, widened-back}
 use Rattle.text.specs.Decimal.{decimal, signed_decimal}
 use Rattle.text.specs.Putting.{Puts, flag}
-use Rattle.text.specs.PuttingLaws.{puts-field, field_puts}
+use Rattle.text.proofs.PuttingLaws.{puts-field, field_puts}
 use Rattle.bench_answers.specs.WhyLine.{why_fields}
 use Rattle.bench_answers.specs.WhyLineLaws.{why-fields-short}
 use borrow.Author.Rules.{rules}

@@ -6,9 +6,9 @@ use native.Mathlib.Omega.{arith}
 use borrow.Author.Tests.{leb-true, not-true, not-false}
 use Rattle.text.specs.declared.laying.Written.{Written}
 use Rattle.basic_laws.specs.Complement.{Fits16}
-use Rattle.basic_laws.specs.ComplementLaws.{held_back}
+use Rattle.basic_laws.proofs.ComplementLaws.{held_back}
 use Rattle.temperature.specs.Register.{count_of}
-use Rattle.text.specs.PuttingLaws.{line_refused, line-done}
+use Rattle.text.proofs.PuttingLaws.{line_refused, line-done}
 use Rattle.bench_answers.specs.WhyLine.{why_line}
 use borrow.Author.Rules.{rules}
 use Rattle.bench_answers.proofs.why_answers.why_line.Goals as goal

@@ -1,5 +1,5 @@
 -- The writer refuses, or the reader goes on behind the frame.
-use Rattle.captures.specs.EdgesLaws.{closing-refused, closing-done}
+use Rattle.captures.proofs.EdgesLaws.{closing-refused, closing-done}
 use mathlib.Core.Path.{◌∙◌}
 use Rattle.captures.proofs.edges.close.Goals as goal
 

@@ -1,5 +1,5 @@
 -- The writer refuses, or the last frame is there.
-use Rattle.captures.specs.EdgesLaws.{last-refused, last_done}
+use Rattle.captures.proofs.EdgesLaws.{last-refused, last_done}
 use mathlib.Core.Path.{◌∙◌}
 use Rattle.captures.proofs.edges.close_last.Goals as goal
 

@@ -1,7 +1,7 @@
 -- One law for each way in which an end can come out: again refused, in a line, in a low, with a last frame, and before
 -- any edge.
 use native.Mathlib.Omega.{arith}
-use Rattle.captures.specs.EdgesLaws.{end-again, end-in-line, end_low, end-closes, end-nothing}
+use Rattle.captures.proofs.EdgesLaws.{end-again, end-in-line, end_low, end-closes, end-nothing}
 use mathlib.Core.Path.{◌≡◌, ◌∙◌}
 use Rattle.captures.proofs.edges.end.Goals as goal
 

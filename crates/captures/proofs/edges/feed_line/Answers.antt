@@ -5,7 +5,7 @@ use Rattle.basic_laws.specs.FirstLaws.{at-within}
 use lib.ListN.{length, drop, length-drop}
 use Prim.Native.Nat.{◌≤◌}
 use native.Mathlib.Omega.{arith}
-use Rattle.captures.specs.EdgesLaws.{refused-stays, lengthens, line-fed}
+use Rattle.captures.proofs.EdgesLaws.{refused-stays, lengthens, line-fed}
 use mathlib.Core.Path.{sym, ◌∙◌}
 use Rattle.captures.proofs.edges.feed_line.Goals as goal
 use Rattle.captures.proofs.edges.feed_line.Goals.{After-line_end-end}

@@ -1,7 +1,7 @@
 -- A refused edge, and one that is taken.
 use mathlib.Core.Bool.{false}
 use Rattle.captures.specs.declared.edges.Reader.{Reader}
-use Rattle.captures.specs.EdgesLaws.{edge-refused, edge-taken}
+use Rattle.captures.proofs.EdgesLaws.{edge-refused, edge-taken}
 use mathlib.Core.Path.{ap, ◌∙◌}
 use Rattle.captures.proofs.edges.on_edge.Goals as goal
 

@@ -1,5 +1,5 @@
 -- A line that closes a frame, and any other.
-use Rattle.captures.specs.EdgesLaws.{feed-closes, feed-moves}
+use Rattle.captures.proofs.EdgesLaws.{feed-closes, feed-moves}
 use mathlib.Core.Path.{◌∙◌}
 use Rattle.captures.proofs.edges.take_feed.Goals as goal
 

@@ -8,7 +8,7 @@ use Rattle.text.specs.declared.laying.Written.{Written}
 use Rattle.text.specs.Decimal.{decimal}
 use Rattle.text.specs.Lines.{line_feed, space}
 use Rattle.text.specs.Putting.{line_room}
-use Rattle.text.specs.PuttingLaws.{field_puts, line_refused, line-done}
+use Rattle.text.proofs.PuttingLaws.{field_puts, line_refused, line-done}
 use Rattle.comparing.specs.Heading.{side_word, heading_of}
 use Rattle.comparing.specs.HeadingLaws.{heading-short, heading-puts}
 use Rattle.comparing.proofs.answers.heading.Goals as goal

@@ -6,7 +6,7 @@ use lib.ListN.{length, length-map, length-set}
 use lib.Seq.{length-take-le}
 use Rattle.frame.specs.Frames.{bytes_for}
 use Rattle.frame.specs.Writing.{slot_bytes}
-use Rattle.frame.specs.WritingLaws.{line-laid}
+use Rattle.frame.proofs.WritingLaws.{line-laid}
 use borrow.Author.Rules.{rules}
 use Rattle.frame.proofs.frame_lines.put_line.Goals as goal
 use Rattle.frame.proofs.frame_lines.put_line.Goals.{Start}

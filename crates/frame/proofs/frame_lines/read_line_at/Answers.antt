@@ -6,7 +6,7 @@ use borrow.Author.Tests.{lt-ltb, le-ltb}
 use lib.ListN.{length, drop, length-drop}
 use Rattle.basic_laws.specs.FirstLaws.{at-within}
 use Rattle.text.specs.Lines.{line_feed}
-use Rattle.frame.specs.RecordingLaws.{read_done, read_first}
+use Rattle.frame.proofs.RecordingLaws.{read_done, read_first}
 use borrow.Author.Rules.{rules}
 use Rattle.frame.proofs.frame_lines.read_line_at.Goals as goal
 use Rattle.frame.proofs.frame_lines.read_line_at.Goals.{After-line_end-end}

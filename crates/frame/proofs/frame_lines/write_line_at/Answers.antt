@@ -6,7 +6,7 @@ use borrow.Author.Tests.{leb-true, not-true, not-false}
 use lib.ListN.{length, length-map}
 use Rattle.frame.specs.Frames.{lineable}
 use Rattle.frame.specs.Writing.{fed_line}
-use Rattle.frame.specs.WritingLaws.{lineable-count, fed-length, write-unsound, write-short, write_done}
+use Rattle.frame.proofs.WritingLaws.{lineable-count, fed-length, write-unsound, write-short, write_done}
 use borrow.Author.Rules.{rules}
 use Rattle.frame.proofs.frame_lines.write_line_at.Goals as goal
 use Rattle.frame.proofs.frame_lines.write_line_at.Goals.{After-bytes_for, Else-not-room, Else-not-sound, Start}

@@ -3,7 +3,7 @@ use lib.ListN.{length, take, drop}
 use Rattle.text.specs.Numbers.{decimal_read}
 use mathlib.Core.Path.{◌≡◌, refl, sym, ap, ◌∙◌}
 use native.Mathlib.Omega.{arith}
-use Rattle.basic_laws.specs.ComplementLaws.{positive-code, negative-wide-fits, negative-code-fits, negative-code}
+use Rattle.basic_laws.proofs.ComplementLaws.{positive-code, negative-wide-fits, negative-code-fits, negative-code}
 use Rattle.text.specs.NumbersLaws.{decimal-at-most}
 use Rattle.lines.specs.Fields.{count_in}
 use Rattle.text.specs.DecimalLaws.{negative-some, rest-whole}

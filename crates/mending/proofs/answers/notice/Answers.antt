@@ -1,7 +1,7 @@
 -- Refused without room; nothing for a line that was kept; else the line is short enough and is laid.
 use Rattle.std.proofs.Common.{◌≡◌, sym, ap, ◌∙◌, arith}
 use Rattle.text.specs.declared.laying.Written.{Written}
-use Rattle.text.specs.PuttingLaws.{line_refused}
+use Rattle.text.proofs.PuttingLaws.{line_refused}
 use Rattle.mending.specs.Notice.{notice_of}
 use Rattle.mending.specs.NoticeLaws.{notice-none}
 use Rattle.mending.proofs.answers.notice.Goals as goal

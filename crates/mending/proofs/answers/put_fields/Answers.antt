@@ -1,7 +1,7 @@
 -- Field after field.
 use Rattle.text.specs.Decimal.{decimal}
 use Rattle.text.specs.Lines.{line_feed, space}
-use Rattle.text.specs.PuttingLaws.{puts-field, field_puts}
+use Rattle.text.proofs.PuttingLaws.{puts-field, field_puts}
 use Rattle.mending.specs.Notice.{notice_line}
 use Rattle.mending.specs.NoticeLaws.{notice-short}
 use Rattle.mending.proofs.answers.put_fields.Goals as goal

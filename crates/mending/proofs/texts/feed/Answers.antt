@@ -1,7 +1,7 @@
 -- Each end of the call is a case of its definition.
 use Rattle.std.proofs.Common.{◌≤◌, length, ◌∙◌, arith}
 use Rattle.text.specs.Lines.{lines_of}
-use Rattle.mending.specs.Laws.{piece-done}
+use Rattle.mending.proofs.Laws.{piece-done}
 use Rattle.mending.proofs.texts.feed.Goals as goal
 
 pub returns : goal.returns

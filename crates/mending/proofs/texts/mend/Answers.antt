@@ -5,7 +5,7 @@ use Rattle.text.specs.Lines.{lines_of}
 use Rattle.text.specs.Laying.{lay_leaves}
 use Rattle.mending.specs.Mending.{mended_bytes}
 use Rattle.mending.specs.Claims.{report_said}
-use Rattle.mending.specs.Laws.{text-done, text-open}
+use Rattle.mending.proofs.Laws.{text-done, text-open}
 use Rattle.mending.proofs.texts.mend.Goals as goal
 
 pub returns-then-s-next : goal.returns-then-s-next

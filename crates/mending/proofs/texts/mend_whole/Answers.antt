@@ -1,7 +1,7 @@
 use Rattle.std.proofs.Common.{ℕ, [], ◌∷◌, sym, ap, ◌∙◌, arith}
 use Rattle.text.specs.Laying.{lay_answer, lay_leaves}
 use Rattle.mending.specs.declared.LineMended.{LineMended}
-use Rattle.mending.specs.Laws.{walking_start, walking-told, walking-more, walking-done, walking-open}
+use Rattle.mending.proofs.Laws.{walking_start, walking-told, walking-more, walking-done, walking-open}
 use Rattle.mending.proofs.texts.mend_whole.Goals as goal
 
 pub loop-at-init : goal.loop-at-init

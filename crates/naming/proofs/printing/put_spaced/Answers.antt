@@ -5,7 +5,7 @@ use mathlib.Core.List.{[], ◌∷◌}
 use native.Mathlib.Omega.{arith}
 use lib.ListN.{length}
 use Rattle.basic_laws.specs.LaidLaws.{laid-sets}
-use Rattle.text.specs.LayingLaws.{lay-behind}
+use Rattle.text.proofs.LayingLaws.{lay-behind}
 use Rattle.text.specs.Digits.{hex_digits}
 use Rattle.text.specs.DigitsLaws.{digits-length}
 use Rattle.text.specs.Lines.{space}

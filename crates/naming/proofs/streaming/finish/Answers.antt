@@ -4,7 +4,7 @@ use Rattle.pieces.specs.Walk.{finish-open, finish-whole}
 use Rattle.naming.specs.Printing.{printed_line}
 use Rattle.naming.specs.Streaming.{most_printed}
 use Rattle.basic_laws.specs.Places.{part-all}
-use Rattle.naming.specs.StreamingLaws.{text-short}
+use Rattle.naming.proofs.StreamingLaws.{text-short}
 use Rattle.naming.proofs.streaming.finish.Goals as goal
 
 pub returns-then-next-s : goal.returns-then-next-s

@@ -3,7 +3,7 @@ use native.Mathlib.Omega.{arith}
 use Rattle.pieces.specs.Walk.{running-start, here-room, running_more, running-done, running-open}
 use Rattle.naming.specs.Printing.{printed_line}
 use Rattle.naming.specs.Streaming.{most_printed}
-use Rattle.naming.specs.StreamingLaws.{text-short}
+use Rattle.naming.proofs.StreamingLaws.{text-short}
 use Rattle.naming.proofs.streaming.print_whole.Goals as goal
 
 pub loop-at-init : goal.loop-at-init

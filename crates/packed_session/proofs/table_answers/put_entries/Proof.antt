@@ -8,7 +8,7 @@ use Rattle.text.specs.Digits.{hex_of}
 use Rattle.text.specs.Lines.{line_feed}
 use Rattle.basic_laws.specs.Laid.{laid}
 use Rattle.basic_laws.specs.LaidLaws.{laid-length}
-use Rattle.text.specs.PuttingLaws.{field_puts}
+use Rattle.text.proofs.PuttingLaws.{field_puts}
 use Rattle.packed_session.specs.TableAnswers.{entry_line, table_text}
 use Rattle.packed_session.specs.TableAnswersLaws.{line-length, text-length, text-turn, text-end}
 use Rattle.packed_session.proofs.table_answers.put_entries.Statement.{statement}

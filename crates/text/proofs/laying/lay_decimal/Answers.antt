@@ -7,7 +7,7 @@ use lib.Dec.{lit<, lit≤}
 use Rattle.basic_laws.specs.Laid.{laid}
 use Rattle.text.specs.Decimal.{decimal}
 use Rattle.text.specs.DecimalLaws.{decimal-length, decimal-digits}
-use Rattle.text.specs.LayingLaws.{lay-short, lay_done}
+use Rattle.text.proofs.LayingLaws.{lay-short, lay_done}
 use borrow.Author.Rules.{rules}
 use Rattle.text.proofs.laying.lay_decimal.Goals as goal
 use Rattle.text.proofs.laying.lay_decimal.Goals.{Else-not-room}

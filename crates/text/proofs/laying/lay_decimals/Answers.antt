@@ -6,7 +6,7 @@ use lib.ListN.{length}
 use lib.Dec.{lit<, lit≤}
 use Rattle.text.specs.Digits.{digits}
 use Rattle.text.specs.DigitsLaws.{digits-length}
-use Rattle.text.specs.LayingLaws.{lay-short, lay_done}
+use Rattle.text.proofs.LayingLaws.{lay-short, lay_done}
 use borrow.Author.Rules.{rules}
 use Rattle.text.proofs.laying.lay_decimals.Goals as goal
 use Rattle.text.proofs.laying.lay_decimals.Goals.{Else-not-room}

@@ -5,7 +5,7 @@ use borrow.Author.Tests.{leb-true, not-true, not-false}
 use lib.ListN.{length}
 use Rattle.text.specs.Digits.{hex_of}
 use Rattle.text.specs.DigitsLaws.{hex-length}
-use Rattle.text.specs.LayingLaws.{lay-short, lay_done}
+use Rattle.text.proofs.LayingLaws.{lay-short, lay_done}
 use borrow.Author.Rules.{rules}
 use Rattle.text.proofs.laying.lay_hex_bytes.Goals as goal
 use Rattle.text.proofs.laying.lay_hex_bytes.Goals.{Else-not-room}

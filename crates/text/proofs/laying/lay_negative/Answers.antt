@@ -7,7 +7,7 @@ use borrow.Author.Tests.{leb-true, not-true, not-false}
 use lib.ListN.{length, length-set}
 use Rattle.text.specs.Decimal.{decimal}
 use Rattle.text.specs.DecimalLaws.{decimal-length, decimal-most}
-use Rattle.text.specs.LayingLaws.{lay-short, lay-marked}
+use Rattle.text.proofs.LayingLaws.{lay-short, lay-marked}
 use borrow.Author.Rules.{rules}
 use Rattle.text.proofs.laying.lay_negative.Goals as goal
 use Rattle.text.proofs.laying.lay_negative.Goals.{Else-not-room}

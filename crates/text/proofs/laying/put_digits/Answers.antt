@@ -6,7 +6,7 @@ use lib.ListN.{length, length-set}
 use Rattle.basic_laws.specs.Laid.{laid}
 use Rattle.basic_laws.specs.LaidLaws.{laid_none}
 use Rattle.text.specs.Digits.{digit_of, digits}
-use Rattle.text.specs.LayingLaws.{digits_last}
+use Rattle.text.proofs.LayingLaws.{digits_last}
 use borrow.Author.Rules.{rules}
 use Rattle.text.proofs.laying.put_digits.Goals as goal
 

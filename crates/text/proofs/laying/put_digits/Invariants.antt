@@ -8,7 +8,7 @@ use lib.ListN.{length, length-set}
 use Rattle.basic_laws.specs.Laid.{laid}
 use Rattle.basic_laws.specs.LaidLaws.{laid_none}
 use Rattle.text.specs.Digits.{digit_of, digits}
-use Rattle.text.specs.LayingLaws.{digits_last}
+use Rattle.text.proofs.LayingLaws.{digits_last}
 use Rattle.text.proofs.laying.put_digits.Given as goal
 
 abbrev pub invariant-loop-left : goal.invariant-loop-left

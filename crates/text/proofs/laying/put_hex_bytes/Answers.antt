@@ -6,7 +6,7 @@ use lib.Seq.{take-length}
 use Rattle.basic_laws.specs.Laid.{laid}
 use Rattle.basic_laws.specs.LaidLaws.{laid_none}
 use Rattle.text.specs.Digits.{hex_of}
-use Rattle.text.specs.LayingLaws.{laid-hex}
+use Rattle.text.proofs.LayingLaws.{laid-hex}
 use borrow.Author.Rules.{rules}
 use Rattle.text.proofs.laying.put_hex_bytes.Goals as goal
 

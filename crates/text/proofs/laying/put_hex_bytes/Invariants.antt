@@ -8,7 +8,7 @@ use lib.Seq.{take-length}
 use Rattle.basic_laws.specs.Laid.{laid}
 use Rattle.basic_laws.specs.LaidLaws.{laid_none}
 use Rattle.text.specs.Digits.{hex_of}
-use Rattle.text.specs.LayingLaws.{laid-hex}
+use Rattle.text.proofs.LayingLaws.{laid-hex}
 use Rattle.text.proofs.laying.put_hex_bytes.Given as goal
 
 abbrev pub invariant-loop-i : goal.invariant-loop-i

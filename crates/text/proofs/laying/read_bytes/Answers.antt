@@ -7,7 +7,7 @@ use borrow.Author.Tests.{leb-true, not-true, not-false}
 use lib.ListN.{length}
 use Rattle.text.specs.Digits.{spells}
 use Rattle.text.specs.DigitsLaws.{bytes-half}
-use Rattle.text.specs.LayingLaws.{decode-other, decode-short, decode-done}
+use Rattle.text.proofs.LayingLaws.{decode-other, decode-short, decode-done}
 use borrow.Author.Rules.{rules}
 use Rattle.text.proofs.laying.read_bytes.Goals as goal
 use Rattle.text.proofs.laying.read_bytes.Goals.{Else-not-room, Else-not-spelt}

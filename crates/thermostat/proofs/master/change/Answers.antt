@@ -3,7 +3,7 @@
 use mathlib.Core.Path.{◌≡◌, ap, ◌∙◌}
 use Rattle.refusals.specs.Refusals.{accepted, no_presence}
 use Rattle.thermostat.specs.Calls.{status_changed}
-use Rattle.thermostat.specs.CallsLaws.{flags-left}
+use Rattle.thermostat.proofs.CallsLaws.{flags-left}
 use Rattle.thermostat.specs.declared.rules.Changed.{Changed}
 use Rattle.thermostat.proofs.master.change.Goals as goal
 

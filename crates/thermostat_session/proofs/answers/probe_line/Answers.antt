@@ -5,9 +5,9 @@ use mathlib.Core.Path.{◌≡◌, sym, ap, ◌∙◌}
 use native.Mathlib.Omega.{arith}
 use borrow.Author.Tests.{leb-true}
 use Rattle.text.specs.declared.laying.Written.{Written}
-use Rattle.basic_laws.specs.ComplementLaws.{held_back}
+use Rattle.basic_laws.proofs.ComplementLaws.{held_back}
 use Rattle.text.specs.Putting.{Puts, line_room}
-use Rattle.text.specs.PuttingLaws.{line_refused, line-done}
+use Rattle.text.proofs.PuttingLaws.{line_refused, line-done}
 use Rattle.thermostat_session.specs.ProbeLines.{probe_line}
 use borrow.Author.Rules.{rules}
 use Rattle.thermostat_session.proofs.answers.probe_line.Goals as goal

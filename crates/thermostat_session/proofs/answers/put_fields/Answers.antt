@@ -6,11 +6,12 @@ use lib.IntN.{ℤ}
 use mir.Syntax.{w32}
 use mir.Val.{to_z, of_z}
 use Rattle.basic_laws.specs.Complement.{Fits16}
-use Rattle.basic_laws.specs.ComplementLaws.{read16, held16, widened, widened-back}
+use Rattle.basic_laws.specs.ComplementLaws.{read16, held16}
+use Rattle.basic_laws.proofs.ComplementLaws.{widened, widened-back}
 use Rattle.text.specs.Decimal.{signed_decimal}
 use Rattle.text.specs.Digits.{hex_digits}
 use Rattle.text.specs.Putting.{Puts, flag}
-use Rattle.text.specs.PuttingLaws.{puts-field, field_puts}
+use Rattle.text.proofs.PuttingLaws.{puts-field, field_puts}
 use Rattle.thermostat_session.specs.ProbeLines.{fields_line}
 use Rattle.thermostat_session.specs.ProbeLinesLaws.{fields-short}
 use Rattle.thermostat_session.proofs.answers.put_fields.Goals as goal

@@ -1,7 +1,7 @@
 -- Field after field.
 use Rattle.text.specs.Decimal.{decimal}
 use Rattle.text.specs.Digits.{hex_digits}
-use Rattle.text.specs.PuttingLaws.{puts-field, field_puts}
+use Rattle.text.proofs.PuttingLaws.{puts-field, field_puts}
 use Rattle.thermostat_session.specs.ProbeLines.{status_line}
 use Rattle.thermostat_session.specs.ProbeLinesLaws.{status-short}
 use Rattle.thermostat_session.proofs.answers.put_status.Goals as goal

@@ -6,7 +6,7 @@ use native.Mathlib.Omega.{arith}
 use borrow.Author.Tests.{leb-true}
 use Rattle.text.specs.declared.laying.Written.{Written}
 use Rattle.text.specs.Putting.{line_room}
-use Rattle.text.specs.PuttingLaws.{line_refused, line-done}
+use Rattle.text.proofs.PuttingLaws.{line_refused, line-done}
 use Rattle.thermostat_session.specs.ProbeLines.{status_line}
 use Rattle.thermostat_session.proofs.answers.status_line.Goals as goal
 

@@ -1,5 +1,5 @@
 -- The same number, of degrees, which is held as it is.
-use Rattle.basic_laws.specs.ComplementLaws.{held_back}
+use Rattle.basic_laws.proofs.ComplementLaws.{held_back}
 use Rattle.thermostat_session.specs.ProbeRequests.{degrees_asked}
 use borrow.Author.Rules.{rules}
 use Rattle.thermostat_session.proofs.requests.degrees_in.Goals as goal

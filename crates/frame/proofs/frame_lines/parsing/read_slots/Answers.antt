@@ -7,7 +7,7 @@ use lib.ListN.{length, take}
 use Rattle.basic_laws.specs.Laid.{laid}
 use Rattle.basic_laws.specs.LaidLaws.{laid-read}
 use Rattle.text.specs.Digits.{bytes_of}
-use Rattle.text.specs.LayingLaws.{lay-fits}
+use Rattle.text.proofs.LayingLaws.{lay-fits}
 use Rattle.frame.specs.Frames.{no_bits, bytes_for, clear_from}
 use Rattle.frame.specs.FramesLaws.{pad-length}
 use Rattle.frame.specs.ReadLine.{LineContent, found, line_answer_of}

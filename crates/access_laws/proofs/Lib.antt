@@ -1,0 +1,2 @@
+pub mod PinningLaws
+pub mod WriteLaws

@@ -1,0 +1,4 @@
+pub mod ComplementLaws
+pub mod DifferencesLaws
+pub mod RoundingLaws
+pub mod SumsLaws

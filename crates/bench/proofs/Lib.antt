@@ -1,0 +1,3 @@
+pub mod Everywhere
+pub mod Laws
+pub mod SoundLaws

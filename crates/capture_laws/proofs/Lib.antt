@@ -1,0 +1,2 @@
+pub mod RoomTheorem
+pub mod Theorem

@@ -1,0 +1,2 @@
+pub mod RecordingLaws
+pub mod WritingLaws

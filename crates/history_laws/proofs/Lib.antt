@@ -1,0 +1,3 @@
+pub mod Corollaries
+pub mod Reached
+pub mod Theorem

@@ -1,0 +1,4 @@
+pub mod AccessLaws
+pub mod IssuedLaws
+pub mod OnTheBench
+pub mod Thermometers

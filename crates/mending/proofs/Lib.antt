@@ -1,0 +1,4 @@
+pub mod ClaimsLaws
+pub mod Laws
+pub mod RepairLaws
+pub mod RoomLaws

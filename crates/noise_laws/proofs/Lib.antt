@@ -1,0 +1,2 @@
+pub mod NoticedLaws
+pub mod Theorem

@@ -1,0 +1,189 @@
+-- A search as a loop over the passes makes it: the code before and the place of departure go from pass to pass, and the
+-- loop ends with a pass that leaves no place or in which nobody answers. It is the search by plans, with its codes as
+-- numbers: `loop-search`.
+--     Sweep                              what the loop carries
+--     turn B command n s                 one turn, a pass; nothing more once no pass is to be made
+--     turns B command n k s              k turns
+--     loop_search B command fuel n ds     the search: at most `fuel` turns from the code 0 and no place
+use Rattle.std.specs.Prelude.{◌≡◌, Bool, false, ◌&&◌, ltb, get_or, take}
+use Rattle.std.proofs.Math.Path.{refl, sym, ap}
+use Rattle.std.proofs.Common.{◌∙◌, ltb-true}
+use Rattle.std.proofs.Math.Bool.{true}
+use Rattle.std.proofs.Math.Option.{Option, none, some}
+use mathlib.Core.List.{List, [], ◌∷◌, ◌++◌, map, append-nil, append_assoc}
+use Prim.Native.Nat.{ℕ, zero, suc, ◌+◌, ◌-◌, ◌<◌, ◌≤◌}
+use native.Mathlib.Omega.{arith}
+use Rattle.std.proofs.Math.ListN.{length}
+use Rattle.basic_laws.specs.Choice.{if◌then◌else◌}
+use Rattle.basic_laws.specs.ChoiceLaws.{choice-then, choice-else}
+use Rattle.basic_laws.specs.Bits.{number_of}
+use Rattle.search_laws.specs.Codes.{first, other_bits}
+use Rattle.search_laws.specs.Pass.{Triple, triple, Plan, choice, on_some, found, next}
+use Rattle.search_laws.specs.PassLaws.{on_some_lem, never}
+use Rattle.search_laws.specs.Wire.{Bus, Pass, passed, with_triple, Search, searched, unanswered, with_code}
+use Rattle.search_laws.specs.Wire.{triplets, wire_pass, search_from, wire_search}
+use Rattle.search_laws.specs.Issued.{longer-option}
+use Rattle.search_laws.specs.Departure.{takes, last_from, plan_of}
+use Rattle.search_laws.proofs.DepartureLaws.{takes-plan, takes_first, next-plan}
+use Rattle.search_laws.specs.PassLoop.{Walk, answers}
+use Rattle.search_laws.proofs.PassLoop.{loop_pass, SamePass, loop-pass}
+use Rattle.search_laws.specs.SearchLoop.{Sweep, sweep}
+
+module _ (B : Bus) (command : List Bool) (n : ℕ) where
+  -- A sweep after a pass.
+  abbrev pub with_pass : Sweep B.Devices → Walk B.Devices → Sweep B.Devices
+  with_pass s w =
+      sweep (w.answered && ltb w.last n) w.code w.last (if w.answered then s.codes ++ w.code ∷ []
+      else s.codes) (s.lines ++ w.lines ∷ []) w.devices
+
+  unfoldable pub turn : Sweep B.Devices → Sweep B.Devices
+  turn s = if s.going then with_pass s (loop_pass B command n s.previous s.departure s.devices) else s
+
+  unfoldable pub turns : ℕ → Sweep B.Devices → Sweep B.Devices
+  turns zero s = s
+  turns (suc k) s = turns k (turn s)
+
+  -- ## The turns of a loop of at most k passes
+
+  pub turns-turn : (k i : ℕ) (s : Sweep B.Devices) → i < k → turns (k - i) s ≡ turns (k - (i + 1)) (turn s)
+  unfolding turns
+  turns-turn k i s h = let e : k - i ≡ suc (k - (i + 1)) = omega arith in rw e
+
+  pub turns-end : (k i : ℕ) (s : Sweep B.Devices) → k ≤ i → turns (k - i) s ≡ s
+  unfolding turns
+  turns-end k i s h = let e : k - i ≡ 0 = omega arith in rw e
+
+  pub turns-over : (k : ℕ) (s : Sweep B.Devices) → s.going ≡ false → turns k s ≡ s
+  unfolding turns turn
+  turns-over zero s h = refl
+  turns-over (suc k) s h = ap (turns k) (sym (choice-else s.going _ s h)) ∙ turns-over k s h
+
+  pub turn-pass : (s : Sweep B.Devices) → s.going ≡ true
+      → turn s ≡ with_pass s (loop_pass B command n s.previous s.departure s.devices)
+  unfolding turn
+  turn-pass s h = sym (choice-then s.going _ s h)
+
+abbrev pub loop_search : (B : Bus) → List Bool → ℕ → ℕ → B.Devices → Sweep B.Devices
+loop_search B command fuel n ds = turns B command n fuel (sweep true 0 n [] [] ds)
+
+-- ## It is the search by plans
+
+-- The sweep t is the search r, with its codes as numbers.
+pub record SameSearch {D : Type 0} (r : Search D) (t : Sweep D) : Type 0 where
+  pub codes-are : t.codes ≡ map number_of r.codes
+  pub lines_are : t.lines ≡ r.lines
+  pub devices-are : t.devices ≡ r.devices
+
+-- A sweep that has come from s to t has made the search r.
+record Made {D : Type 0} (s : Sweep D) (r : Search D) (t : Sweep D) : Type 0 where
+  pub codes-are : t.codes ≡ s.codes ++ map number_of r.codes
+  pub lines_are : t.lines ≡ s.lines ++ r.lines
+  pub devices-are : t.devices ≡ r.devices
+
+-- A sweep goes by a plan.
+abbrev Goes : {D : Type 0} → ℕ → Option Plan → Sweep D → Type 0
+Goes n none s = s.going ≡ false
+Goes n (some plan) s = (s.going ≡ true) × ((k : ℕ) → k < n → takes s.previous s.departure k ≡ get_or plan k false)
+
+found-length : (ts : List Triple) → length (found ts) ≡ length ts
+unfolding found
+found-length [] = refl
+found-length (t ∷ ts) = ap suc (found-length ts)
+
+same_none : {D : Type 0} (s : Sweep D) → Made s (searched [] [] s.devices) s
+same_none s = record {
+  codes-are = sym (append-nil s.codes);
+  lines_are = sym (append-nil s.lines);
+  devices-are = refl;
+}
+
+module _ (B : Bus) (command : List Bool) (n : ℕ) where
+  triplets-length : (m : ℕ) (plan : Plan) (ds : B.Devices) (ts : List Triple) → (triplets B m plan ds).triples ≡ some ts
+      → length ts ≡ m
+  unfolding triplets
+  triplets-length zero plan ds ts e = let f : ts ≡ [] = cc in rw f
+  triplets-length (suc m) plan ds ts e =
+      let once = B.after true ds in
+      let twice = B.after true once in
+      let a = B.line true ds in
+      let b = B.line true once in
+      let i : (d : Bool) (us : List Triple) → (triplets B m (other_bits plan) (B.after d twice)).triples ≡ some us
+      → length us ≡ m =
+      λ d. triplets-length m (other_bits plan) (B.after d twice) in
+      on_some_lem (λ (p : Pass B.Devices). p.triples ≡ some ts
+      → length ts ≡ suc m) (choice a b (first plan)) (passed none (a ∷ b ∷ []) twice)
+      (λ d. with_triple (triple a b d) (B.line d twice) (triplets B m (other_bits plan) (B.after d twice)))
+      (λ z. absurd (never z))
+      (λ d z.
+      let k = longer-option (triple a b d) _ ts z in
+      rw k.is (ap suc (i d k.others k.others-is))) e
+
+  -- The plan after a pass.
+  goes_on : (ts : List Triple) (s : Sweep B.Devices) → length ts ≡ n → s.going ≡ ltb (last_from 0 n ts) n
+      → s.previous ≡ number_of (found ts)
+      → s.departure ≡ last_from 0 n ts → Goes n (next ts) s
+  goes_on ts s l g p d =
+      let D = last_from 0 n ts in
+      let e : next ts ≡ plan_of n (found ts) D = rw l at (next-plan ts) in
+      rw e (by-test (ltb D n) refl)
+    where
+      by-test : (t : Bool) → ltb (last_from 0 n ts) n ≡ t
+          → Goes n (if t then some (take (last_from 0 n ts) (found ts) ++ true ∷ []) else none) s
+      by-test true e =
+          let h = ltb-true (last_from 0 n ts) n e in
+          let f = found-length ts in
+          (g ∙ e, λ k b. rw (p, d) (takes-plan (found ts) (last_from 0 n ts) k (omega arith)))
+      by-test false e = g ∙ e
+
+  -- One pass, and the search after it.
+  by_answer : (s : Sweep B.Devices) (plan : Plan) (w : Walk B.Devices) (k : ℕ)
+      → SamePass n (wire_pass B command n plan s.devices) w
+      → ((o : Option Plan) (t : Sweep B.Devices) → Goes n o t
+      → Made t (search_from B command k n o t.devices) (turns B command n k t))
+      → (o : Option (List Triple)) → (wire_pass B command n plan s.devices).triples ≡ o
+      → Made s
+      (on_some o (unanswered (wire_pass B command n plan s.devices)) (λ ts.
+      with_code (found ts) (wire_pass B command n plan s.devices).lines
+      (search_from B command k n (next ts) (wire_pass B command n plan s.devices).devices)))
+      (turns B command n k (with_pass B command n s w))
+  by_answer s plan w k m i none e =
+      let a : w.answered ≡ false = m.answered-is ∙ ap answers e in
+      let t = with_pass B command n s w in
+      let over : turns B command n k t ≡ t = turns-over B command n k t (rw a) in
+      rw over (record {
+        codes-are = rw a (sym (append-nil s.codes));
+        lines_are = rw m.lines_are;
+        devices-are = m.devices-are;
+      })
+  by_answer s plan w k m i (some ts) e =
+      let a : w.answered ≡ true = m.answered-is ∙ ap answers e in
+      let c = m.code_is ts e in
+      let d = m.last-is ts e in
+      let t = with_pass B command n s w in
+      let l = triplets-length n plan _ ts e in
+      let h = i (next ts) t (goes_on ts t l (rw (a, d)) c d) in
+      record {
+        codes-are = h.codes-are ∙ rw (a, c, m.devices-are) (append_assoc s.codes (number_of (found ts) ∷ []) _);
+        lines_are = h.lines_are ∙ rw (m.lines_are, m.devices-are) (append_assoc s.lines (_ ∷ []) _);
+        devices-are = h.devices-are ∙ rw m.devices-are;
+      }
+
+  turns-search : (k : ℕ) (o : Option Plan) (s : Sweep B.Devices) → Goes n o s
+      → Made s (search_from B command k n o s.devices) (turns B command n k s)
+  unfolding turns search_from
+  turns-search zero o s g = same_none s
+  turns-search (suc k) none s g = rw (turns-over B command n (suc k) s g) (same_none s)
+  turns-search (suc k) (some plan) s g =
+      let w = loop_pass B command n s.previous s.departure s.devices in
+      let m = loop-pass B n s.previous s.departure plan g.1 command s.devices in
+      let i : (o : Option Plan) (t : Sweep B.Devices) → Goes n o t
+      → Made t (search_from B command k n o t.devices) (turns B command n k t) =
+      λ o t. turns-search k o t in
+      rw (turn-pass B command n s g.0) (by_answer s plan w k m i
+      (wire_pass B command n plan s.devices).triples refl)
+
+  pub loop-search : (fuel : ℕ) (ds : B.Devices)
+      → SameSearch (wire_search B command fuel n ds) (loop_search B command fuel n ds)
+  loop-search fuel ds =
+      let m = turns-search fuel (some []) (sweep true 0 n [] [] ds) (refl, λ k h. takes_first n k h) in
+      record { codes-are = m.codes-are; lines_are = m.lines_are; devices-are = m.devices-are }
