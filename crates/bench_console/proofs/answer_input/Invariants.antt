@@ -1,3 +1,5 @@
+-- The loop's invariant: the buffers have their lengths, and what is held of a line stands in its own. The measure is
+-- the number of reads that may follow.
 use mathlib.Core.Path.{◌≡◌}
 use lib.ListN.{length}
 use Rattle.sessions.specs.Session.{Holding}

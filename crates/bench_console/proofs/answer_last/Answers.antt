@@ -1,3 +1,4 @@
+-- What the call leaves at the front of the buffer is what the console says at the end.
 use mathlib.Core.Path.{◌∙◌}
 use mathlib.Core.Bool.{false}
 use Rattle.text.specs.Lines.{Line}

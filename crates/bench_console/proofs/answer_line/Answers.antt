@@ -1,3 +1,4 @@
+-- What the call leaves at the front of the buffer is what the console says to the line.
 use mathlib.Core.Bool.{true}
 use Rattle.text.specs.Lines.{Line}
 use Rattle.bench_session.specs.SettingsSessionLaws.{told-front}

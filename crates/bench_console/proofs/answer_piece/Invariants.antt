@@ -1,3 +1,5 @@
+-- The loop's invariant: what is still to run of the piece leads where the whole piece leads, and the buffers have their
+-- lengths. The measure is what is left of the piece.
 use Prim.Native.Nat.{◌≤◌, ◌-◌}
 use mathlib.Core.Path.{◌≡◌}
 use lib.ListN.{length, drop}

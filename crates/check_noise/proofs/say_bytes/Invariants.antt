@@ -1,3 +1,4 @@
+-- The loop passes each byte once.
 use Rattle.std.proofs.Common.{◌-◌, ◌≤◌}
 use Rattle.check_noise.proofs.say_bytes.Given as goal
 

@@ -1,3 +1,4 @@
+-- The loop passes each count once.
 use Prim.Native.Nat.{◌≤◌, ◌-◌}
 use Rattle.check_tables.proofs.main.Given as goal
 

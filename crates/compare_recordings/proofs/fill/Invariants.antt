@@ -1,3 +1,5 @@
+-- The loop's invariant: what was read so far is within the buffer, which has its length. The measure is what is left of
+-- it.
 use Prim.Native.Nat.{◌≤◌, ◌-◌}
 use mathlib.Core.Path.{◌≡◌}
 use lib.ListN.{length}

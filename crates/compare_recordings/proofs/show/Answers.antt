@@ -1,3 +1,4 @@
+-- The line that was laid, and the part, are those of the two recordings.
 use mathlib.Core.Path.{refl}
 use lib.ListN.{replicate}
 use Rattle.comparing.specs.HeadingLaws.{heading-shown}

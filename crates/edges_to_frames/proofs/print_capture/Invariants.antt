@@ -1,3 +1,5 @@
+-- The loop's invariant: the buffers have their lengths, and a reader that a read follows is waiting. The measure is the
+-- number of reads that may follow.
 use Prim.Native.Nat.{◌<◌}
 use mathlib.Core.Path.{◌≡◌}
 use lib.ListN.{length}

@@ -1,3 +1,4 @@
+-- What stands in the buffer is what the reader hands on for the end, whatever stood there before.
 use Rattle.capture_laws.specs.CallLaws.{end-any}
 use Rattle.edges_to_frames.proofs.print_end.Goals as goal
 

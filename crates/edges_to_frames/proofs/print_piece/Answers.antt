@@ -1,3 +1,5 @@
+-- What stands in the buffer is what the reader hands on for the piece, whatever stood there before, and the reader goes
+-- on behind it.
 use mathlib.Core.Path.{refl, sym, ap, subst, ◌∙◌}
 use lib.ListN.{length, take}
 use Rattle.basic_laws.specs.ChoiceLaws.{and_right}

@@ -1,3 +1,4 @@
+-- The loop ends after its last place.
 use Prim.Native.Nat.{◌≤◌, ◌-◌}
 use lib.ListN.{length}
 use Rattle.measure_search.proofs.mix.Given as goal

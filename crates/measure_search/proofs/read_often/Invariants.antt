@@ -1,3 +1,4 @@
+-- The loop ends after its last place.
 use Prim.Native.Nat.{◌≤◌, ◌-◌}
 use Rattle.measure_search.proofs.read_often.Given as goal
 

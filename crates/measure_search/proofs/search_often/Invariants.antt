@@ -1,3 +1,4 @@
+-- The loop ends after its last turn, and both slices keep their lengths.
 use Prim.Native.Nat.{◌≤◌, ◌-◌}
 use mathlib.Core.Path.{◌≡◌}
 use lib.ListN.{length}

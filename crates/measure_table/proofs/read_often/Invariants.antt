@@ -1,3 +1,4 @@
+-- The loop ends after its last slot, and the table keeps its length.
 use Prim.Native.Nat.{◌≤◌, ◌-◌}
 use mathlib.Core.Path.{◌≡◌}
 use lib.ListN.{length}

@@ -1,3 +1,5 @@
+-- There is room for all that can come of the piece, so that what is laid is what is left of its whole lines, and the
+-- report on them.
 use Prim.Native.Nat.{◌-◌}
 use mathlib.Core.Path.{refl}
 use lib.ListN.{length}

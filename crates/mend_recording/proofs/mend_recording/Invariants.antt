@@ -1,3 +1,4 @@
+-- The loop's invariant: the buffers have their lengths. The measure is the number of reads that may follow.
 use mathlib.Core.Path.{◌≡◌}
 use lib.ListN.{length}
 use Rattle.mend_recording.proofs.mend_recording.Given as goal

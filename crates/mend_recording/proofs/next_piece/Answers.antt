@@ -1,3 +1,4 @@
+-- What was read stands behind what was carried, and the two are the piece.
 use mathlib.Core.Path.{ap, ◌∙◌}
 use native.Mathlib.Omega.{arith}
 use Rattle.pieces.specs.Carried.{carried_in}

@@ -1,3 +1,4 @@
+-- There is room for all that can be told, so that what is laid is what is told of the report.
 use mathlib.Core.Path.{ap, ◌∙◌}
 use Rattle.mending.specs.Notice.{notices_of}
 use Rattle.mending.specs.NoticesLaws.{notices-told}

@@ -1,3 +1,4 @@
+-- The buffers have their lengths.
 use Prim.Native.Nat.{ℕ, ◌*◌, ◌≤◌}
 use mathlib.Core.Path.{◌≡◌, sym}
 use lib.Dec.{lit≤}

@@ -1,3 +1,4 @@
+-- What is carried to the end is put at the front of the buffer, and what is laid for it is handed on.
 use Prim.Native.Nat.{◌*◌, ◌≤◌}
 use mathlib.Core.Path.{◌≡◌, ap, ◌∙◌}
 use native.Mathlib.Omega.{arith}

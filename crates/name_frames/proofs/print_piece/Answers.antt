@@ -1,3 +1,4 @@
+-- The call has room for all that the piece can say, so that what it laid is what is said for the whole lines.
 use lib.Dec.{lit<}
 use Rattle.pieces.specs.Walk.{feed-said}
 use Rattle.naming.specs.Printing.{printed_line}

@@ -1,3 +1,4 @@
+-- The buffer has room for every answer, so that what stands at its front is the answer to what was read.
 use native.Mathlib.Nat.{le_trans}
 use lib.ListN.{take}
 use Rattle.reading_programs.specs.Answers.{csv_answer}

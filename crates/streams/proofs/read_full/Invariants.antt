@@ -1,3 +1,4 @@
+-- What was moved so far is within the slice; what is left of it goes down.
 use Rattle.std.proofs.Common.{length, ◌-◌, ◌≤◌}
 use Rattle.streams.proofs.read_full.Given as goal
 

@@ -1,3 +1,5 @@
+-- The proof of the cycle of calls {turned}: one bit fewer is left to turn in each call, and the loop passes each place
+-- once.
 use Rattle.std.proofs.Common.{◌-◌, ◌≤◌}
 use Rattle.check_noise.proofs.count.+turned.Given as goal
 

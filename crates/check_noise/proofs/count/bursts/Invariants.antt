@@ -1,3 +1,4 @@
+-- The loop passes each place once.
 use Rattle.std.proofs.Common.{◌-◌, ◌≤◌}
 use Rattle.check_noise.proofs.count.bursts.Given as goal
 

@@ -1,3 +1,4 @@
+-- The loop passes each burst once.
 use Rattle.std.proofs.Common.{◌-◌, ◌≤◌}
 use Rattle.check_noise.proofs.count.bursts_from.Given as goal
 
