@@ -1,3 +1,4 @@
+-- On the empty bench nothing is seen but a vacant place.
 use mathlib.Core.Path.{◌≡◌, ap, ◌∙◌}
 use Rattle.bench.specs.Bench.{vacant}
 use Rattle.bench.specs.Calls.{looked}

@@ -1,3 +1,4 @@
+-- A store behind what is lent would change nothing.
 use mathlib.Core.Path.{sym, refl}
 use borrow.Author.Tests.{lt-ltb, le-ltb}
 use lib.ListN.{length}

@@ -1,3 +1,4 @@
+-- The loop's invariant: what is lent, with the lines that are left laid from `to` on, is what is promised.
 use Prim.Native.Nat.{◌+◌, ◌*◌, ◌≤◌, ◌-◌}
 use mathlib.Core.Path.{◌≡◌, ◌∙◌, sym, ap, refl}
 use native.Mathlib.Omega.{arith}

@@ -1,3 +1,4 @@
+-- By the room, as the definition tests it, and by what the line asks for.
 use mathlib.Core.Path.{◌≡◌, subst}
 use native.Mathlib.Omega.{arith}
 use borrow.Author.Tests.{lt-leb, le-leb}
@@ -10,7 +11,6 @@ use Rattle.packed_session.specs.TableConsole.{table_asked, TableAfter}
 use borrow.Author.Rules.{rules}
 use Rattle.packed_session.proofs.table_console.answer.Goals as goal
 
--- By the room, as the definition tests it, and by what the line asks for.
 pub returns-then-out-lt-ROOM : goal.returns-then-out-lt-ROOM
 returns-then-out-lt-ROOM c =
     let short = lt-leb room (length c.args.out.now) c.if-out-lt-ROOM.true in

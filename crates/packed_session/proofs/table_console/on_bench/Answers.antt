@@ -1,3 +1,5 @@
+-- Refused bytes are told and stay; else what the console answered on the bench of the bytes is said, and the bench that
+-- it left is packed.
 use borrow.Author.Tests.{le-leb}
 use lib.ListN.{length}
 use Rattle.text.specs.Lines.{Line}

@@ -1,3 +1,4 @@
+-- Each request by its own call.
 use Rattle.packed_session.specs.TableConsole.{spoken_to}
 use Rattle.packed_session.specs.TellsLaws.{line-tells, dump-tells}
 use borrow.Author.Rules.{rules}

@@ -1,3 +1,4 @@
+-- By the definition's own tests.
 use borrow.Author.Tests.{eq-eqb, ne_eqb}
 use Rattle.packed_session.specs.TableRequests.{of_table}
 use borrow.Author.Rules.{rules}

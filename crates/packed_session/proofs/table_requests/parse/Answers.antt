@@ -1,9 +1,9 @@
+-- By the definition's own test.
 use borrow.Author.Tests.{lt-leb, le-leb}
 use Rattle.packed_session.specs.TableRequests.{table_request_of}
 use borrow.Author.Rules.{rules}
 use Rattle.packed_session.proofs.table_requests.parse.Goals as goal
 
--- By the definition's own test.
 pub returns-then-line-gt-LONGEST : goal.returns-then-line-gt-LONGEST
 unfolding table_request_of
 returns-then-line-gt-LONGEST c =

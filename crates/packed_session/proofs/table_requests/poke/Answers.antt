@@ -1,3 +1,4 @@
+-- By the tests of both fields; two digits are a byte.
 use mathlib.Core.Path.{◌≡◌, ap, ◌∙◌}
 use Rattle.lines.specs.Fields.{byte_in}
 use Rattle.lines.specs.FieldsLaws.{byte-below}

@@ -1,3 +1,5 @@
+-- By whose request it is: the table's, a write to a device, or one of the store alone. The answer to what the call came
+-- to is said, and the call came to what its promise says.
 use Prim.Native.Nat.{ℕ, ◌+◌, ◌≤◌}
 use mathlib.Core.Path.{◌≡◌, ap, refl, ◌∙◌}
 use mathlib.Core.List.{List}
@@ -18,8 +20,6 @@ use Rattle.packed_session.specs.TableSettings.{written_on, spoken_of}
 use borrow.Author.Rules.{rules}
 use Rattle.packed_session.proofs.table_settings.respond.Goals as goal
 
--- By whose request it is: the table's, a write to a device, or one of the store alone. The answer to what the call came
--- to is said, and the call came to what its promise says.
 -- a call on the store, said with room for it
 called-tells : (out : List ℕ) → room ≤ length out
     → (t : List ℕ) (s : Store) (q : StoreRequest) (out' : List ℕ) (done : Called) → done ≡ called s q out

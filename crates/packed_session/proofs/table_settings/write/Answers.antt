@@ -1,3 +1,5 @@
+-- Refused bytes are told and stay; else what the write came to on the bench of the bytes is said, and the bench that it
+-- left is packed.
 use mathlib.Core.Path.{ap, ◌∙◌}
 use Rattle.basic_laws.specs.Laid.{laid}
 use Rattle.bench_requests.specs.declared.Request.TheVariants.{Read}
