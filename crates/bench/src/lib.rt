@@ -1,6 +1,8 @@
 // A bench of up to 32 thermometers on one wire. The bench goes in by value and comes back in the
 // answer; its fields are private, so that only these calls make or change one. `of_records` makes one of
 // records that were kept elsewhere, where a table can hold them.
+#![tactic(auto)]
+
 pub mod settling;
 pub mod wire;
 
