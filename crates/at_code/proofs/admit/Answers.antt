@@ -1,3 +1,4 @@
+-- The code is tested first, then the wire.
 use Rattle.master_rules.specs.Access.{admission}
 use borrow.Author.Tests.{eq-eqb, ne_eqb}
 use borrow.Author.Rules.{rules}

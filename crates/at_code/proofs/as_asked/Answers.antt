@@ -1,3 +1,4 @@
+-- The limits one after the other, then the configuration by its family's own comparison.
 use Rattle.master_rules.specs.Access.{as_asked}
 use borrow.Author.Tests.{eq-eqb, ne_eqb}
 use borrow.Author.Rules.{rules}

@@ -1,3 +1,4 @@
+-- The reply is judged, and the two outcomes are the two cases of the definition.
 use borrow.Author.Tests.{eq-eqb, ne_eqb}
 use Rattle.at_code.specs.Laws.{fetched-by}
 use borrow.Author.Rules.{rules}

@@ -1,3 +1,5 @@
+-- The loop's invariant: i read slots have been made, and the register holds the number that they showed in its upper i
+-- bits. `shifted-on` puts in the next bit.
 use Prim.Native.Nat.{ℕ, suc, ◌≤◌, ◌+◌, ◌-◌, ◌*◌, ◌^◌}
 use mathlib.Core.Path.{◌≡◌, ◌∙◌, refl, ap}
 use mathlib.Core.Bool.{true}

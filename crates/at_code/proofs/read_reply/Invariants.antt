@@ -1,3 +1,4 @@
+-- The loop's invariant: i bytes of eight slots have been read, and stand in the first i places.
 use Prim.Native.Nat.{ℕ, ◌≤◌, ◌<◌, ◌-◌, ◌*◌}
 use mathlib.Core.Path.{◌≡◌, refl}
 use native.Mathlib.Omega.{arith}

@@ -1,3 +1,5 @@
+-- The settings are sent and read back; what is accepted is compared. Three ends: not as asked (13), as asked, and a
+-- read that was refused, whose refusal stands.
 use Rattle.master_rules.specs.Access.{written_and_read}
 use borrow.Author.Tests.{eq-eqb, ne_eqb}
 use borrow.Author.Rules.{rules}

@@ -1,3 +1,5 @@
+-- Refused by `admit`; otherwise by presence: written and compared, or 4. What a write comes to after every history is
+-- the claim of `access_laws`.
 use Rattle.master_rules.specs.Access.{write_at}
 use Rattle.access_laws.proofs.WriteLaws.{write-promised}
 use borrow.Author.Tests.{eq-eqb, ne_eqb}

@@ -1,3 +1,5 @@
+-- The address, then the two limits and, where the family has one, the configuration: the sends one behind the other are
+-- the definition's.
 use Rattle.master_rules.specs.Access.{settings_sent}
 use borrow.Author.Rules.{rules}
 use Rattle.at_code.proofs.write_settings.Goals as goal

@@ -1,3 +1,4 @@
+-- What is laid all or nothing is put where it fits.
 use Rattle.bench_answers.specs.Answers.{bad_line}
 use Rattle.text.proofs.PuttingLaws.{puts-laid}
 use borrow.Author.Rules.{rules}

@@ -1,3 +1,4 @@
+-- Field after field.
 use Rattle.text.specs.Decimal.{decimal}
 use Rattle.bench_answers.specs.Answers.{bit_line}
 use Rattle.text.proofs.PuttingLaws.{puts-field, field_puts}

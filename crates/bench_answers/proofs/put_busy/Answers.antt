@@ -1,3 +1,4 @@
+-- The mark is put behind the digit.
 use Prim.Native.Nat.{ℕ}
 use mathlib.Core.List.{List, [], ◌∷◌}
 use mathlib.Core.Path.{◌≡◌, subst}

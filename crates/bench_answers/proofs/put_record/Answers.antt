@@ -1,3 +1,4 @@
+-- Field after field.
 use Rattle.text.specs.Decimal.{decimal}
 use Rattle.text.specs.Digits.{hex_of}
 use Rattle.bench_answers.specs.Answers.{busy_digit, settings_digits, record_line}

@@ -1,3 +1,4 @@
+-- Refused without room; a line that is short enough is laid.
 use lib.ListN.{length}
 use mathlib.Core.Path.{◌≡◌, sym, ◌∙◌}
 use borrow.Author.Tests.{not-true, not-false}

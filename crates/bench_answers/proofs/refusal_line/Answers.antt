@@ -1,3 +1,4 @@
+-- Refused without room; a line that is short enough is laid.
 use mathlib.Core.Path.{sym, ◌∙◌}
 use borrow.Author.Tests.{not-true, not-false}
 use Rattle.bench_answers.specs.Answers.{refusal_line}

@@ -1,3 +1,4 @@
+-- By the definition's own test.
 use borrow.Author.Tests.{eq-eqb, ne_eqb}
 use Rattle.bench_answers.specs.Answers.{show_line}
 use borrow.Author.Rules.{rules}

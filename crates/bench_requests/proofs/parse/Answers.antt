@@ -1,9 +1,9 @@
+-- By the definition's own tests.
 use borrow.Author.Tests.{lt-leb, le-leb}
 use Rattle.bench_requests.specs.Requests.{request_of}
 use borrow.Author.Rules.{rules}
 use Rattle.bench_requests.proofs.parse.Goals as goal
 
--- By the definition's own tests.
 pub returns-then-line-gt-LONGEST : goal.returns-then-line-gt-LONGEST
 unfolding request_of
 returns-then-line-gt-LONGEST c =

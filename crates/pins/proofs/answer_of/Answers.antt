@@ -1,3 +1,4 @@
+-- The pins of those that were read are the front of the array.
 use mathlib.Core.Path.{◌≡◌, ap}
 use native.Mathlib.Omega.{arith}
 use lib.ListN.{length, length-take}
@@ -5,7 +6,6 @@ use borrow.Author.Rules.{rules}
 use Rattle.pins.proofs.answer_of.Goals as goal
 use Rattle.pins.proofs.answer_of.Goals.{Start}
 
--- The pins of those that were read are the front of the array.
 thirty_two : (c : Start) → length c.args.read.pins ≡ 32
 thirty_two c =
     search rules

@@ -1,3 +1,4 @@
+-- By the test.
 use borrow.Author.Tests.{eq-eqb, ne_eqb}
 use borrow.Author.Rules.{rules}
 use Rattle.pins.proofs.count_pin.Goals as goal

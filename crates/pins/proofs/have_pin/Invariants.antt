@@ -1,3 +1,4 @@
+-- The loop's invariant: so many of those passed have the number. The measure is how many are left.
 use Prim.Native.Nat.{ℕ, ◌+◌, ◌-◌, ◌≤◌}
 use mathlib.Core.Path.{◌≡◌, ap, ◌∙◌}
 use native.Mathlib.Omega.{arith}

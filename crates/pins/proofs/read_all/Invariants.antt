@@ -1,3 +1,5 @@
+-- The loop's invariant: the reading and the list hold what the codes so far have given, and no more codes than were
+-- passed. The measure is how many are left.
 use Prim.Native.Nat.{◌-◌, ◌≤◌}
 use mathlib.Core.Path.{◌≡◌, refl}
 use native.Mathlib.Omega.{arith}

@@ -1,3 +1,5 @@
+-- Without pins nothing, after a refused reply the bench alone, else one code more (`holds-skip`, `holds-refused`,
+-- `holds_read`).
 use mathlib.Core.Path.{sym, ◌∙◌}
 use native.Mathlib.Omega.{arith}
 use borrow.Author.Tests.{not-true, not-false}

@@ -1,3 +1,5 @@
+-- Without room the refusal; with room the search and its reads. What the call comes to after every history is the claim
+-- of `access_laws`.
 use lib.ListN.{length}
 use Rattle.basic_laws.specs.LaidLaws.{laid_none}
 use Rattle.access_laws.proofs.PinningLaws.{pins-promised}

@@ -1,3 +1,4 @@
+-- A search that is refused, and one that is done with the reads at the front of what it was lent.
 use mathlib.Core.Path.{sym, ap, ◌∙◌}
 use native.Mathlib.Omega.{arith}
 use lib.ListN.{take}

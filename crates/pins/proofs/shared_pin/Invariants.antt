@@ -1,3 +1,5 @@
+-- The loop's invariant: from the number that is looked at on, the answer is still to come. The measure is how many
+-- numbers are left.
 use Prim.Native.Nat.{◌-◌, ◌≤◌}
 use mathlib.Core.Path.{◌≡◌, refl, sym, ◌∙◌}
 use native.Mathlib.Omega.{arith}

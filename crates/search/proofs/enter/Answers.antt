@@ -1,3 +1,4 @@
+-- The two cases of the definition.
 use borrow.Author.Rules.{rules}
 use Rattle.search.proofs.enter.Goals as goal
 

@@ -1,7 +1,7 @@
+-- The two cases of the definition.
 use borrow.Author.Rules.{rules}
 use Rattle.search.proofs.goes_on.Goals as goal
 
--- The two cases of the definition.
 pub returns-then-answered : goal.returns-then-answered
 returns-then-answered c =
     record { answer = rw c.if-answered.true }

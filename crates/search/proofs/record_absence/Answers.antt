@@ -1,3 +1,4 @@
+-- The blank frame's line has seven bytes and is written at the start.
 use Prim.Native.Nat.{◌+◌}
 use mathlib.Core.Bool.{false}
 use mathlib.Core.Path.{◌≡◌, ap, sym, ◌∙◌}
@@ -12,7 +13,6 @@ use borrow.Author.Rules.{rules}
 use Rattle.search.proofs.record_absence.Goals as goal
 use Rattle.search.proofs.record_absence.Goals.{After-write_line_at-written}
 
--- The blank frame's line has seven bytes and is written at the start.
 wrote : (c : After-write_line_at-written) → (c.write_line_at-written.result.next ≡ 7)
     × (c.write_line_at-written.new.s ≡ laid c.args.recording.now 0
     (fed_line (blank_frame false)))

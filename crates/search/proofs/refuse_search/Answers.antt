@@ -1,9 +1,9 @@
+-- A refusal counts nothing.
 use mathlib.Core.Path.{sym}
 use Rattle.search.specs.Sweep.{refused-answer}
 use borrow.Author.Rules.{rules}
 use Rattle.search.proofs.refuse_search.Goals as goal
 
--- A refusal counts nothing.
 pub returns : goal.returns
 returns c =
     record { answer = sym (refused-answer _ _) }

@@ -1,3 +1,4 @@
+-- One law of the definition for each of the ways a search can end.
 use mathlib.Core.Bool.{true, false}
 use mathlib.Core.Path.{◌≡◌, ap, sym, ◌∙◌}
 use native.Mathlib.Omega.{arith}

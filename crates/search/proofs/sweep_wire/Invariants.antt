@@ -1,3 +1,6 @@
+-- The first pass goes on from the reset that showed presence, so that it is the pass after a reset of the bench given.
+-- The loop's invariant: whatever the first pass has listed and recorded, after i passes the list and the recording hold
+-- what the passes so far have found and shown.
 use Prim.Native.Nat.{◌+◌, ◌≤◌, ◌-◌}
 use mathlib.Core.List.{List}
 use Prim.Native.Nat.{ℕ}

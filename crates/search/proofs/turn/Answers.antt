@@ -1,3 +1,4 @@
+-- The frame of a pass has at most 200 slots, so that its line of at most 57 bytes has room, and the counts stay small.
 use Prim.Native.Nat.{◌+◌}
 use mathlib.Core.Path.{◌≡◌, ◌∙◌, ap}
 use native.Mathlib.Omega.{arith}
@@ -9,7 +10,6 @@ use borrow.Author.Rules.{rules}
 use Rattle.search.proofs.turn.Goals as goal
 use Rattle.search.proofs.turn.Goals.{After-pass-w, After-write_line_at-written}
 
--- The frame of a pass has at most 200 slots, so that its line of at most 57 bytes has room, and the counts stay small.
 -- the pass that was made, its frame, and what of it is written
 made : (c : After-pass-w) → c.pass-w.result ≡ pass_from c.args.command c.args.s c.args.restarted
 unfolding pass_from

@@ -1,3 +1,5 @@
+-- The tests come in the order of the refusals: the code itself, then whether it is there, and for one that was never
+-- added the room. A place that was found lies within the table.
 use mathlib.Core.Path.{◌≡◌, sym, ◌∙◌}
 use lib.ListN.{length, length-map}
 use Rattle.settings.specs.Calls.{settings_added}

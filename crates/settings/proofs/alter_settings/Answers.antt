@@ -1,3 +1,4 @@
+-- Each of the three by its own alteration.
 use borrow.Author.Rules.{rules}
 use Rattle.settings.proofs.alter_settings.Goals as goal
 

@@ -1,3 +1,5 @@
+-- The tests come in the order of the refusals: whether the code is there, then whether the version is the current one;
+-- the last version is the entry's own test.
 use Rattle.settings.specs.Calls.{settings_changed}
 use borrow.Author.Tests.{eq-eqb, ne_eqb}
 use borrow.Author.Rules.{rules}

@@ -1,3 +1,4 @@
+-- The loop's invariant: the search among the entries from i on gives the answer.
 use Prim.Native.Nat.{◌≤◌, ◌<◌, ◌-◌}
 use mathlib.Core.Logic.{⊎_elim}
 use mathlib.Core.Path.{◌≡◌, ◌∙◌, sym, refl}

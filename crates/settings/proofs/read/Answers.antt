@@ -1,3 +1,4 @@
+-- What was located, without its place.
 use Rattle.settings.specs.Calls.{settings_read}
 use borrow.Author.Rules.{rules}
 use Rattle.settings.proofs.read.Goals as goal

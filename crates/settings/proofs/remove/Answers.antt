@@ -1,3 +1,4 @@
+-- The code is there, or not.
 use Rattle.settings.specs.Calls.{settings_removed}
 use borrow.Author.Tests.{eq-eqb, ne_eqb}
 use borrow.Author.Rules.{rules}

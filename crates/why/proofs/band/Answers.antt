@@ -1,3 +1,4 @@
+-- The two tests are the definition's, on the numbers that the three temperatures' bits hold.
 use mathlib.Core.Bool.{true, false}
 use mathlib.Core.Path.{◌≡◌}
 use lib.Signed.{le_z}
@@ -5,7 +6,6 @@ use Rattle.basic_laws.proofs.ComplementLaws.{held_back}
 use borrow.Author.Rules.{rules}
 use Rattle.why.proofs.band.Goals as goal
 
--- The two tests are the definition's, on the numbers that the three temperatures' bits hold.
 pub returns-then-degree-lower : goal.returns-then-degree-lower
 returns-then-degree-lower c =
     let a = c.args in

@@ -1,3 +1,4 @@
+-- Part by part, as the calls answer.
 use Rattle.why.specs.Why.{told_by}
 use borrow.Author.Tests.{not-true, not-false}
 use borrow.Author.Rules.{rules}

@@ -1,3 +1,4 @@
+-- The code's refusal, then whether the device is there, then its page.
 use Prim.Native.Nat.{ℕ}
 use mathlib.Core.Logic.{◌≢◌}
 use mathlib.Core.Path.{◌≡◌, sym, ap, ◌∙◌}

@@ -1,3 +1,4 @@
+-- Refused without room; the line is short enough and is laid.
 use Prim.Native.Nat.{◌+◌, ◌≤◌}
 use lib.ListN.{length}
 use mathlib.Core.Path.{◌≡◌, sym, ap, ◌∙◌}
@@ -15,7 +16,6 @@ use borrow.Author.Rules.{rules}
 use Rattle.bench_answers.proofs.access_answers.access_line.Goals as goal
 use Rattle.bench_answers.proofs.access_answers.access_line.Goals.{Start}
 
--- Refused without room; the line is short enough and is laid.
 nine : (c : Start) → length c.args.pad ≡ 9
 nine c =
     search rules

@@ -1,3 +1,4 @@
+-- Field after field; the register of the reading has two bytes, and the mark of the line stands behind the denominator.
 use Prim.Native.Nat.{ℕ}
 use mathlib.Core.List.{List, [], ◌∷◌, ◌++◌}
 use mathlib.Core.Path.{subst}
@@ -15,7 +16,6 @@ use Rattle.bench_answers.specs.AccessLineLaws.{mark-behind}
 use borrow.Author.Rules.{rules}
 use Rattle.bench_answers.proofs.access_answers.put_access.Goals as goal
 
--- Field after field; the register of the reading has two bytes, and the mark of the line stands behind the denominator.
 -- what is put is the number given
 given : (z : ℤ) → SFits w32 z → (d : List ℕ) (at : ℕ) (d' : List ℕ) (r : ℕ)
     → Puts d at (signed_decimal (to_z w32 (of_z w32 z)) ++ 0x2F ∷ []) d' r → Puts d at (signed_decimal z ++ 0x2F ∷ []) d' r

@@ -1,3 +1,4 @@
+-- The line as it is laid, and it is short.
 use mathlib.Core.Path.{ap, ◌∙◌}
 use native.Mathlib.Omega.{arith}
 use Rattle.bench_answers.specs.AccessLine.{access_line}

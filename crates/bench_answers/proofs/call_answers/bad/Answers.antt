@@ -1,3 +1,4 @@
+-- The line as it is laid, and it is short.
 use mathlib.Core.Path.{ap, ◌∙◌}
 use Rattle.bench_answers.specs.Answers.{bad_line}
 use Rattle.bench_answers.specs.AnswersLaws.{bad-short}

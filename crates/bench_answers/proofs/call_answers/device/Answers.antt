@@ -1,3 +1,4 @@
+-- The line as it is laid, and it is short.
 use mathlib.Core.Path.{◌≡◌, ap, ◌∙◌}
 use lib.ListN.{length, length-map}
 use Rattle.bench_answers.specs.Answers.{show_line}

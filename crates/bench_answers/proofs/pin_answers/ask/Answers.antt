@@ -1,3 +1,4 @@
+-- What is said is the front of the list and of the pins answered.
 use mathlib.Core.Path.{sym}
 use lib.Seq.{length-take-le}
 use Rattle.bench_answers.specs.PinLinesLaws.{codes-within, pins-within, asked-few, asked-short, says-asked}

@@ -1,10 +1,10 @@
+-- By the room, as the definition tests it.
 use Rattle.master_rules.specs.Pins.{pins_outcome}
 use Rattle.bench_answers.specs.WholeLaws.{whole-said, whole-refused}
 use Rattle.bench_answers.specs.PinLines.{of_pins}
 use borrow.Author.Rules.{rules}
 use Rattle.bench_answers.proofs.pin_answers.found.Goals as goal
 
--- By the room, as the definition tests it.
 pub returns-then-out-lt-ROOM : goal.returns-then-out-lt-ROOM
 returns-then-out-lt-ROOM c =
     let a = c.args in

@@ -1,3 +1,4 @@
+-- A part is as long as asked where it is within the whole, and 32 places are as good as more.
 use mathlib.Core.Path.{◌≡◌, sym, ap, subst, ◌∙◌}
 use native.Mathlib.Omega.{arith}
 use lib.ListN.{length, take}

@@ -1,3 +1,4 @@
+-- Field after field.
 use Rattle.text.specs.Decimal.{decimal}
 use Rattle.text.proofs.PuttingLaws.{puts-field, field_puts}
 use Rattle.bench_answers.specs.PinLines.{shared_text, pins_line}

@@ -1,3 +1,5 @@
+-- The loop's invariant: the lines of the first `i` probes are laid, and `to` is the place behind them (`Put`). The
+-- measure is how many are left.
 use Prim.Native.Nat.{◌-◌, ◌≤◌}
 use native.Mathlib.Omega.{arith}
 use lib.ListN.{length}

@@ -1,3 +1,4 @@
+-- The counts, and behind them a line for each probe.
 use native.Mathlib.Omega.{arith}
 use lib.ListN.{length}
 use Rattle.bench_answers.specs.PinLines.{pins_line, pin_lines}

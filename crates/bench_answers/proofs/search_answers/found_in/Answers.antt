@@ -1,3 +1,4 @@
+-- What the search listed and recorded stands at the front of what it was lent, within the bounds of every search.
 use lib.ListN.{length}
 use Rattle.master_rules.specs.Search.{search_outcome}
 use Rattle.search.specs.Sweep.{search-bounded}

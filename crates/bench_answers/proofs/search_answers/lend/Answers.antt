@@ -1,3 +1,4 @@
+-- A part is as long as asked where it is within the whole, and a search is as good with just enough.
 use Prim.Native.Nat.{min}
 use mathlib.Core.Path.{◌≡◌, sym, subst, ◌∙◌}
 use native.Mathlib.Omega.{arith}

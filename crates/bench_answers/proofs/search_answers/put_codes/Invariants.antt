@@ -1,3 +1,5 @@
+-- The loop's invariant: the lines of the first `i` codes are laid, and `to` is the place behind them. The measure is
+-- how many are left.
 use Prim.Native.Nat.{◌+◌, ◌*◌, ◌-◌, ◌≤◌}
 use mathlib.Core.Path.{◌≡◌}
 use native.Mathlib.Omega.{arith}

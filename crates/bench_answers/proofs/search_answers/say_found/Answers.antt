@@ -1,3 +1,4 @@
+-- Three parts, one behind the other: the counts are at most 64 bytes, the codes at most 544, the frames at most 1,824.
 use Prim.Native.Nat.{ℕ, ◌+◌}
 use mathlib.Core.Path.{sym, ap, ◌∙◌}
 use native.Mathlib.Omega.{arith}

@@ -1,3 +1,4 @@
+-- Refused without room; the line is short enough and is laid.
 use Prim.Native.Nat.{◌+◌}
 use lib.ListN.{length}
 use mathlib.Core.Path.{◌≡◌, sym, ap, ◌∙◌}

@@ -1,3 +1,4 @@
+-- Field after field.
 use Rattle.text.specs.Decimal.{decimal}
 use Rattle.text.specs.Digits.{hex_digits}
 use Rattle.text.proofs.PuttingLaws.{puts-field, field_puts}

@@ -1,3 +1,4 @@
+-- Field after field; a number with a sign is read back from the bits that hold it.
 use Prim.Native.Nat.{ℕ}
 use mathlib.Core.List.{List, [], ◌∷◌, ◌++◌}
 use mathlib.Core.Path.{subst}
@@ -15,7 +16,6 @@ use Rattle.bench_answers.specs.WhyLineLaws.{why-fields-short}
 use borrow.Author.Rules.{rules}
 use Rattle.bench_answers.proofs.why_answers.put_fields.Goals as goal
 
--- Field after field; a number with a sign is read back from the bits that hold it.
 -- a number of sixteen bits, as the code holds it
 abbrev wide : ℤ → ℤ
 wide z = to_z w32 (of_z w32 (read16 (held16 z)))

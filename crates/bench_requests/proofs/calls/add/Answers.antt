@@ -1,3 +1,4 @@
+-- By the tests of the three fields.
 use mathlib.Core.Path.{ap, ◌∙◌}
 use Rattle.lines.specs.Fields.{code_in, power_in}
 use borrow.Author.Rules.{rules}

@@ -1,3 +1,4 @@
+-- The pins are read first, and they are a byte; then the other fields.
 use mathlib.Core.Path.{ap, ◌∙◌}
 use native.Mathlib.Omega.{arith}
 use Rattle.text.specs.NumbersLaws.{decimal-at-most}

@@ -1,3 +1,4 @@
+-- A line has a first word, so what is left of the words are the fields.
 use Rattle.basic_laws.specs.Same.{same}
 use Rattle.lines.specs.WordsLaws.{words-some}
 use borrow.Author.Rules.{rules}

@@ -1,3 +1,4 @@
+-- By the test of the field.
 use mathlib.Core.Path.{ap, ◌∙◌}
 use Rattle.lines.specs.Fields.{code_in}
 use borrow.Author.Rules.{rules}

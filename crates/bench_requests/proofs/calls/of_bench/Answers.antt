@@ -1,3 +1,4 @@
+-- Row by row: where a row asks, its own request is given; behind the last, none has asked.
 use mathlib.Core.Path.{sym, ◌∙◌}
 use Rattle.bench_requests.specs.RequestsLaws.{row-add, row-pinned, row-reset, row-slot, row-converted, row_copied}
 use Rattle.bench_requests.specs.RequestsLaws.{row-cycle, row-show, row-why, no-bench-row}

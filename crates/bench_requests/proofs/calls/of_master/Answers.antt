@@ -1,3 +1,4 @@
+-- Row by row: where a row asks, its own request is given; behind the last, none has asked.
 use mathlib.Core.Path.{sym, ◌∙◌}
 use Rattle.bench_requests.specs.RequestsLaws.{row-search-alone, row-alarm-alone, row-search, row-alarm, row_read}
 use Rattle.bench_requests.specs.RequestsLaws.{row_write, row-pins-alone, row-pins, no-master-row}

@@ -1,3 +1,4 @@
+-- By the tests of both fields.
 use mathlib.Core.Path.{ap, ◌∙◌}
 use Rattle.lines.specs.Fields.{places_in, bytes_in}
 use borrow.Author.Rules.{rules}

@@ -1,3 +1,4 @@
+-- A minus, or a byte, whose two digits are below 256.
 use Rattle.lines.specs.FieldsLaws.{byte-below}
 use Rattle.bench_requests.specs.StoreRequests.{alter_in}
 use borrow.Author.Rules.{rules}

@@ -1,3 +1,4 @@
+-- By the tests of the three fields; a version that was read is at most 65,535.
 use mathlib.Core.Path.{◌≡◌, ap, ◌∙◌}
 use native.Mathlib.Omega.{arith}
 use Rattle.text.specs.NumbersLaws.{decimal-at-most}
@@ -8,7 +9,6 @@ use borrow.Author.Rules.{rules}
 use Rattle.bench_requests.proofs.settings_requests.change.Goals as goal
 use Rattle.bench_requests.proofs.settings_requests.change.Goals.{After-alterations_in-a}
 
--- By the tests of the three fields; a version that was read is at most 65,535.
 -- the alterations are those of the last three fields
 alterations-are : (c : After-alterations_in-a) → let fields = words_of c.args.line.now in
     c.alterations_in-a.result ≡ alterations_in (word_of fields 4) (word_of fields 5) (word_of fields 6)

@@ -1,3 +1,4 @@
+-- Row by row: where a row asks, none before it did; behind the last, none has asked.
 use mathlib.Core.Path.{sym, ◌∙◌}
 use Rattle.bench_requests.specs.StoreRequests.{of_store}
 use borrow.Author.Rules.{rules}

@@ -1,9 +1,9 @@
+-- By the definition's own test.
 use borrow.Author.Tests.{lt-leb, le-leb}
 use Rattle.bench_requests.specs.StoreRequests.{store_request_of}
 use borrow.Author.Rules.{rules}
 use Rattle.bench_requests.proofs.settings_requests.parse.Goals as goal
 
--- By the definition's own test.
 pub returns-then-line-gt-LONGEST : goal.returns-then-line-gt-LONGEST
 unfolding store_request_of
 returns-then-line-gt-LONGEST c =

@@ -1,3 +1,4 @@
+-- By the room, as the definition tests it, and by what the line asks for.
 use mathlib.Core.Path.{◌≡◌, subst}
 use Rattle.text.specs.Lines.{Line}
 use Rattle.bench_requests.specs.declared.Request.{Request}
@@ -8,7 +9,6 @@ use Rattle.bench_session.specs.Console.{answered, asked}
 use borrow.Author.Rules.{rules}
 use Rattle.bench_session.proofs.console.answer.Goals as goal
 
--- By the room, as the definition tests it, and by what the line asks for.
 pub returns-then-out-lt-ROOM : goal.returns-then-out-lt-ROOM
 returns-then-out-lt-ROOM c =
     let a = c.args in

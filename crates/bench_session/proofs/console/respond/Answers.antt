@@ -1,3 +1,4 @@
+-- Request by request: the answer to what the call came to is said, and the call came to what its promise says.
 use mathlib.Core.Path.{subst}
 use Rattle.bench.specs.declared.Changed.{Changed}
 use Rattle.bench.specs.declared.Looked.{Looked}

@@ -1,3 +1,4 @@
+-- By the room.
 use mathlib.Core.Path.{sym, ◌∙◌}
 use borrow.Author.Tests.{not-true, not-false}
 use Rattle.bench_session.specs.StoreCallsLaws.{call-refused, call-made}

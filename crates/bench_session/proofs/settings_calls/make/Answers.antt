@@ -1,3 +1,4 @@
+-- Request by request: the answer to what the call came to is told, and the call came to what its promise says.
 use mathlib.Core.Path.{sym, subst}
 use mathlib.Core.List.{[]}
 use Rattle.bench_answers.specs.Answers.{refusal_line}

@@ -1,3 +1,4 @@
+-- The line as it is laid, and it is short.
 use mathlib.Core.Path.{refl}
 use Rattle.bench_answers.specs.SettingsLinesLaws.{change-short}
 use borrow.Author.Rules.{rules}

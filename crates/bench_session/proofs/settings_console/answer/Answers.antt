@@ -1,3 +1,4 @@
+-- By the room, as the definition tests it, and by what the line asks for.
 use lib.ListN.{length}
 use mathlib.Core.Path.{◌≡◌, refl, ap, subst, ◌∙◌}
 use borrow.Author.Tests.{le-leb, lt-leb}
@@ -13,7 +14,6 @@ use Rattle.bench_session.specs.declared.settings_console.Told.{Told}
 use borrow.Author.Rules.{rules}
 use Rattle.bench_session.proofs.settings_console.answer.Goals as goal
 
--- By the room, as the definition tests it, and by what the line asks for.
 pub returns-then-out-lt-ROOM : goal.returns-then-out-lt-ROOM
 returns-then-out-lt-ROOM c =
     let a = c.args in

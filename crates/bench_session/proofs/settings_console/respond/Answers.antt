@@ -1,3 +1,5 @@
+-- By whose request it is: the bench's, a write to a device, or one of the store alone. The answer to what the call came
+-- to is said, and the call came to what its promise says.
 use Prim.Native.Nat.{ℕ, ◌+◌, ◌≤◌}
 use mathlib.Core.Path.{◌≡◌, ap, refl, subst, ◌∙◌}
 use mathlib.Core.List.{List}
@@ -23,8 +25,6 @@ use Rattle.bench_session.specs.SettingsConsole.{responded, store_left}
 use borrow.Author.Rules.{rules}
 use Rattle.bench_session.proofs.settings_console.respond.Goals as goal
 
--- By whose request it is: the bench's, a write to a device, or one of the store alone. The answer to what the call came
--- to is said, and the call came to what its promise says.
 -- a call on the store, said with room for it
 called-says : (out : List ℕ) → room ≤ length out
     → (b : Bench) (s : Store) (q : StoreRequest) (out' : List ℕ) (done : Called) (said : Said) → done ≡ called s q out

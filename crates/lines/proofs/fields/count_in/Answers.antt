@@ -1,3 +1,5 @@
+-- A number of five digits with its sign fits sixteen bits where its reader takes it; behind a minus stands the rest of
+-- the word.
 use Prim.Native.Nat.{◌-◌}
 use lib.ListN.{length, take, drop}
 use Rattle.text.specs.Numbers.{decimal_read}

@@ -1,3 +1,4 @@
+-- By the definition's own tests.
 use Rattle.lines.specs.Fields.{power_in}
 use borrow.Author.Rules.{rules}
 use Rattle.lines.proofs.fields.power_in.Goals as goal

@@ -1,3 +1,4 @@
+-- Two digits are a byte.
 use Rattle.lines.specs.Fields.{three_bytes_in}
 use Rattle.lines.specs.FieldsLaws.{byte-below}
 use borrow.Author.Rules.{rules}

@@ -1,3 +1,5 @@
+-- The loop's invariant: the words counted so far and those from `i` on, which share one, are all the words. The measure
+-- is what is left.
 use Prim.Native.Nat.{◌+◌, ◌≤◌, ◌-◌}
 use mathlib.Core.Path.{◌≡◌}
 use native.Mathlib.Omega.{arith}

@@ -1,8 +1,8 @@
+-- By the definition's own tests.
 use borrow.Author.Tests.{eq-eqb, ne_eqb}
 use borrow.Author.Rules.{rules}
 use Rattle.lines.proofs.words.ended.Goals as goal
 
--- By the definition's own tests.
 pub returns-then-c-eq-SPACE : goal.returns-then-c-eq-SPACE
 returns-then-c-eq-SPACE c =
     simp (eq-eqb _ _ c.if-c-eq-SPACE.true)

@@ -1,3 +1,4 @@
+-- The loop's invariant: at `at` starts word `j`. The measure is how many words are left to pass.
 use Prim.Native.Nat.{◌≤◌, ◌-◌}
 use mathlib.Core.Path.{◌≡◌, refl}
 use native.Mathlib.Omega.{arith}

@@ -1,3 +1,5 @@
+-- The word starts where the passed words end, and ends at the next space. Where there are no more words, the part is
+-- empty.
 use native.Mathlib.Omega.{arith}
 use lib.ListN.{drop, length-drop}
 use mathlib.Core.Path.{refl}

@@ -1,3 +1,4 @@
+-- The loop's invariant: the end of the word that starts at `i` is the end asked for. The measure is what is left.
 use Prim.Native.Nat.{◌+◌, ◌≤◌, ◌-◌}
 use mathlib.Core.Path.{◌≡◌, refl, sym, ◌∙◌}
 use native.Mathlib.Omega.{arith}

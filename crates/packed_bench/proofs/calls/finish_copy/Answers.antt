@@ -1,3 +1,4 @@
+-- Unpacked, called, packed: the one law.
 use mathlib.Core.Path.{◌∙◌}
 use Rattle.bench.specs.Calls.{copy_finished}
 use Rattle.packed_bench.specs.ThroughLaws.{copy-keeps, accepted-room, refused-done, stored-done}

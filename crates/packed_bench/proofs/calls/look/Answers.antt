@@ -1,3 +1,4 @@
+-- Unpacked and looked at; where the bytes are refused the bench is the empty one, on which nothing is seen.
 use mathlib.Core.Path.{◌≡◌, ◌∙◌, ap}
 use borrow.Author.Tests.{eq-eqb, ne_eqb}
 use Rattle.refusals.specs.Refusals.{accepted}

@@ -1,3 +1,4 @@
+-- Unpacked, called, packed: the one law.
 use Rattle.bench.specs.Slot.{reset_done}
 use Rattle.packed_bench.specs.Answers.{no_reset, reset_seen}
 use Rattle.packed_bench.specs.ThroughLaws.{reset-keeps, accepted-room, refused-done, stored-done}

@@ -1,3 +1,4 @@
+-- Unpacked, called, packed: the one law.
 use Rattle.bench.specs.Slot.{slotted}
 use Rattle.packed_bench.specs.Answers.{no_slot, slot_seen}
 use Rattle.packed_bench.specs.ThroughLaws.{slot-keeps, accepted-room, refused-done, stored-done}

@@ -1,3 +1,4 @@
+-- Either the device's bytes or zeros, as the definition has it.
 use Prim.Native.Nat.{◌<◌}
 use mathlib.Core.Path.{◌≡◌, ◌∙◌, subst}
 use native.Mathlib.Omega.{arith}
@@ -9,7 +10,6 @@ use borrow.Author.Rules.{rules}
 use Rattle.packed_bench.proofs.entries.entry_of.Goals as goal
 use Rattle.packed_bench.proofs.entries.entry_of.Goals.{Start}
 
--- Either the device's bytes or zeros, as the definition has it.
 long : (c : Start) → length c.args.devices ≡ 32
 long c =
     search rules

@@ -1,3 +1,4 @@
+-- Too few bytes have no records; else those of the entries.
 use native.Mathlib.Omega.{arith}
 use mathlib.Core.Path.{refl}
 use borrow.Author.Tests.{lt-ltb, le-ltb}

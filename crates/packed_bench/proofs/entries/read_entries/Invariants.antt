@@ -1,3 +1,4 @@
+-- The loop's invariant: the devices so far, and those of the entries from i on, are the devices of the bytes.
 use Prim.Native.Nat.{ℕ, ◌+◌, ◌*◌, ◌≤◌, ◌-◌}
 use mathlib.Core.Path.{◌≡◌, ◌∙◌, sym, ap, refl}
 use mathlib.Core.List.{◌++◌}

@@ -1,3 +1,5 @@
+-- The loop's invariant: what is lent, with the entries that are left laid from entry i on, is what is promised; the
+-- devices so far are of the types.
 use Prim.Native.Nat.{◌+◌, ◌*◌, ◌≤◌, ◌<◌, ◌-◌}
 use mathlib.Core.Path.{◌≡◌, ◌∙◌, sym, ap, refl}
 use native.Mathlib.Omega.{arith}

@@ -1,3 +1,4 @@
+-- Each field from its own bytes.
 use mathlib.Core.Path.{◌≡◌, ap, ◌∙◌}
 use lib.ListN.{get_or}
 use Rattle.packed_bench.specs.Bytes.{code_from_bytes, eight_at}

@@ -1,3 +1,4 @@
+-- The parts of eight bytes, laid one after another.
 use Prim.Native.Nat.{◌<◌, ◌^◌}
 use mathlib.Core.Path.{◌≡◌}
 use lib.ListN.{length}

@@ -1,3 +1,4 @@
+-- A number past the first two is the last case.
 use Rattle.packed_bench.specs.PartsLaws.{nonzero, past}
 use Rattle.device.specs.declared.Activity.TheVariants.{Idle, Converting}
 use mathlib.Core.List.{[], ◌∷◌}

@@ -1,3 +1,4 @@
+-- The definition, byte by byte.
 use Rattle.packed_bench.specs.Bytes.{bytes_low_first}
 use mathlib.Core.Path.{refl}
 use borrow.Author.Rules.{rules}

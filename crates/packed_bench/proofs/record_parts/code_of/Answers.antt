@@ -1,3 +1,4 @@
+-- Each byte goes below the number of the bytes after it.
 use Rattle.packed_bench.specs.Bytes.{code_from_bytes}
 use borrow.Author.Rules.{rules}
 use Rattle.packed_bench.proofs.record_parts.code_of.Goals as goal

@@ -1,3 +1,4 @@
+-- A number past the first two is the last case.
 use Rattle.packed_bench.specs.PartsLaws.{nonzero, past}
 use Rattle.device.specs.declared.Phase.TheVariants.{SendBit, SendComplement, TakeBit}
 use mathlib.Core.List.{[], ◌∷◌}

@@ -1,3 +1,4 @@
+-- At twelve bits the reading is the raw one.
 use mathlib.Core.Path.{ap, ◌∙◌}
 use Rattle.temperature.specs.Register.{raw_reading}
 use Rattle.packed_bench.specs.PartsLaws.{reading-cleared}

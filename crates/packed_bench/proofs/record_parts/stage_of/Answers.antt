@@ -1,3 +1,4 @@
+-- One return for each number, and one for all numbers past them.
 use Rattle.packed_bench.specs.Parts.{stages}
 use Rattle.packed_bench.specs.PartsLaws.{nonzero, past}
 use Rattle.device.specs.declared.Stage.TheVariants.{Quiet}

@@ -1,3 +1,4 @@
+-- A number past the first is the last case.
 use Rattle.packed_bench.specs.PartsLaws.{nonzero}
 use Rattle.family.specs.declared.Unit.TheVariants.{Sixteenths, HalfDegrees}
 use mathlib.Core.List.{[], ◌∷◌}

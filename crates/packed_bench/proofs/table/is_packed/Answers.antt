@@ -1,3 +1,4 @@
+-- The bytes written again are the definition's, over zeros as long as a table; the test is the definition's too.
 use Prim.Native.Nat.{ℕ, ◌≤◌}
 use mathlib.Core.List.{List}
 use mathlib.Core.Path.{◌∙◌, ap, refl}

@@ -1,3 +1,4 @@
+-- Too few bytes stay as they are, and so do all where the records make no bench; else the table is written.
 use Prim.Native.Nat.{ℕ}
 use mathlib.Core.List.{List}
 use mathlib.Core.Path.{◌≡◌, ◌∙◌, sym, ap}
@@ -28,7 +29,6 @@ module _ (c : After-of_records-made) where
       ∙ ap (λ (ds : List Device). made_of ds b.count) c.records_of-devices.ensures.answer in
       ap (λ (m : Made). m.refusal) (c.of_records-made.ensures.answer ∙ own)
 
--- Too few bytes stay as they are, and so do all where the records make no bench; else the table is written.
 pub returns-then-t-lt-TABLE_BYTES : goal.returns-then-t-lt-TABLE_BYTES
 returns-then-t-lt-TABLE_BYTES c =
     let a = c.args in

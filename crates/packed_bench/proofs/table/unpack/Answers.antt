@@ -1,3 +1,4 @@
+-- The tests of the definition, in its order.
 use mathlib.Core.Path.{◌∙◌, sym}
 use borrow.Author.Tests.{not-true, not-false}
 use Rattle.packed_bench.specs.TableLaws.{records-in, unpack-short, unpack-other, unpack-made}

@@ -1,3 +1,5 @@
+-- The loop's invariant says what is still to come: the bits that are left, sent and recorded on what stands, give the
+-- answer.
 use Prim.Native.Nat.{◌≤◌, ◌-◌}
 use mathlib.Core.Path.{◌≡◌, ◌∙◌, sym}
 use native.Mathlib.Omega.{arith}

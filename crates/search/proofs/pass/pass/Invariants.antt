@@ -1,3 +1,4 @@
+-- The loop's invariant: the walk is one of the laws at this place, from the walk that the command left on.
 use Prim.Native.Nat.{◌≤◌, ◌-◌}
 use mathlib.Core.Logic.{⊎_elim}
 use mathlib.Core.Path.{◌≡◌, ◌∙◌, refl}

@@ -1,3 +1,4 @@
+-- The three slots of the place, by whether anybody answered.
 use mathlib.Core.Path.{◌∙◌, sym}
 use Rattle.search.specs.Pass.{place-over, place-on}
 use borrow.Author.Rules.{rules}

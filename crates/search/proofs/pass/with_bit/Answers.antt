@@ -1,3 +1,4 @@
+-- The weight is at most 2 ^ 63, so that neither the shift nor the sum passes 64 bits.
 use Prim.Native.Nat.{◌^◌, ◌≤◌}
 use native.Mathlib.Omega.{arith}
 use lib.Pow.{pow_mono}
@@ -5,7 +6,6 @@ use borrow.Author.Rules.{rules}
 use Rattle.search.proofs.pass.with_bit.Goals as goal
 use Rattle.search.proofs.pass.with_bit.Goals.{Start}
 
--- The weight is at most 2 ^ 63, so that neither the shift nor the sum passes 64 bits.
 weight : (c : Start) → 2 ^ c.args.place ≤ 9223372036854775808
 weight c =
     let h : c.args.place ≤ 63 = omega arith in pow_mono h

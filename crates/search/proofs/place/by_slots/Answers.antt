@@ -1,3 +1,4 @@
+-- Three slots in a row, or two where both reads showed 1.
 use Rattle.search.specs.Place.{placed}
 use borrow.Author.Rules.{rules}
 use Rattle.search.proofs.place.by_slots.Goals as goal

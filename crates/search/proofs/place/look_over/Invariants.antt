@@ -1,3 +1,4 @@
+-- The loop's invariant: the survey is of the devices before i.
 use Prim.Native.Nat.{◌≤◌, ◌<◌, ◌-◌, min}
 use mathlib.Core.Path.{◌≡◌, ◌∙◌, ap, refl}
 use native.Mathlib.Omega.{arith}

@@ -1,3 +1,5 @@
+-- Where every device fits and the reads are not both 1, the law of the three slots at once; elsewhere the slots
+-- themselves.
 use mathlib.Core.Path.{sym}
 use Rattle.search.specs.PlaceLaws.{surveyed-at-once}
 use borrow.Author.Rules.{rules}

@@ -1,3 +1,4 @@
+-- By whether the device is quiet.
 use mathlib.Core.Bool.{not, and-true}
 use Rattle.search.specs.Standing.{fits, one_at, zero_sent_at, surveyed_with}
 use borrow.Author.Rules.{rules}

@@ -1,3 +1,4 @@
+-- The store's refusal, or the write.
 use Rattle.settings.specs.Written.{settings_written}
 use borrow.Author.Tests.{eq-eqb, ne_eqb}
 use borrow.Author.Rules.{rules}

@@ -1,0 +1,24 @@
+-- The loop's invariant: what is lent, with the lines that are left laid from `to` on, is what is promised.
+use Prim.Native.Nat.{◌+◌, ◌*◌, ◌≤◌, ◌-◌}
+use mathlib.Core.Path.{◌≡◌, ◌∙◌, sym, ap, refl}
+use native.Mathlib.Omega.{arith}
+use lib.ListN.{length, take, drop, length-drop}
+use Rattle.text.specs.Digits.{hex_of}
+use Rattle.text.specs.Lines.{line_feed}
+use Rattle.basic_laws.specs.Laid.{laid}
+use Rattle.basic_laws.specs.LaidLaws.{laid-length}
+use Rattle.text.proofs.PuttingLaws.{field_puts}
+use Rattle.packed_session.specs.TableAnswers.{entry_line, table_text}
+use Rattle.packed_session.specs.TableAnswersLaws.{line-length, text-length, text-turn, text-end}
+use Rattle.packed_session.proofs.table_answers.put_entries.Given as goal
+
+abbrev pub invariant-loop-i : goal.invariant-loop-i
+invariant-loop-i l =
+    (l.i ≤ 32)
+    × (length l.out ≡ length l.initial.out)
+    × (l.to ≡ 97 * l.i)
+    × (laid l.out (97 * l.i) (table_text (32 - l.i) (drop (48 * l.i) l.t)) ≡ laid l.initial.out 0 (table_text 32 l.t))
+
+abbrev pub decreases-loop-i : goal.decreases-loop-i
+decreases-loop-i l =
+    32 - l.i

@@ -1,0 +1,15 @@
+-- By the definition's own test.
+use borrow.Author.Tests.{lt-leb, le-leb}
+use Rattle.packed_session.specs.TableRequests.{table_request_of}
+use borrow.Author.Rules.{rules}
+use Rattle.packed_session.proofs.table_requests.parse.Goals as goal
+
+pub returns-then-line-gt-LONGEST : goal.returns-then-line-gt-LONGEST
+unfolding table_request_of
+returns-then-line-gt-LONGEST c =
+    record { answer = simp (lt-leb _ _ c.if-line-gt-LONGEST.true) }
+
+pub returns : goal.returns
+unfolding table_request_of
+returns c =
+    record { answer = simp (le-leb _ _ c.if-line-gt-LONGEST.false, c.of_words.ensures) }
