@@ -4,7 +4,7 @@ use mathlib.Core.Bool.{false}
 use Rattle.text.specs.Lines.{Line}
 use Rattle.thermostat_session.specs.ProbeSession.{probe_console}
 use Rattle.thermostat_session.specs.ProbeSessionLaws.{said-front}
-use Rattle.sessions.specs.SessionLaws.{end-said}
+use Rattle.sessions.proofs.SessionLaws.{end-said}
 use Rattle.thermostat_console.proofs.answer_last.Goals as goal
 
 pub write_last-requires : goal.write_last-requires

@@ -3,7 +3,7 @@ use mathlib.Core.Path.{sym, ◌∙◌}
 use native.Mathlib.Omega.{arith}
 use lib.ListN.{length}
 use Rattle.sessions.specs.Session.{run_at}
-use Rattle.sessions.specs.SessionLaws.{piece-done, line-place, line-rest, line-holds}
+use Rattle.sessions.proofs.SessionLaws.{piece-done, line-place, line-rest, line-holds}
 use Rattle.thermostat_session.specs.ProbeSession.{probe_console}
 use Rattle.thermostat_console.proofs.answer_piece.Goals as goal
 
