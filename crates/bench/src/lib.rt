@@ -7,7 +7,7 @@ pub mod settling;
 pub mod wire;
 
 ghost use Rattle.std.specs.Prelude.{◌<◌, ◌≤◌, ◌&&◌, ◌++◌, ◌≡◌, take, drop};
-ghost use Rattle.refusals.specs.Refusals.{not_atable};
+ghost use Rattle.refusals.specs.Refusals.{not_a_table};
 ghost use Rattle.device.specs.Offer.{offer_of};
 ghost use Rattle.bench.specs.Bench.{vacant, empty_bench, place_of, free};
 ghost use Rattle.bench.specs.Slot.{slotted, reset_done};
@@ -406,7 +406,7 @@ fn over(places: Devices, devices: Devices, count: usize) -> Devices
 }
 
 fn no_bench() -> Made
-    ensures answer { result ≡ record { refusal = not_atable; bench = empty_bench } }
+    ensures answer { result ≡ record { refusal = not_a_table; bench = empty_bench } }
 {
     Made {
         refusal: refusals::NOT_A_TABLE,
