@@ -1,4 +1,6 @@
 // The lines that answer the calls of the bench console, laid at a place of a buffer.
+#![tactic(auto)]
+
 pub mod access_answers;
 pub mod call_answers;
 pub mod pin_answers;

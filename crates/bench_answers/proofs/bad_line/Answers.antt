@@ -1,10 +1,8 @@
 -- Refused without room; a line that is short enough is laid.
 use mathlib.Core.Path.{sym, ◌∙◌}
-use borrow.Author.Tests.{not-true, not-false}
 use Rattle.bench_answers.specs.Answers.{bad_line}
 use Rattle.bench_answers.specs.AnswersLaws.{bad-short}
 use Rattle.text.proofs.PuttingLaws.{line_refused, line-done}
-use borrow.Author.Rules.{rules}
 use Rattle.bench_answers.proofs.bad_line.Goals as goal
 
 pub returns-then-not-room : goal.returns-then-not-room

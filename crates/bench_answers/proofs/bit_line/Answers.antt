@@ -1,6 +1,5 @@
 -- Refused without room; a line that is short enough is laid.
 use mathlib.Core.Path.{sym, ◌∙◌}
-use borrow.Author.Tests.{not-true, not-false}
 use Rattle.bench_answers.specs.Answers.{bit_line}
 use Rattle.bench_answers.specs.AnswersLaws.{bit-short}
 use Rattle.text.proofs.PuttingLaws.{line_refused, line-done}

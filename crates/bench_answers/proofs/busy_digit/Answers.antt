@@ -1,5 +1,4 @@
 -- Activity by activity.
-use borrow.Author.Rules.{rules}
 use Rattle.bench_answers.proofs.busy_digit.Goals as goal
 
 pub returns-in-Idle : goal.returns-in-Idle

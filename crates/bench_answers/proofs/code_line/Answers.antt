@@ -1,11 +1,9 @@
 -- Refused without room; a line that is short enough is laid.
 use mathlib.Core.Path.{sym, ◌∙◌}
-use borrow.Author.Tests.{not-true, not-false}
 use Rattle.bench_answers.specs.Answers.{code_line}
 use Rattle.bench_answers.specs.AnswersLaws.{code-short}
 use Rattle.text.proofs.PuttingLaws.{line_refused, line-done, field_puts}
 use Rattle.text.specs.Digits.{hex_digits}
-use borrow.Author.Rules.{rules}
 use Rattle.bench_answers.proofs.code_line.Goals as goal
 
 pub returns-then-not-room : goal.returns-then-not-room

@@ -1,7 +1,6 @@
 -- What is laid all or nothing is put where it fits.
 use Rattle.bench_answers.specs.Answers.{bad_line}
 use Rattle.text.proofs.PuttingLaws.{puts-laid}
-use borrow.Author.Rules.{rules}
 use Rattle.bench_answers.proofs.put_bad.Goals as goal
 
 pub returns : goal.returns

@@ -3,7 +3,6 @@ use Rattle.text.specs.Decimal.{decimal}
 use Rattle.bench_answers.specs.Answers.{bit_line}
 use Rattle.text.proofs.PuttingLaws.{puts-field, field_puts}
 use Rattle.text.specs.Putting.{flag}
-use borrow.Author.Rules.{rules}
 use Rattle.bench_answers.proofs.put_bit.Goals as goal
 
 pub returns : goal.returns

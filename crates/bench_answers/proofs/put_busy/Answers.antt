@@ -4,7 +4,6 @@ use mathlib.Core.List.{List, [], ◌∷◌}
 use mathlib.Core.Path.{◌≡◌, subst}
 use Rattle.text.specs.Putting.{field_next, field_leaves}
 use Rattle.text.proofs.PuttingLaws.{field-laid}
-use borrow.Author.Rules.{rules}
 use Rattle.bench_answers.proofs.put_busy.Goals as goal
 
 pub returns : goal.returns

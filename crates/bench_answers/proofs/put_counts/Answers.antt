@@ -2,7 +2,6 @@
 use Rattle.text.specs.Decimal.{decimal}
 use Rattle.bench_answers.specs.Answers.{search_line}
 use Rattle.text.proofs.PuttingLaws.{puts-field, field_puts}
-use borrow.Author.Rules.{rules}
 use Rattle.bench_answers.proofs.put_counts.Goals as goal
 
 pub returns : goal.returns

@@ -4,7 +4,6 @@ use Rattle.text.specs.Digits.{hex_of}
 use Rattle.bench_answers.specs.Answers.{busy_digit, settings_digits, record_line}
 use Rattle.text.proofs.PuttingLaws.{puts-field, field_puts}
 use Rattle.text.specs.Putting.{flag}
-use borrow.Author.Rules.{rules}
 use Rattle.bench_answers.proofs.put_record.Goals as goal
 
 pub returns : goal.returns

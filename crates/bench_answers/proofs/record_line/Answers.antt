@@ -1,7 +1,6 @@
 -- Refused without room; a line that is short enough is laid.
 use lib.ListN.{length}
 use mathlib.Core.Path.{◌≡◌, sym, ◌∙◌}
-use borrow.Author.Tests.{not-true, not-false}
 use Rattle.bench_answers.specs.Answers.{record_line}
 use Rattle.bench_answers.specs.AnswersLaws.{record-short}
 use Rattle.text.proofs.PuttingLaws.{line_refused, line-done}

@@ -1,7 +1,6 @@
 -- By the definition's own test.
 use borrow.Author.Tests.{eq-eqb, ne_eqb}
 use Rattle.bench_answers.specs.Answers.{show_line}
-use borrow.Author.Rules.{rules}
 use Rattle.bench_answers.proofs.show_line.Goals as goal
 
 pub returns-then-refusal-eq-ACCEPTED : goal.returns-then-refusal-eq-ACCEPTED

@@ -13,7 +13,6 @@ use Rattle.text.specs.Putting.{Puts}
 use Rattle.text.proofs.PuttingLaws.{puts-field, field_puts}
 use Rattle.bench_answers.specs.AccessLine.{reading_digits, access_fields}
 use Rattle.bench_answers.specs.AccessLineLaws.{mark-behind}
-use borrow.Author.Rules.{rules}
 use Rattle.bench_answers.proofs.access_answers.put_access.Goals as goal
 
 -- what is put is the number given

@@ -4,13 +4,15 @@ use native.Mathlib.Omega.{arith}
 use Rattle.bench_answers.specs.WhyLine.{why_line}
 use Rattle.bench_answers.specs.SaidLaws.{said-so}
 use Rattle.bench_answers.specs.declared.call_answers.Said.{Said}
-use borrow.Author.Rules.{rules}
 use Rattle.bench_answers.proofs.call_answers.why.Goals as goal
 
 pub returns : goal.returns
 returns c =
     let count = ap (λ (s : Said). s.count) c.say.ensures.answer in
-    
     let laid = c.why_line-w.ensures in
-    let short = laid.fits in record { answer = c.say.ensures.answer ∙ said-so c.args.out.now (why_line c.args.why) c.why_line-w.result c.args.bench
-          laid.answer; written = laid.written; fits = omega arith }
+    let short = laid.fits in record {
+      answer = c.say.ensures.answer ∙ said-so c.args.out.now (why_line c.args.why) c.why_line-w.result c.args.bench
+          laid.answer;
+      written = laid.written;
+      fits = omega arith;
+    }

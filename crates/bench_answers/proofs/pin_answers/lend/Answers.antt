@@ -7,7 +7,6 @@ use Rattle.master_rules.specs.Pins.{PinsOutcome, pins_outcome}
 use Rattle.bench_answers.specs.Whole.{Says}
 use Rattle.bench_answers.specs.PinLines.{of_pins}
 use Rattle.bench_answers.specs.PinLinesLaws.{pins-just-enough}
-use borrow.Author.Rules.{rules}
 use Rattle.bench_answers.proofs.pin_answers.lend.Goals as goal
 
 pub slice_bounds-ask-end-then-places-lt-FEWEST_PLACES : goal.slice_bounds-ask-end-then-places-lt-FEWEST_PLACES

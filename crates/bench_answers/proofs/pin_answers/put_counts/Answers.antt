@@ -2,7 +2,6 @@
 use Rattle.text.specs.Decimal.{decimal}
 use Rattle.text.proofs.PuttingLaws.{puts-field, field_puts}
 use Rattle.bench_answers.specs.PinLines.{shared_text, pins_line}
-use borrow.Author.Rules.{rules}
 use Rattle.bench_answers.proofs.pin_answers.put_counts.Goals as goal
 
 pub returns : goal.returns

@@ -4,7 +4,6 @@ use Rattle.text.specs.Digits.{hex_digits}
 use Rattle.text.proofs.PuttingLaws.{puts-field, field_puts}
 use Rattle.bench_answers.specs.PinLines.{pin_line}
 use Rattle.bench_answers.specs.PinLinesLaws.{pin-short}
-use borrow.Author.Rules.{rules}
 use Rattle.bench_answers.proofs.pin_answers.put_pin.Goals as goal
 
 pub returns : goal.returns

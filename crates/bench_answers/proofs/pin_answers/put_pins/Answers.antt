@@ -1,8 +1,5 @@
-use Prim.Native.Nat.{◌-◌, ◌≤◌}
 use native.Mathlib.Omega.{arith}
-use lib.ListN.{length}
-use Rattle.bench_answers.specs.PinLinesLaws.{Put, put-none, put-size, put-more, put_all}
-use borrow.Author.Rules.{rules}
+use Rattle.bench_answers.specs.PinLinesLaws.{put-none, put-more, put_all}
 use Rattle.bench_answers.proofs.pin_answers.put_pins.Goals as goal
 
 pub loop-i-init : goal.loop-i-init

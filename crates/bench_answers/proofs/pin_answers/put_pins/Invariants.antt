@@ -1,9 +1,8 @@
 -- The loop's invariant: the lines of the first `i` probes are laid, and `to` is the place behind them (`Put`). The
 -- measure is how many are left.
 use Prim.Native.Nat.{◌-◌, ◌≤◌}
-use native.Mathlib.Omega.{arith}
 use lib.ListN.{length}
-use Rattle.bench_answers.specs.PinLinesLaws.{Put, put-none, put-size, put-more, put_all}
+use Rattle.bench_answers.specs.PinLinesLaws.{Put}
 use Rattle.bench_answers.proofs.pin_answers.put_pins.Given as goal
 
 abbrev pub invariant-loop-i : goal.invariant-loop-i

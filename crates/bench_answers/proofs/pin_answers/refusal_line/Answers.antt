@@ -1,6 +1,5 @@
 -- Refused without room; a line that is short enough is laid.
 use mathlib.Core.Path.{sym, ◌∙◌}
-use borrow.Author.Tests.{not-true, not-false}
 use Rattle.master_rules.specs.declared.SharedPin.TheVariants.{NoPin}
 use Rattle.bench_answers.specs.PinLines.{pins_line}
 use Rattle.bench_answers.specs.PinLinesLaws.{pins-refusal-short}

@@ -3,7 +3,6 @@ use native.Mathlib.Omega.{arith}
 use lib.ListN.{length}
 use Rattle.bench_answers.specs.PinLines.{pins_line, pin_lines}
 use Rattle.bench_answers.specs.PinLinesLaws.{counts-put, says-pins}
-use borrow.Author.Rules.{rules}
 use Rattle.bench_answers.proofs.pin_answers.say.Goals as goal
 
 pub put_pins-end-requires : goal.put_pins-end-requires

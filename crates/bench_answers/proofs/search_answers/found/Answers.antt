@@ -2,7 +2,6 @@
 use Rattle.master_rules.specs.Search.{search_outcome}
 use Rattle.bench_answers.specs.WholeLaws.{whole-said, whole-refused}
 use Rattle.bench_answers.specs.Found.{command_for, of_search}
-use borrow.Author.Rules.{rules}
 use Rattle.bench_answers.proofs.search_answers.found.Goals as goal
 
 pub returns-then-out-lt-ROOM : goal.returns-then-out-lt-ROOM

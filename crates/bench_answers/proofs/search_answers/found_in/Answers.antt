@@ -4,7 +4,6 @@ use Rattle.master_rules.specs.Search.{search_outcome}
 use Rattle.search.specs.Sweep.{search-bounded}
 use Rattle.bench_answers.specs.Found.{command_for}
 use Rattle.bench_answers.specs.FoundLaws.{codes-part, bytes-part, says-outcome}
-use borrow.Author.Rules.{rules}
 use Rattle.bench_answers.proofs.search_answers.found_in.Goals as goal
 
 pub slice_bounds-say_found-end : goal.slice_bounds-say_found-end

@@ -8,7 +8,6 @@ use Rattle.master_rules.specs.Search.{Outcome, search_outcome}
 use Rattle.bench_answers.specs.Whole.{Says}
 use Rattle.bench_answers.specs.Found.{command_for, of_search}
 use Rattle.bench_answers.specs.FoundLaws.{just_enough}
-use borrow.Author.Rules.{rules}
 use Rattle.bench_answers.proofs.search_answers.lend.Goals as goal
 
 pub slice_bounds-found_in-end-2 : goal.slice_bounds-found_in-end-2

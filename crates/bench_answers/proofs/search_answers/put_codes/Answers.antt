@@ -1,16 +1,9 @@
-use Prim.Native.Nat.{◌+◌, ◌*◌, ◌-◌, ◌≤◌}
-use mathlib.Core.Path.{◌≡◌}
 use native.Mathlib.Omega.{arith}
-use lib.ListN.{length, take}
-use Rattle.basic_laws.specs.Laid.{laid}
-use Rattle.bench_answers.specs.Answers.{code_lines}
-use Rattle.bench_answers.specs.FoundLaws.{codes-begun, codes-turn, codes-size, codes-end}
-use borrow.Author.Rules.{rules}
+use Rattle.bench_answers.specs.FoundLaws.{codes-begun, codes-turn, codes-end}
 use Rattle.bench_answers.proofs.search_answers.put_codes.Goals as goal
 
 pub loop-i-init : goal.loop-i-init
-loop-i-init c =
-    (
+loop-i-init c = (
   omega arith,
   omega arith,
   codes-begun c.args.out.now c.args.at

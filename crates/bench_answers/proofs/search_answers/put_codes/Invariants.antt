@@ -2,11 +2,9 @@
 -- how many are left.
 use Prim.Native.Nat.{◌+◌, ◌*◌, ◌-◌, ◌≤◌}
 use mathlib.Core.Path.{◌≡◌}
-use native.Mathlib.Omega.{arith}
 use lib.ListN.{length, take}
 use Rattle.basic_laws.specs.Laid.{laid}
 use Rattle.bench_answers.specs.Answers.{code_lines}
-use Rattle.bench_answers.specs.FoundLaws.{codes-begun, codes-turn, codes-size, codes-end}
 use Rattle.bench_answers.proofs.search_answers.put_codes.Given as goal
 
 abbrev pub invariant-loop-i : goal.invariant-loop-i

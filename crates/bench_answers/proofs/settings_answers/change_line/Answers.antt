@@ -3,12 +3,11 @@ use Prim.Native.Nat.{◌+◌}
 use lib.ListN.{length}
 use mathlib.Core.Path.{◌≡◌, sym, ap, ◌∙◌}
 use native.Mathlib.Omega.{arith}
-use borrow.Author.Tests.{leb-true, not-true, not-false}
+use borrow.Author.Tests.{leb-true}
 use Rattle.text.specs.declared.laying.Written.{Written}
 use Rattle.text.specs.Putting.{line_room}
 use Rattle.text.proofs.PuttingLaws.{line_refused, line-done}
 use Rattle.bench_answers.specs.SettingsLines.{change_line}
-use borrow.Author.Rules.{rules}
 use Rattle.bench_answers.proofs.settings_answers.change_line.Goals as goal
 
 pub returns-then-not-room : goal.returns-then-not-room

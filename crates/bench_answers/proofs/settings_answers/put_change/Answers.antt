@@ -3,7 +3,6 @@ use Rattle.text.specs.Decimal.{decimal}
 use Rattle.text.proofs.PuttingLaws.{puts-field, field_puts}
 use Rattle.bench_answers.specs.SettingsLines.{change_line}
 use Rattle.bench_answers.specs.SettingsLinesLaws.{change-short}
-use borrow.Author.Rules.{rules}
 use Rattle.bench_answers.proofs.settings_answers.put_change.Goals as goal
 
 pub returns : goal.returns

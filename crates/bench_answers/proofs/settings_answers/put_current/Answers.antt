@@ -4,7 +4,6 @@ use Rattle.text.specs.Digits.{hex_digits}
 use Rattle.text.proofs.PuttingLaws.{puts-field, field_puts}
 use Rattle.bench_answers.specs.SettingsLines.{settings_fields}
 use Rattle.bench_answers.specs.SettingsLinesLaws.{settings-fields-short}
-use borrow.Author.Rules.{rules}
 use Rattle.bench_answers.proofs.settings_answers.put_current.Goals as goal
 
 pub returns : goal.returns

@@ -13,7 +13,6 @@ use Rattle.text.specs.Putting.{Puts, flag}
 use Rattle.text.proofs.PuttingLaws.{puts-field, field_puts}
 use Rattle.bench_answers.specs.WhyLine.{why_fields}
 use Rattle.bench_answers.specs.WhyLineLaws.{why-fields-short}
-use borrow.Author.Rules.{rules}
 use Rattle.bench_answers.proofs.why_answers.put_fields.Goals as goal
 
 -- a number of sixteen bits, as the code holds it

@@ -4,14 +4,13 @@ use lib.ListN.{length}
 use Rattle.text.specs.Putting.{Puts, line_room}
 use mathlib.Core.Path.{◌≡◌, sym, ap, ◌∙◌}
 use native.Mathlib.Omega.{arith}
-use borrow.Author.Tests.{leb-true, not-true, not-false}
+use borrow.Author.Tests.{leb-true}
 use Rattle.text.specs.declared.laying.Written.{Written}
 use Rattle.basic_laws.specs.Complement.{Fits16}
 use Rattle.basic_laws.proofs.ComplementLaws.{held_back}
 use Rattle.temperature.specs.Register.{count_of}
 use Rattle.text.proofs.PuttingLaws.{line_refused, line-done}
 use Rattle.bench_answers.specs.WhyLine.{why_line}
-use borrow.Author.Rules.{rules}
 use Rattle.bench_answers.proofs.why_answers.why_line.Goals as goal
 
 pub returns-then-not-room : goal.returns-then-not-room

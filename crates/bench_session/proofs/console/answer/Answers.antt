@@ -6,7 +6,6 @@ use Rattle.bench_requests.specs.declared.Request.TheVariants.{Bad}
 use Rattle.bench_answers.specs.Whole.{Says}
 use Rattle.bench_answers.specs.WholeLaws.{whole-said, whole-refused}
 use Rattle.bench_session.specs.Console.{answered, asked}
-use borrow.Author.Rules.{rules}
 use Rattle.bench_session.proofs.console.answer.Goals as goal
 
 pub returns-then-out-lt-ROOM : goal.returns-then-out-lt-ROOM

@@ -12,14 +12,12 @@ use Rattle.bench_answers.specs.Said.{says, of_change, of_reset, of_slot, of_acce
 use Rattle.bench_answers.specs.Whole.{Says}
 use Rattle.bench_answers.specs.WholeLaws.{whole_says, line-says}
 use Rattle.bench_session.specs.Console.{answered}
-use borrow.Author.Rules.{rules}
 use Rattle.bench_session.proofs.console.respond.Goals as goal
 
 pub returns-in-Bad : goal.returns-in-Bad
 unfolding answered
 returns-in-Bad c =
     let told = c.in-Bad.is in
-    
     rw told (line-says c.args.out.now c.requires (says bad_line c.args.bench) c.bad.new.out
     c.bad.result c.bad.ensures.answer c.bad.ensures.written c.bad.ensures.fits)
 
@@ -27,7 +25,6 @@ pub returns-in-Add : goal.returns-in-Add
 unfolding answered
 returns-in-Add c =
     let told = c.in-Add.is in
-    
     let said = line-says c.args.out.now c.requires (of_change c.add.result) c.change.new.out
     c.change.result c.change.ensures.answer c.change.ensures.written c.change.ensures.fits in
     rw told (subst (λ (r : Changed). Says c.args.out.now (of_change r) c.change.new.out
@@ -37,7 +34,6 @@ pub returns-in-Reset : goal.returns-in-Reset
 unfolding answered
 returns-in-Reset c =
     let told = c.in-Reset.is in
-    
     let said = line-says c.args.out.now c.requires (of_reset c.reset.result) c.reset-in-Reset.new.out
     c.reset-in-Reset.result c.reset-in-Reset.ensures.answer c.reset-in-Reset.ensures.written c.reset-in-Reset.ensures.fits in
     rw told (subst (λ (r : ResetDone). Says c.args.out.now (of_reset r) c.reset-in-Reset.new.out
@@ -47,7 +43,6 @@ pub returns-in-Slot : goal.returns-in-Slot
 unfolding answered
 returns-in-Slot c =
     let told = c.in-Slot.is in
-    
     let said = line-says c.args.out.now c.requires (of_slot c.slot.result) c.slot-in-Slot.new.out
     c.slot-in-Slot.result c.slot-in-Slot.ensures.answer c.slot-in-Slot.ensures.written c.slot-in-Slot.ensures.fits in
     rw told (subst (λ (r : Slotted). Says c.args.out.now (of_slot r) c.slot-in-Slot.new.out
@@ -57,7 +52,6 @@ pub returns-in-Converted : goal.returns-in-Converted
 unfolding answered
 returns-in-Converted c =
     let told = c.in-Converted.is in
-    
     let said = line-says c.args.out.now c.requires (of_change c.finish_conversion.result)
     c.change-in-Converted.new.out c.change-in-Converted.result c.change-in-Converted.ensures.answer c.change-in-Converted.ensures.written
     c.change-in-Converted.ensures.fits in
@@ -68,7 +62,6 @@ pub returns-in-Copied : goal.returns-in-Copied
 unfolding answered
 returns-in-Copied c =
     let told = c.in-Copied.is in
-    
     let said = line-says c.args.out.now c.requires (of_change c.finish_copy.result)
     c.change-in-Copied.new.out c.change-in-Copied.result c.change-in-Copied.ensures.answer c.change-in-Copied.ensures.written
     c.change-in-Copied.ensures.fits in
@@ -79,7 +72,6 @@ pub returns-in-Cycle : goal.returns-in-Cycle
 unfolding answered
 returns-in-Cycle c =
     let told = c.in-Cycle.is in
-    
     let said = line-says c.args.out.now c.requires (of_change c.power_cycle.result)
     c.change-in-Cycle.new.out c.change-in-Cycle.result c.change-in-Cycle.ensures.answer c.change-in-Cycle.ensures.written
     c.change-in-Cycle.ensures.fits in
@@ -90,7 +82,6 @@ pub returns-in-Search : goal.returns-in-Search
 unfolding answered
 returns-in-Search c =
     let told = c.in-Search.is in
-    
     rw told (whole_says c.args.out.now c.requires _ c.found.new.out c.found.result
     c.args.bench c.found.ensures.answer c.found.ensures.written c.found.ensures.fits)
 
@@ -98,7 +89,6 @@ pub returns-in-Alarm : goal.returns-in-Alarm
 unfolding answered
 returns-in-Alarm c =
     let told = c.in-Alarm.is in
-    
     rw told (whole_says c.args.out.now c.requires _ c.found-in-Alarm.new.out c.found-in-Alarm.result
     c.args.bench c.found-in-Alarm.ensures.answer c.found-in-Alarm.ensures.written c.found-in-Alarm.ensures.fits)
 
@@ -106,7 +96,6 @@ pub returns-in-Read : goal.returns-in-Read
 unfolding answered
 returns-in-Read c =
     let told = c.in-Read.is in
-    
     let said = line-says c.args.out.now c.requires (of_access c.read_at.result)
     c.access.new.out c.access.result c.access.ensures.answer c.access.ensures.written
     c.access.ensures.fits in
@@ -117,7 +106,6 @@ pub returns-in-Write : goal.returns-in-Write
 unfolding answered
 returns-in-Write c =
     let told = c.in-Write.is in
-    
     let said = line-says c.args.out.now c.requires (of_access c.write_at.result)
     c.access-in-Write.new.out c.access-in-Write.result c.access-in-Write.ensures.answer c.access-in-Write.ensures.written
     c.access-in-Write.ensures.fits in
@@ -128,7 +116,6 @@ pub returns-in-Show : goal.returns-in-Show
 unfolding answered
 returns-in-Show c =
     let told = c.in-Show.is in
-    
     let said = line-says c.args.out.now c.requires
     (says (show_line c.look.result) c.args.bench) c.device.new.out c.device.result
     c.device.ensures.answer c.device.ensures.written c.device.ensures.fits in
@@ -139,7 +126,6 @@ pub returns-in-Why : goal.returns-in-Why
 unfolding answered
 returns-in-Why c =
     let told = c.in-Why.is in
-    
     let said = line-says c.args.out.now c.requires (says (why_line c.why.result) c.args.bench)
     c.why-in-Why.new.out c.why-in-Why.result c.why-in-Why.ensures.answer c.why-in-Why.ensures.written
     c.why-in-Why.ensures.fits in
@@ -150,6 +136,5 @@ pub returns-in-Pins : goal.returns-in-Pins
 unfolding answered
 returns-in-Pins c =
     let told = c.in-Pins.is in
-    
     rw told (whole_says c.args.out.now c.requires _ c.found-in-Pins.new.out c.found-in-Pins.result
     c.args.bench c.found-in-Pins.ensures.answer c.found-in-Pins.ensures.written c.found-in-Pins.ensures.fits)

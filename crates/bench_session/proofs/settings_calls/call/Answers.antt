@@ -1,8 +1,6 @@
 -- By the room.
 use mathlib.Core.Path.{sym, ◌∙◌}
-use borrow.Author.Tests.{not-true, not-false}
 use Rattle.bench_session.specs.StoreCallsLaws.{call-refused, call-made}
-use borrow.Author.Rules.{rules}
 use Rattle.bench_session.proofs.settings_calls.call.Goals as goal
 
 pub returns-then-not-room : goal.returns-then-not-room

@@ -8,7 +8,6 @@ use Rattle.settings.specs.declared.StoreAfter.{StoreAfter}
 use Rattle.bench_answers.specs.SettingsLines.{current_line, change_line}
 use Rattle.bench_session.specs.StoreCalls.{store_left, Calls}
 use Rattle.bench_session.specs.StoreCallsLaws.{nothing-calls}
-use borrow.Author.Rules.{rules}
 use Rattle.bench_session.proofs.settings_calls.make.Goals as goal
 
 pub returns-in-Other : goal.returns-in-Other

@@ -1,6 +1,6 @@
 -- By the room, as the definition tests it, and by what the line asks for.
 use lib.ListN.{length}
-use mathlib.Core.Path.{◌≡◌, refl, ap, subst, ◌∙◌}
+use mathlib.Core.Path.{◌≡◌, ap, subst, ◌∙◌}
 use borrow.Author.Tests.{le-leb, lt-leb}
 use Rattle.text.specs.Lines.{Line}
 use Rattle.settings.specs.declared.Store.{Store}
@@ -10,8 +10,6 @@ use Rattle.bench_answers.specs.declared.call_answers.Said.{Said}
 use Rattle.bench_answers.specs.Whole.{room, Says}
 use Rattle.bench_answers.specs.WholeLaws.{whole-said, whole-refused}
 use Rattle.bench_session.specs.SettingsConsole.{responded, store_left, store_asked, told}
-use Rattle.bench_session.specs.declared.settings_console.Told.{Told}
-use borrow.Author.Rules.{rules}
 use Rattle.bench_session.proofs.settings_console.answer.Goals as goal
 
 pub returns-then-out-lt-ROOM : goal.returns-then-out-lt-ROOM
@@ -21,8 +19,12 @@ returns-then-out-lt-ROOM c =
     let none = whole-refused a.bench (responded a.bench a.store line (store_asked line)) a.out.now
     c.if-out-lt-ROOM.true in
     let kept : a.store ≡ (told a.bench a.store line a.out.now).store =
-    rw (lt-leb room (length a.out.now) c.if-out-lt-ROOM.true) in record { answer = ap (λ (s : Said). record { said = s; store = a.store }) none.0
-          ∙ ap (λ (s : Store). record { said = (told a.bench a.store line a.out.now).said; store = s }) kept; written = none.1; fits = none.2 }
+    rw (lt-leb room (length a.out.now) c.if-out-lt-ROOM.true) in record {
+      answer = ap (λ (s : Said). record { said = s; store = a.store }) none.0
+          ∙ ap (λ (s : Store). record { said = (told a.bench a.store line a.out.now).said; store = s }) kept;
+      written = none.1;
+      fits = none.2;
+    }
 
 pub returns : goal.returns
 returns c =
@@ -36,5 +38,9 @@ returns c =
     c.if-out-lt-ROOM.false out' c.respond-2.result.said says in
     let left : c.respond-2.result.store ≡ (told a.bench a.store line a.out.now).store =
     rw (le-leb room (length a.out.now) c.if-out-lt-ROOM.false) (c.respond-2.ensures.1
-    ∙ ap (store_left a.store) request) in record { answer = ap (λ (s : Said). record { said = s; store = c.respond-2.result.store }) done.0
-          ∙ ap (λ (s : Store). record { said = (told a.bench a.store line a.out.now).said; store = s }) left; written = done.1; fits = done.2 }
+    ∙ ap (store_left a.store) request) in record {
+      answer = ap (λ (s : Said). record { said = s; store = c.respond-2.result.store }) done.0
+          ∙ ap (λ (s : Store). record { said = (told a.bench a.store line a.out.now).said; store = s }) left;
+      written = done.1;
+      fits = done.2;
+    }

@@ -19,10 +19,9 @@ use Rattle.settings.specs.Written.{settings_written}
 use Rattle.settings.specs.declared.Store.{Store}
 use Rattle.bench_requests.specs.declared.settings_requests.StoreRequest.{StoreRequest}
 use Rattle.bench_session.specs.StoreCalls.{store_says, called}
-use Rattle.bench_session.specs.StoreCallsLaws.{own-request, own-number}
+use Rattle.bench_session.specs.StoreCallsLaws.{own-request}
 use Rattle.bench_session.specs.declared.settings_calls.Called.{Called}
 use Rattle.bench_session.specs.SettingsConsole.{responded, store_left}
-use borrow.Author.Rules.{rules}
 use Rattle.bench_session.proofs.settings_console.respond.Goals as goal
 
 -- a call on the store, said with room for it
@@ -47,7 +46,6 @@ pub returns-in-Other : goal.returns-in-Other
 unfolding responded store_left
 returns-in-Other c =
     let told = c.in-Other.is in
-    
     rw told (
       whole_says c.args.out.now c.requires _ c.answer.new.out c.answer.result
           c.args.bench c.answer.ensures.answer c.answer.ensures.written c.answer.ensures.fits,
@@ -58,7 +56,6 @@ pub returns-in-Write : goal.returns-in-Write
 unfolding responded store_left
 returns-in-Write c =
     let told = c.in-Write.is in
-    
     let said = line-says c.args.out.now c.requires (of_access c.write.result)
     c.access.new.out c.access.result c.access.ensures.answer c.access.ensures.written
     c.access.ensures.fits in

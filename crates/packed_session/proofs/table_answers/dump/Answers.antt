@@ -8,7 +8,6 @@ use Rattle.refusals.specs.Refusals.{accepted, no_room}
 use Rattle.packed_bench.specs.Table.{table_bytes}
 use Rattle.packed_session.specs.TableAnswers.{text_room, dump_answer, dump_leaves}
 use Rattle.packed_session.specs.TableAnswersLaws.{line-told, line-laid}
-use borrow.Author.Rules.{rules}
 use Rattle.packed_session.proofs.table_answers.dump.Goals as goal
 
 pub returns-then-out-lt-TEXT_ROOM : goal.returns-then-out-lt-TEXT_ROOM
@@ -32,5 +31,8 @@ unfolding dump_answer dump_leaves
 returns c =
     let a = c.args in
     let room = le-ltb (length a.out.now) text_room c.if-out-lt-TEXT_ROOM.false in
-    let long = le-ltb (length a.t.now) table_bytes c.if-t-lt-TABLE_BYTES.false in record { answer = rw (room, long) (c.behind.ensures.answer ∙ ap (λ n. record { refusal = accepted; next = n })
-          c.put_entries.ensures.answer); written = rw (room, long) c.put_entries.ensures.written }
+    let long = le-ltb (length a.t.now) table_bytes c.if-t-lt-TABLE_BYTES.false in record {
+      answer = rw (room, long) (c.behind.ensures.answer ∙ ap (λ n. record { refusal = accepted; next = n })
+          c.put_entries.ensures.answer);
+      written = rw (room, long) c.put_entries.ensures.written;
+    }

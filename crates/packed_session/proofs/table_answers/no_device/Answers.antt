@@ -3,7 +3,6 @@ use mathlib.Core.Path.{◌≡◌, ap, ◌∙◌}
 use Rattle.bench.specs.Bench.{vacant}
 use Rattle.bench.specs.Calls.{looked}
 use Rattle.packed_bench.specs.ThroughLaws.{empty-unseen}
-use borrow.Author.Rules.{rules}
 use Rattle.packed_session.proofs.table_answers.no_device.Goals as goal
 
 pub returns : goal.returns

@@ -3,7 +3,6 @@ use mathlib.Core.Path.{sym, refl}
 use borrow.Author.Tests.{lt-ltb, le-ltb}
 use lib.ListN.{length}
 use lib.Seq.{set_out}
-use borrow.Author.Rules.{rules}
 use Rattle.packed_session.proofs.table_answers.poke.Goals as goal
 
 pub returns-then-place-t : goal.returns-then-place-t

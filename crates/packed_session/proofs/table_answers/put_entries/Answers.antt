@@ -9,7 +9,6 @@ use Rattle.basic_laws.specs.LaidLaws.{laid-length}
 use Rattle.text.proofs.PuttingLaws.{field_puts}
 use Rattle.packed_session.specs.TableAnswers.{entry_line, table_text}
 use Rattle.packed_session.specs.TableAnswersLaws.{line-length, text-length, text-turn, text-end}
-use borrow.Author.Rules.{rules}
 use Rattle.packed_session.proofs.table_answers.put_entries.Goals as goal
 
 pub loop-i-init : goal.loop-i-init

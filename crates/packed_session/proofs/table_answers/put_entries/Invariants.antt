@@ -1,15 +1,9 @@
 -- The loop's invariant: what is lent, with the lines that are left laid from `to` on, is what is promised.
-use Prim.Native.Nat.{◌+◌, ◌*◌, ◌≤◌, ◌-◌}
-use mathlib.Core.Path.{◌≡◌, ◌∙◌, sym, ap, refl}
-use native.Mathlib.Omega.{arith}
-use lib.ListN.{length, take, drop, length-drop}
-use Rattle.text.specs.Digits.{hex_of}
-use Rattle.text.specs.Lines.{line_feed}
+use Prim.Native.Nat.{◌*◌, ◌≤◌, ◌-◌}
+use mathlib.Core.Path.{◌≡◌}
+use lib.ListN.{length, drop}
 use Rattle.basic_laws.specs.Laid.{laid}
-use Rattle.basic_laws.specs.LaidLaws.{laid-length}
-use Rattle.text.proofs.PuttingLaws.{field_puts}
-use Rattle.packed_session.specs.TableAnswers.{entry_line, table_text}
-use Rattle.packed_session.specs.TableAnswersLaws.{line-length, text-length, text-turn, text-end}
+use Rattle.packed_session.specs.TableAnswers.{table_text}
 use Rattle.packed_session.proofs.table_answers.put_entries.Given as goal
 
 abbrev pub invariant-loop-i : goal.invariant-loop-i

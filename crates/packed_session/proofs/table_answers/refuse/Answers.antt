@@ -1,6 +1,5 @@
 -- Request by request, the line that its form has.
 use Rattle.packed_session.specs.TableAnswers.{refused_on_table}
-use borrow.Author.Rules.{rules}
 use Rattle.packed_session.proofs.table_answers.refuse.Goals as goal
 
 pub returns-in-Bad : goal.returns-in-Bad

@@ -8,7 +8,6 @@ use Rattle.bench_answers.specs.Whole.{room}
 use Rattle.packed_session.specs.declared.table_requests.TableRequest.{TableRequest}
 use Rattle.packed_session.specs.declared.table_requests.TableRequest.TheVariants.{Other}
 use Rattle.packed_session.specs.TableConsole.{table_asked, TableAfter}
-use borrow.Author.Rules.{rules}
 use Rattle.packed_session.proofs.table_console.answer.Goals as goal
 
 pub returns-then-out-lt-ROOM : goal.returns-then-out-lt-ROOM

@@ -9,7 +9,6 @@ use Rattle.packed_session.specs.TableAnswers.{refused_on_table}
 use Rattle.packed_session.specs.KeptLaws.{answered-keeps}
 use Rattle.packed_session.specs.OnBenchLaws.{refused-told, answered-told}
 use Rattle.packed_bench.specs.TableLaws.{packed-kept}
-use borrow.Author.Rules.{rules}
 use Rattle.packed_session.proofs.table_console.on_bench.Goals as goal
 
 pub returns-then-refusal-ne-ACCEPTED : goal.returns-then-refusal-ne-ACCEPTED

@@ -1,7 +1,6 @@
 -- Each request by its own call.
 use Rattle.packed_session.specs.TableConsole.{spoken_to}
 use Rattle.packed_session.specs.TellsLaws.{line-tells, dump-tells}
-use borrow.Author.Rules.{rules}
 use Rattle.packed_session.proofs.table_console.speak.Goals as goal
 
 pub returns-in-Poke : goal.returns-in-Poke

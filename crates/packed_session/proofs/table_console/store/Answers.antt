@@ -1,5 +1,4 @@
 -- The byte is stored, and what that came to is told.
-use borrow.Author.Rules.{rules}
 use Rattle.packed_session.proofs.table_console.store.Goals as goal
 
 pub returns : goal.returns

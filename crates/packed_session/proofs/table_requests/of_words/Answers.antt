@@ -1,7 +1,6 @@
 -- By the definition's own tests.
 use borrow.Author.Tests.{eq-eqb, ne_eqb}
 use Rattle.packed_session.specs.TableRequests.{of_table}
-use borrow.Author.Rules.{rules}
 use Rattle.packed_session.proofs.table_requests.of_words.Goals as goal
 
 pub returns-then-same : goal.returns-then-same

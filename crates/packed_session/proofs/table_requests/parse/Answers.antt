@@ -1,7 +1,6 @@
 -- By the definition's own test.
 use borrow.Author.Tests.{lt-leb, le-leb}
 use Rattle.packed_session.specs.TableRequests.{table_request_of}
-use borrow.Author.Rules.{rules}
 use Rattle.packed_session.proofs.table_requests.parse.Goals as goal
 
 pub returns-then-line-gt-LONGEST : goal.returns-then-line-gt-LONGEST

@@ -4,7 +4,6 @@ use Rattle.lines.specs.Fields.{byte_in}
 use Rattle.lines.specs.FieldsLaws.{byte-below}
 use Rattle.lines.specs.Words.{words_of, word_of}
 use Rattle.packed_session.specs.TableRequests.{place_in}
-use borrow.Author.Rules.{rules}
 use Rattle.packed_session.proofs.table_requests.poke.Goals as goal
 use Rattle.packed_session.proofs.table_requests.poke.Goals.{After-read_fixed-byte}
 

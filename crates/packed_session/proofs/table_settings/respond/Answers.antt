@@ -11,13 +11,12 @@ use Rattle.bench_answers.specs.Whole.{room}
 use Rattle.settings.specs.declared.Store.{Store}
 use Rattle.bench_requests.specs.declared.settings_requests.StoreRequest.{StoreRequest}
 use Rattle.bench_session.specs.StoreCalls.{store_says, called}
-use Rattle.bench_session.specs.StoreCallsLaws.{own-request, own-number}
+use Rattle.bench_session.specs.StoreCallsLaws.{own-request}
 use Rattle.bench_session.specs.declared.settings_calls.Called.{Called}
 use Rattle.bench_session.specs.SettingsConsole.{store_left}
 use Rattle.packed_session.specs.TableConsole.{spoken, speaks, Tells}
 use Rattle.packed_session.specs.TellsLaws.{line-tells}
 use Rattle.packed_session.specs.TableSettings.{written_on, spoken_of}
-use borrow.Author.Rules.{rules}
 use Rattle.packed_session.proofs.table_settings.respond.Goals as goal
 
 -- a call on the store, said with room for it

@@ -12,7 +12,6 @@ use Rattle.packed_session.specs.TableAnswers.{refused_on_table}
 use Rattle.packed_session.specs.OnBenchLaws.{refused-told, answered-told}
 use Rattle.packed_session.specs.TableSettingsLaws.{settings-keep}
 use Rattle.packed_bench.specs.TableLaws.{packed-kept}
-use borrow.Author.Rules.{rules}
 use Rattle.packed_session.proofs.table_settings.write.Goals as goal
 
 pub returns-then-refusal-ne-ACCEPTED : goal.returns-then-refusal-ne-ACCEPTED
