@@ -1,5 +1,5 @@
 -- The bytes that read slots show, as the loop over them makes them.
-use Rattle.std.specs.Prelude.{ℕ, suc, ◌+◌, ◌-◌, ◌<◌, zero, ◌*◌, ◌≡◌, refl, Bool, true, List, [], ◌∷◌, ◌++◌, length, set, replicate}
+use Rattle.std.specs.Prelude.{ℕ, suc, ◌+◌, ◌<◌, zero, ◌*◌, ◌≡◌, refl, Bool, true, List, [], ◌∷◌, ◌++◌, length, set, replicate}
 use Rattle.std.proofs.Common.{ap, ◌∙◌, sym, arith, add-one}
 use Rattle.search_laws.specs.Wire.{slots}
 use Rattle.bench.specs.declared.Bench.{Bench}

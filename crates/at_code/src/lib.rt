@@ -1,4 +1,6 @@
 // Reading and writing at a code.
+#![tactic(auto)]
+
 ghost use Rattle.std.specs.Prelude.{◌≡◌};
 ghost use Rattle.master_rules.specs.Wire.{sent};
 ghost use Rattle.master_rules.specs.Access.{refused_at, addressed, fetched, read_back, admission, read_at, settings_sent};

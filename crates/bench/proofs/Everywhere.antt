@@ -1,20 +1,16 @@
 -- What no slot, reset, power cycle or finish takes from a device holds of each device of a bench after every call, if
 -- it held before: laws `..-each`.
 --     Invariant P      nothing that can happen to a device takes P from it
-use Rattle.std.specs.Prelude.{ℕ, ◌≡◌, Bool, true, get_or}
+use Rattle.std.specs.Prelude.{ℕ, Bool, get_or}
 use Rattle.basic_laws.specs.Each.{Each}
 use Rattle.basic_laws.specs.EachLaws.{each-mapped, each_set, each_at}
-use Rattle.temperature.specs.Range.{in_range}
-use Rattle.temperature.specs.declared.Reading.TheVariants.{InSixteenths}
 use Rattle.temperature.specs.declared.Sixteenths.{Sixteenths}
 use Rattle.device.specs.Finish.{conversion_done, copy_done}
 use Rattle.device.specs.Hear.{hear_of}
 use Rattle.device.specs.Power.{reset_of, power_up}
 use Rattle.device.specs.Sound.{Sound}
 use Rattle.device.proofs.SoundLaws.{reset-sound, hear-sound, power-up-sound, conversion-sound, copy-sound}
-use Rattle.device.specs.declared.Activity.TheVariants.{Copying}
 use Rattle.device.specs.declared.Device.{Device}
-use Rattle.device.specs.declared.Settings.{Settings}
 use Rattle.bench.specs.declared.Bench.{Bench}
 use Rattle.bench.specs.Bench.{live, vacant}
 use Rattle.bench.specs.Slot.{heard, restarted}

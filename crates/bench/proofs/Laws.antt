@@ -7,7 +7,7 @@
 --     OneChanged b code f after    the device with the code, and it alone, has become f of what it was
 --     ..-refused                   a refused call changes nothing
 --     place_found, place-nowhere   the place of a code is where a device has it; nowhere if none has
-use Rattle.std.specs.Prelude.{ℕ, ◌+◌, ◌<◌, ◌≡◌, ◌≢◌, Bool, true, false, not, ◌&&◌, [], ◌∷◌, ◌++◌, map, eqb, ltb, length, get_or, set, drop}
+use Rattle.std.specs.Prelude.{ℕ, ◌+◌, ◌<◌, ◌≡◌, ◌≢◌, Bool, true, false, not, ◌&&◌, map, eqb, ltb, length, get_or, set, drop}
 use Rattle.std.proofs.Math.Path.{refl}
 use Rattle.std.proofs.Common.{ap, ◌∙◌, arith, add-one, eqb-true, ltb-true, ne_eqb, length-set, length-take, take-suc-set, drop-set-lt, get_or-take}
 use Rattle.std.proofs.lemmas.Bool.{eqb-false}

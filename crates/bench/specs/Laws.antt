@@ -7,43 +7,15 @@
 --     OneChanged b code f after    the device with the code, and it alone, has become f of what it was
 --     ..-refused                   a refused call changes nothing
 --     place_found, place-nowhere   the place of a code is where a device has it; nowhere if none has
-use Rattle.std.specs.Prelude.{ℕ, ◌+◌, ◌<◌, ◌≡◌, ◌≢◌, Bool, true, false, not, ◌&&◌, [], ◌∷◌, ◌++◌, map, eqb, ltb, length, get_or, set, drop}
-use Rattle.std.proofs.Math.Path.{refl}
-use Rattle.std.proofs.Common.{ap, ◌∙◌, arith, add-one, eqb-true, ltb-true, ne_eqb, length-set, length-take, take-suc-set, drop-set-lt, get_or-take}
-use Rattle.std.proofs.lemmas.Bool.{eqb-false}
-use Rattle.std.proofs.Math.Seq.{take-set-lt}
-use Rattle.basic_laws.specs.Choice.{if◌then◌else◌}
-use Rattle.basic_laws.specs.FirstLaws.{first-cases}
-use Rattle.basic_laws.specs.Fold.{all}
-use Rattle.basic_laws.specs.FrontLaws.{front-taken, front_length, front-dropped}
+use Rattle.std.specs.Prelude.{◌+◌, ◌<◌, ◌≡◌, ◌≢◌, true, false, [], ◌∷◌, ◌++◌, length, drop}
 use Rattle.basic_laws.specs.Each.{Each}
-use Rattle.basic_laws.specs.EachLaws.{each-implies}
-use Rattle.refusals.specs.Refusals.{accepted, wire_busy, duplicate, bench_full, not_found, wrong_pins}
 use Rattle.family.specs.Families.{pins_wrong}
-use Rattle.rom.specs.Code.{code_refusal, sound}
-use Rattle.temperature.specs.Range.{in_range}
-use Rattle.temperature.specs.declared.Reading.TheVariants.{InSixteenths}
-use Rattle.temperature.specs.declared.Sixteenths.{Sixteenths}
-use Rattle.device.specs.Finish.{conversion_done, copy_done, not_ended}
-use Rattle.device.specs.Hear.{hear_of}
-use Rattle.device.specs.Offer.{offer_of}
-use Rattle.device.specs.Power.{reset_of, power_up, joined}
-use Rattle.device.specs.declared.Activity.TheVariants.{Copying}
-use Rattle.device.specs.declared.Device.{Device}
+use Rattle.rom.specs.Code.{sound}
+use Rattle.device.specs.Power.{joined}
 use Rattle.device.specs.declared.Joining.{Joining}
-use Rattle.device.specs.declared.Settings.{Settings}
 use Rattle.bench.specs.declared.Bench.{Bench}
-use Rattle.bench.specs.declared.Changed.{Changed}
-use Rattle.bench.specs.declared.Place.{Place}
-use Rattle.bench.specs.declared.Place.TheVariants.{At, Nowhere}
-use Rattle.bench.specs.declared.ResetDone.{ResetDone}
-use Rattle.bench.specs.declared.Slotted.{Slotted}
-use Rattle.device.specs.Record.{family_row, holds_wire}
-use Rattle.bench.specs.Bench.{live, vacant, place_of, free}
-use Rattle.bench.specs.Slot.{line_bit, heard, slotted, presence_of, restarted, reset_done}
-use Rattle.bench.specs.Calls.{changed, refused, with_new, put_last, is_there, added_to, device_at, with_device, put_back}
-use Rattle.bench.specs.Calls.{conversion_finished_at, conversion_finished, copy_finished_at, copy_finished}
-use Rattle.bench.specs.Calls.{power_cycled_at, power_cycled}
+use Rattle.device.specs.Record.{family_row}
+use Rattle.bench.specs.Bench.{live}
 
 -- ## Adding
 

@@ -7,7 +7,7 @@
 use Rattle.std.specs.Prelude.{ℕ, ◌-◌, Bool, true, not, ◌&&◌, List, [], ◌∷◌, ◌++◌, eqb, leb, length, take, replicate}
 use Rattle.basic_laws.specs.Choice.{if◌then◌else◌}
 use Rattle.basic_laws.specs.Fold.{all}
-use Rattle.refusals.specs.Refusals.{accepted, not_atable}
+use Rattle.refusals.specs.Refusals.{accepted, not_a_table}
 use Rattle.rom.specs.Code.{sound}
 use Rattle.device.specs.declared.Device.{Device}
 use Rattle.bench.specs.Bench.{vacant, empty_bench}
@@ -30,4 +30,4 @@ fits_bench ds n = leb n 32 && codes_fit (take n ds)
 abbrev pub made_of : List Device → ℕ → Made
 made_of ds n =
     if fits_bench ds n then record { refusal = accepted; bench = bench_of (take n ds) }
-    else record { refusal = not_atable; bench = empty_bench }
+    else record { refusal = not_a_table; bench = empty_bench }

@@ -8,7 +8,7 @@ use Rattle.std.proofs.Math.Bool.{and-false}
 use Rattle.std.proofs.Math.Numerals.{add-one}
 use Rattle.std.proofs.lemmas.Bool.{lt-leb}
 use Rattle.basic_laws.specs.Places.{drop-replicate}
-use Rattle.refusals.specs.Refusals.{accepted, not_atable}
+use Rattle.refusals.specs.Refusals.{accepted, not_a_table}
 use Rattle.rom.specs.Code.{sound}
 use Rattle.device.specs.declared.Device.{Device}
 use Rattle.bench.specs.Bench.{vacant, empty_bench}
@@ -53,7 +53,7 @@ over-more ds places i z h k = rw (add-one i) (over-suc ds places i z h k)
 -- ## The ends of making a bench
 
 abbrev not_made : Made
-not_made = record { refusal = not_atable; bench = empty_bench }
+not_made = record { refusal = not_a_table; bench = empty_bench }
 
 module _ (ds : List Device) (n : ℕ) where
   pub made-many : 32 < n → not_made ≡ made_of ds n

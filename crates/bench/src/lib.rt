@@ -1,11 +1,13 @@
 // A bench of up to 32 thermometers on one wire. The bench goes in by value and comes back in the
 // answer; its fields are private, so that only these calls make or change one. `of_records` makes one of
 // records that were kept elsewhere, where a table can hold them.
+#![tactic(auto)]
+
 pub mod settling;
 pub mod wire;
 
 ghost use Rattle.std.specs.Prelude.{◌<◌, ◌≤◌, ◌&&◌, ◌++◌, ◌≡◌, take, drop};
-ghost use Rattle.refusals.specs.Refusals.{not_atable};
+ghost use Rattle.refusals.specs.Refusals.{not_a_table};
 ghost use Rattle.device.specs.Offer.{offer_of};
 ghost use Rattle.bench.specs.Bench.{vacant, empty_bench, place_of, free};
 ghost use Rattle.bench.specs.Slot.{slotted, reset_done};
@@ -404,7 +406,7 @@ fn over(places: Devices, devices: Devices, count: usize) -> Devices
 }
 
 fn no_bench() -> Made
-    ensures answer { result ≡ record { refusal = not_atable; bench = empty_bench } }
+    ensures answer { result ≡ record { refusal = not_a_table; bench = empty_bench } }
 {
     Made {
         refusal: refusals::NOT_A_TABLE,

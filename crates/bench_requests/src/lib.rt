@@ -1,4 +1,6 @@
 // The lines of the bench console, read as requests.
+#![tactic(auto)]
+
 pub mod settings_requests;
 
 ghost use Rattle.std.specs.Prelude.{◌≡◌};

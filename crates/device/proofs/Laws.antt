@@ -21,7 +21,6 @@ use Rattle.device.specs.declared.Activity.TheVariants.{Idle, Converting, Copying
 use Rattle.device.specs.declared.Device.{Device}
 use Rattle.device.specs.declared.Ended.{Ended}
 use Rattle.device.specs.declared.Joining.{Joining}
-use Rattle.device.specs.declared.Power.{Power}
 use Rattle.device.specs.declared.Settings.{Settings}
 use Rattle.device.specs.declared.Stage.{Stage}
 use Rattle.device.specs.declared.Stage.TheVariants.{AwaitRom, SendRom, Match, Search, AwaitFunction}
@@ -29,7 +28,7 @@ use Rattle.device.specs.declared.Stage.TheVariants.{TakeSettings, SendScratchpad
 use Rattle.device.specs.Record.{with_stage, with_activity, with_scratchpad, with_eeprom, busy}
 use Rattle.device.specs.Offer.{offer_of}
 use Rattle.device.specs.Hear.{hear_rom, hear_at, hear_of}
-use Rattle.device.specs.Power.{empty_page, power_up, joined}
+use Rattle.device.specs.Power.{power_up, joined}
 use Rattle.device.specs.Finish.{conversion_done, copy_done, ended, not_ended, conversion_ended_in, conversion_ended}
 use Rattle.device.specs.Finish.{copy_ended_in, copy_ended}
 use Rattle.device.proofs.Outcomes.{hear-outcome}

@@ -4,7 +4,7 @@
 --     hear-outcome         then it holds of the device that it does become
 -- A slot moves the stage, and no more; or it ends a function command, which a device that is not busy obeys; or it ends
 -- a byte of 4Eh.
-use Rattle.std.specs.Prelude.{ℕ, ◌+◌, ◌<◌, ◌≡◌, Bool, eqb, set}
+use Rattle.std.specs.Prelude.{ℕ, ◌+◌, ◌≡◌, Bool, eqb, set}
 use Rattle.std.proofs.Math.Path.{refl}
 use Rattle.std.proofs.Math.Bool.{true, false}
 use Rattle.std.proofs.Common.{ltb-true}

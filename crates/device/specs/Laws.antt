@@ -7,31 +7,14 @@
 --     quiet-..                  a quiet device stays as it is and leaves the line alone
 --     Fresh code power d        d as power finds it: laws `power-up-fresh` and `joined-fresh`
 --     conversion-.., copy-..    what these keep, and what the attempt to end them comes to
-use Rattle.std.specs.Prelude.{ℕ, ◌≡◌, refl, ◌≢◌, Bool, true, false, List}
-use Rattle.std.proofs.Common.{sym, ◌∙◌, arith}
-use Rattle.std.proofs.lemmas.Bool.{false≢true}
-use Rattle.basic_laws.specs.Choice.{if◌then◌else◌}
-use Rattle.refusals.specs.Refusals.{accepted, out_of_range, mismatch}
-use Rattle.temperature.specs.Range.{in_range}
-use Rattle.temperature.specs.declared.Reading.TheVariants.{InSixteenths}
-use Rattle.commands.specs.BytesLaws.{shifted-cases}
-use Rattle.temperature.specs.declared.Sixteenths.{Sixteenths}
-use Rattle.device.specs.declared.Activity.{Activity}
-use Rattle.device.specs.declared.Activity.TheVariants.{Idle, Converting, Copying}
+use Rattle.std.specs.Prelude.{ℕ, ◌≡◌, Bool, true, false}
+use Rattle.device.specs.declared.Activity.TheVariants.{Idle}
 use Rattle.device.specs.declared.Device.{Device}
-use Rattle.device.specs.declared.Ended.{Ended}
-use Rattle.device.specs.declared.Joining.{Joining}
 use Rattle.device.specs.declared.Power.{Power}
-use Rattle.device.specs.declared.Settings.{Settings}
 use Rattle.device.specs.declared.Stage.{Stage}
 use Rattle.device.specs.declared.Stage.TheVariants.{AwaitRom, SendRom, Match, Search, AwaitFunction}
 use Rattle.device.specs.declared.Stage.TheVariants.{TakeSettings, SendScratchpad, SendStatus, SendPower, Quiet}
-use Rattle.device.specs.Record.{with_stage, with_activity, with_scratchpad, with_eeprom, busy}
-use Rattle.device.specs.Offer.{offer_of}
-use Rattle.device.specs.Hear.{hear_rom, hear_at, hear_of}
-use Rattle.device.specs.Power.{empty_page, power_up, joined}
-use Rattle.device.specs.Finish.{conversion_done, copy_done, ended, not_ended, conversion_ended_in, conversion_ended}
-use Rattle.device.specs.Finish.{copy_ended_in, copy_ended}
+use Rattle.device.specs.Power.{empty_page}
 
 -- A device that a slot has made busy stood at the last bit of a function command.
 pub record AtLastBit (d : Device) : Type 0 where

@@ -4,25 +4,18 @@
 --     hear-outcome         then it holds of the device that it does become
 -- A slot moves the stage, and no more; or it ends a function command, which a device that is not busy obeys; or it ends
 -- a byte of 4Eh.
-use Rattle.std.specs.Prelude.{ℕ, ◌+◌, ◌<◌, ◌≡◌, Bool, eqb, set}
-use Rattle.std.proofs.Math.Path.{refl}
-use Rattle.std.proofs.Math.Bool.{true, false}
-use Rattle.std.proofs.Common.{ltb-true}
-use Rattle.std.proofs.Math.Dec.{ltb}
-use Rattle.basic_laws.specs.Choice.{if◌then◌else◌}
+use Rattle.std.specs.Prelude.{ℕ, ◌+◌, ◌<◌, ◌≡◌, Bool, set}
+use Rattle.std.proofs.Math.Bool.{false}
 use Rattle.commands.specs.Bytes.{shift_in}
-use Rattle.commands.specs.BytesLaws.{shifted-cases}
-use Rattle.commands.specs.Commands.{convert, write_scratchpad, read_scratchpad, copy_scratchpad, recall_eeprom, read_power}
 use Rattle.family.specs.Layout.{high_limit_place}
 use Rattle.device.specs.declared.Activity.TheVariants.{Converting}
 use Rattle.device.specs.declared.Device.{Device}
 use Rattle.device.specs.declared.Stage.{Stage}
-use Rattle.device.specs.declared.Stage.TheVariants.{AwaitRom, SendRom, Match, Search, AwaitFunction}
-use Rattle.device.specs.declared.Stage.TheVariants.{TakeSettings, SendScratchpad, SendStatus, SendPower, Quiet}
+use Rattle.device.specs.declared.Stage.TheVariants.{AwaitFunction}
+use Rattle.device.specs.declared.Stage.TheVariants.{TakeSettings, SendStatus, Quiet}
 use Rattle.device.specs.Record.{with_stage, with_activity, with_scratchpad, row_of, busy}
 use Rattle.device.specs.Settings.{settings_count, setting_byte}
-use Rattle.device.specs.Hear.{copying, recalled, hear_rom, idle_command, function_command, hear_function}
-use Rattle.device.specs.Hear.{store_setting, hear_settings, hear_at, hear_of}
+use Rattle.device.specs.Hear.{copying, recalled}
 
 pub record Outcomes (d : Device) (l : Bool) (P : Device → Type 0) : Type 0 where
   -- only the stage

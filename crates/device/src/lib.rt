@@ -1,4 +1,6 @@
 // One thermometer: its record, the record with one part replaced, and the settings that it keeps.
+#![tactic(auto)]
+
 pub mod cell;
 pub mod function_commands;
 pub mod hearing;

@@ -1,4 +1,6 @@
 // Frames: what the wire showed after one reset.
+#![tactic(auto)]
+
 pub mod frame_lines;
 pub mod recording;
 

@@ -23,7 +23,7 @@ use Rattle.bench.specs.Calls.{refused}
 use Rattle.bench.proofs.Laws.{heard-live, restarted-live, slot_cases, reset-cases, added-cases, OneChanged}
 use Rattle.bench.proofs.Laws.{conversion-cases, copy-cases, cycle-cases}
 use Rattle.bench.specs.Slot.{line_bit, slotted, reset_done}
-use Rattle.bench.specs.Sound.{codes_of, BenchSound}
+use Rattle.bench.specs.Sound.{codes_of}
 use Rattle.bench.proofs.SoundLaws.{heard-codes, restarted-codes, added-codes, one-changed-codes, empty-sound}
 use Rattle.bench.proofs.SoundLaws.{slotted-sound, reset-done-sound, added-sound, conversion-finished-sound}
 use Rattle.bench.proofs.SoundLaws.{copy-finished-sound, power-cycled-sound}

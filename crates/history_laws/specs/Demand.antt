@@ -20,7 +20,7 @@ use Rattle.basic_laws.specs.Bits.{bits_of}
 use Rattle.commands.specs.Commands.{search_rom, alarm_search}
 use Rattle.refusals.specs.Refusals.{accepted}
 use Rattle.search_laws.specs.Numbers.{Sooner}
-use Rattle.search_laws.specs.Wire.{pass_offers, slots}
+use Rattle.search_laws.specs.Wire.{pass_offers}
 use Rattle.rom.specs.Code.{code_bits}
 use Rattle.device.specs.declared.Settings.{Settings}
 use Rattle.bench.specs.Bench.{live, free}

@@ -25,7 +25,7 @@ use Rattle.basic_laws.specs.Bits.{bits_of}
 use Rattle.search_laws.specs.Codes.{Code, nobody}
 use Rattle.basic_laws.specs.Each.{Each, Distinct, those}
 use Rattle.search_laws.specs.Listing.{in_order}
-use Rattle.search_laws.specs.Wire.{Search, searched, pass_offers, slots, wire_search}
+use Rattle.search_laws.specs.Wire.{searched, pass_offers, slots, wire_search}
 use Rattle.search_laws.specs.Searchers.{Carries, Searchers, participants}
 use Rattle.search_laws.specs.Complete.{Complete, swept_passes}
 use Rattle.search_laws.proofs.CompleteLaws.{search_is, search-nobody}

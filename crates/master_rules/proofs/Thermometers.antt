@@ -11,22 +11,18 @@ use Rattle.std.specs.Bool.{beq}
 use Rattle.basic_laws.specs.Choice.{if◌then◌else◌}
 use Rattle.basic_laws.specs.Bits.{bit_at, bits_of}
 use Rattle.basic_laws.specs.BitsLaws.{bits_at}
-use Rattle.commands.specs.Commands.{search_rom, alarm_search}
-use Rattle.search_laws.specs.Codes.{Code}
-use Rattle.search_laws.specs.Searchers.{Model, Takes, Searchers, participants}
+use Rattle.search_laws.specs.Searchers.{Takes, Searchers, participants}
 use Rattle.basic_laws.specs.EachLaws.{those-all}
 use Rattle.search_laws.specs.SearchersLaws.{participants-those}
 use Rattle.basic_laws.specs.Each.{those}
 use Rattle.search_laws.specs.Keeps.{Keeps}
-use Rattle.device.specs.Hear.{await_function, after_bit, hear_of}
+use Rattle.device.specs.Hear.{after_bit, hear_of}
 use Rattle.device.specs.Laws.{only_moves}
 use Rattle.device.proofs.Laws.{hear-code, hear-alarm, hear-only-stage, quiet-stays, quiet-offers}
 use Rattle.device.specs.Offer.{offer_of}
 use Rattle.device.specs.Power.{reset_of}
-use Rattle.device.specs.Record.{with_stage}
 use Rattle.device.specs.declared.Device.{Device}
 use Rattle.device.specs.declared.Phase.TheVariants.{SendBit, SendComplement, TakeBit}
-use Rattle.device.specs.declared.Stage.{Stage}
 use Rattle.device.specs.declared.Stage.TheVariants.{Search, Quiet}
 use Rattle.master_rules.specs.Course.{Course}
 use Rattle.master_rules.specs.Thermometers.{Moving, alarm_bits, code_of, comes_to, numbers_of, search_bits, thermometers, unstaged}

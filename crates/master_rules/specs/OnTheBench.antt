@@ -16,32 +16,13 @@
 --     ..-keeps                               no device changes but for its stage
 --     ..-free, ..-codes, ..-sound            whether the wire is free, who takes part and what holds of every bench: as
 --                                            before
-use Rattle.std.specs.Prelude.{ℕ, suc, ◌^◌, ◌<◌, ◌≤◌, ◌≡◌, refl, ◌≢◌, Bool, true, false, not, List, [], ◌∷◌, ◌++◌, map, length}
-use Rattle.std.proofs.Common.{sym, ap, ◌∙◌, arith, lit<}
-use Rattle.std.proofs.lemmas.List.{length-map}
-use Rattle.basic_laws.specs.Choice.{if◌then◌else◌}
-use Rattle.basic_laws.specs.Fold.{all}
-use Rattle.basic_laws.specs.Bits.{bits_of}
-use Rattle.search_laws.specs.Codes.{Code, nobody}
-use Rattle.basic_laws.specs.Each.{Each, Distinct, those}
-use Rattle.search_laws.specs.Listing.{in_order}
-use Rattle.search_laws.specs.Wire.{Search, searched, pass_offers, slots, wire_search}
-use Rattle.search_laws.specs.Searchers.{Carries, Searchers, participants}
-use Rattle.search_laws.specs.Complete.{Complete, swept_passes}
-use Rattle.search_laws.specs.Numbers.{Below, Numbered}
-use Rattle.search_laws.specs.Keeps.{Keeps, search-keeps as keeps-search}
-use Rattle.search_laws.specs.Holds.{search-holds}
-use Rattle.device.specs.Hear.{hear_of}
-use Rattle.device.specs.Power.{reset_of}
-use Rattle.device.specs.declared.Device.{Device}
-use Rattle.device.specs.Record.{holds_wire}
+use Rattle.std.specs.Prelude.{ℕ, ◌≡◌, true, List}
+use Rattle.basic_laws.specs.Each.{those}
+use Rattle.search_laws.specs.Wire.{Search, wire_search}
 use Rattle.bench.specs.Bench.{live, free}
-use Rattle.bench.specs.Slot.{line_bit, heard, slotted, restarted, reset_done}
-use Rattle.bench.specs.Sound.{codes_of, BenchSound}
 use Rattle.bench.specs.declared.Bench.{Bench}
-use Rattle.master_rules.specs.Course.{Course, search-same, Runs, pass-runs, unheard-runs}
 use Rattle.master_rules.specs.Thermometers.{search_bits, alarm_bits, numbers_of}
-use Rattle.master_rules.specs.Buses.{slot_rule, calls}
+use Rattle.master_rules.specs.Buses.{slot_rule}
 
 -- the searches, of at most `fuel` passes
 abbrev pub search_on : ℕ → Bench → Search Bench

@@ -5,29 +5,21 @@
 --     search_bits, alarm_bits  the command as the line shows it
 --     everybody, flagged     the laws for either command
 --     unstaged d             the device without its stage: code, power, activity, stored bytes, flag and page
-use Rattle.std.specs.Prelude.{ℕ, suc, ◌<◌, ◌≡◌, refl, Bool, true, false, not, cond, List, [], ◌∷◌, map, ltb, get_or}
-use Rattle.std.proofs.Common.{ap, ◌∙◌, arith, add-one, lt-ltb, ltb-false, ltb-true}
-use Rattle.std.specs.Bool.{beq}
+use Rattle.std.specs.Prelude.{ℕ, ◌≡◌, Bool, true, List, map, ltb}
 use Rattle.basic_laws.specs.Choice.{if◌then◌else◌}
-use Rattle.basic_laws.specs.Bits.{bit_at, bits_of}
-use Rattle.basic_laws.specs.BitsLaws.{bits_at}
+use Rattle.basic_laws.specs.Bits.{bits_of}
 use Rattle.commands.specs.Commands.{search_rom, alarm_search}
 use Rattle.search_laws.specs.Codes.{Code}
-use Rattle.search_laws.specs.Searchers.{Model, Takes, Searchers, participants}
-use Rattle.basic_laws.specs.EachLaws.{those-all}
-use Rattle.search_laws.specs.SearchersLaws.{participants-those}
-use Rattle.basic_laws.specs.Each.{those}
-use Rattle.search_laws.specs.Keeps.{Keeps}
-use Rattle.device.specs.Hear.{await_function, after_bit, hear_of}
+use Rattle.search_laws.specs.Searchers.{Model}
+use Rattle.device.specs.Hear.{await_function, hear_of}
 use Rattle.device.specs.Laws.{only_moves}
 use Rattle.device.specs.Offer.{offer_of}
 use Rattle.device.specs.Power.{reset_of}
 use Rattle.device.specs.Record.{with_stage}
 use Rattle.device.specs.declared.Device.{Device}
-use Rattle.device.specs.declared.Phase.TheVariants.{SendBit, SendComplement, TakeBit}
+use Rattle.device.specs.declared.Phase.TheVariants.{SendBit}
 use Rattle.device.specs.declared.Stage.{Stage}
 use Rattle.device.specs.declared.Stage.TheVariants.{Search, Quiet}
-use Rattle.master_rules.specs.Course.{Course}
 
 abbrev pub thermometers : Model
 thermometers = record { Dev = Device; offer = offer_of; hear = λ x d. hear_of d x; restart = reset_of }

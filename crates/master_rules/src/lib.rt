@@ -1,4 +1,6 @@
 // What the master's calls answer. The rules that the answers follow are in specs/.
+#![tactic(auto)]
+
 use bench::Bench;
 use scratchpad::fine::FineDegrees;
 use temperature::Reading;

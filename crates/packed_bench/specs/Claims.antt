@@ -4,7 +4,7 @@
 --                    unpacks, or it is refused, with 22 only where no table holds it, and the bytes stay
 use Rattle.std.specs.Prelude.{ℕ, ◌<◌, ◌≤◌, List, ◌≡◌, length, get_or, take}
 use Rattle.basic_laws.specs.Each.{Each}
-use Rattle.refusals.specs.Refusals.{accepted, not_atable}
+use Rattle.refusals.specs.Refusals.{accepted, not_a_table}
 use Rattle.packed_bench.specs.Types.{InTypes}
 use Rattle.bench.specs.Bench.{live}
 use Rattle.bench.specs.declared.Bench.{Bench}
@@ -25,6 +25,6 @@ pub record TableClaim : Type 0 where
   pub packs : (b : Bench) (t : List ℕ) → Each InTypes (live b) → pack_refusal t b ≡ accepted
       → unpacked (packed_into t b) ≡ held (bench_of (live b))
   pub refuses : (b : Bench) (t : List ℕ) → (pack_refusal t b ≡ accepted → ⊥) → packed_into t b ≡ t
-  pub no_other : (b : Bench) (t : List ℕ) → pack_refusal t b ≡ not_atable → Tabled b → ⊥
-  pub of_none : (t : List ℕ) → (unpacked t).refusal ≡ not_atable → (b : Bench) → Records b
+  pub no_other : (b : Bench) (t : List ℕ) → pack_refusal t b ≡ not_a_table → Tabled b → ⊥
+  pub of_none : (t : List ℕ) → (unpacked t).refusal ≡ not_a_table → (b : Bench) → Records b
       → table_of 32 (live b) ≡ take table_bytes t → ⊥

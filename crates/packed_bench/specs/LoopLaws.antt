@@ -3,7 +3,7 @@
 --     entry-there, entry-none        the entry of one place
 --     table-turn, table-end          writing, entry by entry
 --     read-turn, read-stop, read-end reading, entry by entry
-use Prim.Native.Nat.{ℕ, zero, suc, ◌+◌, ◌*◌, ◌-◌, ◌<◌, ◌≤◌}
+use Prim.Native.Nat.{ℕ, suc, ◌+◌, ◌*◌, ◌-◌, ◌<◌, ◌≤◌}
 use Rattle.std.specs.Prelude.{◌≡◌, refl, List, [], ◌∷◌, ◌++◌, get_or, set, take, drop, replicate}
 use Rattle.std.proofs.Common.{sym, append_assoc, append-nil, length-take, drop_of_length-le, take-suc, drop-cons, get_or-take}
 use native.Mathlib.Omega.{arith}
@@ -11,7 +11,6 @@ use Rattle.std.proofs.Math.Numerals.{add-one}
 use borrow.Author.Tests.{eq-eqb, ne_eqb}
 use Rattle.std.proofs.Math.ListN.{length}
 use Rattle.std.proofs.Math.Seq.{take-suc-set, drop-drop}
-use Rattle.basic_laws.specs.Each.{Each}
 use Rattle.basic_laws.specs.Laid.{laid}
 use Rattle.basic_laws.specs.LaidLaws.{laid_none, laid_then}
 use Rattle.device.specs.declared.Device.{Device}

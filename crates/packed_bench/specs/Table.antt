@@ -14,7 +14,7 @@ use Rattle.std.specs.Prelude.{ℕ, zero, suc, Bool, ◌&&◌, List, [], ◌∷�
 use Rattle.basic_laws.specs.Choice.{if◌then◌else◌}
 use Rattle.basic_laws.specs.Laid.{laid}
 use Rattle.basic_laws.specs.Same.{same}
-use Rattle.refusals.specs.Refusals.{accepted, no_room, not_atable}
+use Rattle.refusals.specs.Refusals.{accepted, no_room, not_a_table}
 use Rattle.device.specs.declared.Device.{Device}
 use Rattle.packed_bench.specs.Packed.{packed_device, fields_of}
 use Rattle.bench.specs.Bench.{live, empty_bench}
@@ -73,7 +73,7 @@ unfoldable pub unpacked : List ℕ → Unpacked
 unpacked t =
     if ltb (length t) table_bytes then not_unpacked no_room
     else if is_table t then held (bench_of (devices_in 32 t))
-    else not_unpacked not_atable
+    else not_unpacked not_a_table
 
 abbrev pub pack_refusal : List ℕ → Bench → ℕ
 pack_refusal t b = if ltb (length t) table_bytes then no_room else (made_of b.devices b.count).refusal

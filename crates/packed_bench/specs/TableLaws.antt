@@ -25,7 +25,7 @@ use Rattle.basic_laws.specs.Same.{same}
 use Rattle.basic_laws.specs.SameLaws.{same-equal, same-itself}
 use Rattle.basic_laws.specs.Bits.{bits_of}
 use Rattle.crc.specs.Crc.{crc_bits}
-use Rattle.refusals.specs.Refusals.{accepted, no_room, wrong_kind, not_atable}
+use Rattle.refusals.specs.Refusals.{accepted, no_room, wrong_kind, not_a_table}
 use Rattle.rom.specs.Code.{code_refusal, sound}
 use Rattle.device.specs.declared.Device.{Device}
 use Rattle.packed_bench.specs.Bytes.{code_from_bytes}
@@ -199,7 +199,7 @@ made_told b = by-test (fits_bench b.devices b.count) refl
   where
     by-test : (u : Bool) → fits_bench b.devices b.count ≡ u
         → (let m : Made = if u then record { refusal = accepted; bench = bench_of (live b) }
-        else record { refusal = not_atable; bench = empty_bench } in
+        else record { refusal = not_a_table; bench = empty_bench } in
         m.refusal ≡ accepted)
         → (b.count ≤ 32) × (codes_fit (live b) ≡ true)
     by-test true e h = (
@@ -258,19 +258,19 @@ packed-kept b t t' n is back long tabled = back (is ∙ (packed-laid b t tabled 
 -- what is accepted was long enough and is a table
 module _ (t : List ℕ) (P : Unpacked → Type 0) where
   pub unpacked-cases : (length t < table_bytes → P (not_unpacked no_room))
-      → (table_bytes ≤ length t → is_table t ≡ false → P (not_unpacked not_atable))
+      → (table_bytes ≤ length t → is_table t ≡ false → P (not_unpacked not_a_table))
       → (table_bytes ≤ length t → is_table t ≡ true → P (held (bench_of (devices_in 32 t)))) → P (unpacked t)
   unfolding unpacked
   unpacked-cases short other taken = by-room (ltb (length t) table_bytes) refl
     where
       by-test : (u : Bool) → is_table t ≡ u → table_bytes ≤ length t
-          → P (if u then held (bench_of (devices_in 32 t)) else not_unpacked not_atable)
+          → P (if u then held (bench_of (devices_in 32 t)) else not_unpacked not_a_table)
       by-test true e h = taken h e
       by-test false e h = other h e
 
       by-room : (u : Bool) → ltb (length t) table_bytes ≡ u
           → P (if u then not_unpacked no_room else if is_table t then held (bench_of (devices_in 32 t))
-          else not_unpacked not_atable)
+          else not_unpacked not_a_table)
       by-room true e = short (ltb-true (length t) table_bytes e)
       by-room false e = by-test (is_table t) refl (ltb-false (length t) table_bytes e)
 
@@ -300,9 +300,9 @@ unpacked-tabled t = unpacked-cases t (λ u. u.refusal ≡ accepted → Tabled u.
     (λ h y e. table-tabled t y)
 
 -- bytes that are refused with 22 are those of no records
-pub refused_none : (t : List ℕ) → (unpacked t).refusal ≡ not_atable
+pub refused_none : (t : List ℕ) → (unpacked t).refusal ≡ not_a_table
     → (ds : List Device) → length ds ≤ 32 → Each InTypes ds → TableFits ds → table_of 32 ds ≡ take table_bytes t → ⊥
-refused_none t = unpacked-cases t (λ u. u.refusal ≡ not_atable → (ds : List Device) → length ds ≤ 32 → Each InTypes ds
+refused_none t = unpacked-cases t (λ u. u.refusal ≡ not_a_table → (ds : List Device) → length ds ≤ 32 → Each InTypes ds
     → TableFits ds → table_of 32 ds ≡ take table_bytes t → ⊥)
     (λ h e ds few typed fits is. omega arith)
     (λ h n e ds few typed fits is.
@@ -341,7 +341,7 @@ unfolding unpacked
 unpack-short t h = rw (lt-ltb (length t) table_bytes h)
 
 module _ (t : List ℕ) (long : table_bytes ≤ length t) (ds : List Device) (n : ℕ) (are : take n ds ≡ devices_in 32 t) where
-  pub unpack-other : same (table_of 32 (take n ds)) (take table_bytes t) ≡ false → not_unpacked not_atable ≡ unpacked t
+  pub unpack-other : same (table_of 32 (take n ds)) (take table_bytes t) ≡ false → not_unpacked not_a_table ≡ unpacked t
   unfolding unpacked
   unpack-other e = rw (le-ltb (length t) table_bytes long, ← are, e)
 
@@ -353,9 +353,9 @@ module _ (t : List ℕ) (long : table_bytes ≤ length t) (ds : List Device) (n 
     where
       by-test : (u : Bool)
           → (let k : Made = if u then record { refusal = accepted; bench = bench_of (take n ds) }
-          else record { refusal = not_atable; bench = empty_bench } in
+          else record { refusal = not_a_table; bench = empty_bench } in
           let v : Unpacked = record { refusal = k.refusal; bench = k.bench } in
-          v ≡ (if u then held (bench_of (take n ds)) else not_unpacked not_atable))
+          v ≡ (if u then held (bench_of (take n ds)) else not_unpacked not_a_table))
       by-test true = refl
       by-test false = refl
 
@@ -399,7 +399,7 @@ module _ (b : Bench) (t : List ℕ) where
       by-test true e = let one = sym (by-room true e) ∙ ok in absurd (omega arith)
       by-test false e = packed-back b t typed (ltb-false (length t) table_bytes e) (sym (by-room false e) ∙ ok)
 
-  pub unheld-only : pack_refusal t b ≡ not_atable → Tabled b → ⊥
+  pub unheld-only : pack_refusal t b ≡ not_a_table → Tabled b → ⊥
   unheld-only other tabled = by-test (ltb (length t) table_bytes) refl
     where
       by-test : (u : Bool) → ltb (length t) table_bytes ≡ u → ⊥

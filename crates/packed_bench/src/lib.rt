@@ -1,4 +1,6 @@
 // The bench in lent bytes: the parts of a record, a record, the table, the calls on it.
+#![tactic(auto)]
+
 pub mod calls;
 mod entries;
 pub mod packing;

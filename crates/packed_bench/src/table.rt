@@ -3,7 +3,7 @@
 // and accepted where the records that were read pack to the very same bytes and make a bench.
 ghost use Rattle.std.specs.Prelude.{◌≤◌, ◌≡◌, length, take};
 ghost use Rattle.basic_laws.specs.Same.{same};
-ghost use Rattle.refusals.specs.Refusals.{accepted, no_room, not_atable};
+ghost use Rattle.refusals.specs.Refusals.{accepted, no_room, not_a_table};
 ghost use Rattle.bench.specs.Bench.{live};
 ghost use Rattle.bench.specs.Records.{bench_of};
 ghost use Rattle.packed_bench.specs.Table.{table_bytes, table_of, not_unpacked, held, unpacked, pack_refusal};

@@ -1,17 +1,14 @@
 -- A piece of a text may be cut anywhere, and its unfinished line to what is carried: the pieces say what the whole says.
-use Rattle.std.specs.Prelude.{ℕ, ◌<◌, ◌≤◌, ◌≡◌, refl, Bool, true, eqb, leb, length, take}
+use Rattle.std.specs.Prelude.{ℕ, ◌<◌, ◌≤◌, ◌≡◌, refl, Bool, true, leb, length, take}
 use Rattle.std.proofs.Common.{sym, ◌∙◌, arith, leb-true, leb-false, length-append, take_all, take-take, length-take-le}
 use Rattle.std.proofs.Math.Path.{ap}
 use Rattle.std.proofs.Math.Bool.{false}
 use mathlib.Core.List.{List, [], ◌∷◌, ◌++◌, append_assoc, append-nil}
-use Rattle.std.proofs.lemmas.Bool.{not-true}
 use Rattle.std.proofs.lemmas.List.{take-append-le}
-use Rattle.basic_laws.specs.Choice.{if◌then◌else◌}
 use Rattle.basic_laws.specs.Fold.{all}
-use Rattle.basic_laws.specs.ChoiceLaws.{and_left, and_right}
 use Rattle.basic_laws.specs.FoldLaws.{all_take}
-use Rattle.text.specs.Lines.{Line, line_feed, not_feed, longer, lines_of}
-use Rattle.pieces.specs.Pieces.{say_all, said, whole, rest, said_whole, carried, together, pieces, Enough}
+use Rattle.text.specs.Lines.{Line, not_feed, lines_of}
+use Rattle.pieces.specs.Pieces.{say_all, said, whole, rest, carried, together, pieces, Enough}
 use Rattle.pieces.specs.Cuts.{say-append, lines_split, rest_plain, prefixed, nonempty-prefixed}
 
 -- ## The unfinished line may be cut to what is carried

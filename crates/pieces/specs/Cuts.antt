@@ -2,19 +2,17 @@
 -- what is said for the text as a whole, where what is carried of an unfinished line tells what the line says.
 --     any-cuts               the theorem
 --     parts                  what is said for a text: that of its whole lines, and that of the rest
-use Rattle.std.specs.Prelude.{ℕ, ◌<◌, ◌≤◌, ◌≡◌, refl, Bool, true, eqb, leb, length, take}
-use Rattle.std.proofs.Common.{sym, ◌∙◌, arith, leb-true, leb-false, length-append, take_all, take-take, length-take-le}
+use Rattle.std.specs.Prelude.{ℕ, ◌<◌, ◌≡◌, refl, Bool, true, eqb, length}
+use Rattle.std.proofs.Common.{sym, ◌∙◌, arith}
 use Rattle.std.proofs.Math.Path.{ap}
 use Rattle.std.proofs.Math.Bool.{false}
 use mathlib.Core.List.{List, [], ◌∷◌, ◌++◌, append_assoc, append-nil}
 use Rattle.std.proofs.lemmas.Bool.{not-true}
-use Rattle.std.proofs.lemmas.List.{take-append-le}
 use Rattle.basic_laws.specs.Choice.{if◌then◌else◌}
 use Rattle.basic_laws.specs.Fold.{all}
 use Rattle.basic_laws.specs.ChoiceLaws.{and_left, and_right}
-use Rattle.basic_laws.specs.FoldLaws.{all_take}
 use Rattle.text.specs.Lines.{Line, line_feed, not_feed, longer, lines_of}
-use Rattle.pieces.specs.Pieces.{say_all, said, whole, rest, said_whole, carried, together, pieces, Enough}
+use Rattle.pieces.specs.Pieces.{say_all, said, whole, rest, said_whole}
 
 -- ## A text in two parts
 

@@ -4,10 +4,10 @@
 -- definition has it.
 --     Told s p               how far the whole lines go, as a call learns it
 --     Running ..             the walk's invariant
-use Rattle.std.specs.Prelude.{ℕ, ◌+◌, ◌-◌, ◌*◌, ◌/◌, ◌<◌, ◌≤◌, min, ◌≡◌, Bool, true, false, length, take, drop}
+use Rattle.std.specs.Prelude.{ℕ, ◌+◌, ◌-◌, ◌*◌, ◌/◌, ◌<◌, ◌≤◌, min, ◌≡◌, true, false, length, take, drop}
 use Rattle.std.proofs.Math.Path.{refl, sym, ap}
-use Rattle.std.proofs.Common.{◌∙◌, arith, mul-add, mul_comm, mul-le-mul_left, le-div_iff_mul-le, le-leb, length-append, length-take, length-drop}
-use mathlib.Core.List.{List, [], ◌∷◌, ◌++◌, append_assoc, append-nil}
+use Rattle.std.proofs.Common.{◌∙◌, arith, mul-add, mul_comm, mul-le-mul_left, le-div_iff_mul-le, le-leb, length-append, length-drop}
+use mathlib.Core.List.{List, [], ◌∷◌, ◌++◌, append-nil}
 use Rattle.std.proofs.lemmas.Bool.{lt-leb}
 use Rattle.std.proofs.Math.ListN.{drop_of_length-le}
 use Rattle.basic_laws.specs.Laid.{laid}

@@ -1,4 +1,6 @@
 // A text in pieces: what came of one, and what of an unfinished line is carried to the next.
+#![tactic(auto)]
+
 ghost use Rattle.std.specs.Prelude.{◌≡◌, [], ◌≤◌, min, length, take, drop};
 ghost use Rattle.text.specs.Laying.{lay_answer, lay_leaves};
 ghost use Rattle.pieces.specs.Carried.{carried_in, most_carried, reads_left};

@@ -1,4 +1,6 @@
 // The call for address pins: a search, then a read at the code of each probe that has pins.
+#![tactic(auto)]
+
 ghost use Rattle.std.specs.Prelude.{◌≡◌, ◌≤◌, ◌<◌, ◌+◌, length, take};
 ghost use Rattle.refusals.specs.Refusals.{accepted};
 ghost use Rattle.basic_laws.specs.Fold.{fold};

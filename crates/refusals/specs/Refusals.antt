@@ -90,5 +90,5 @@ abbrev pub bad_row : ℕ
 bad_row = 21
 
 -- the bytes of a table are not those that the records of a bench pack to
-abbrev pub not_atable : ℕ
-not_atable = 22
+abbrev pub not_a_table : ℕ
+not_a_table = 22

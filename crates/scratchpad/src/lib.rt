@@ -1,5 +1,7 @@
 // Scratchpads: what the end of a conversion stores in one, and the one judgement of its nine bytes, which
 // frame naming and the master's calls share.
+#![tactic(auto)]
+
 pub mod fine;
 
 ghost use Rattle.std.specs.Prelude.{◌≡◌};

@@ -3,24 +3,21 @@
 -- searching one sends its bit, its complement, and takes the bit; the rest carries that over the devices of the bench.
 use Prim.Native.Nat.{ℕ, zero, suc, ◌<◌}
 use Rattle.std.specs.Prelude.{◌⊎◌, ◌≡◌, Bool, false, not, ◌&&◌, ◌||◌, eqb, ltb, take}
-use Rattle.std.proofs.Common.{inl, sym, ◌∙◌}
+use Rattle.std.proofs.Common.{inl, ◌∙◌}
 use Rattle.std.proofs.Math.Logic.{inr, ⊎_elim}
 use Rattle.std.proofs.Math.Path.{refl, ap}
 use Rattle.std.proofs.Math.Bool.{true, and-true, and_assoc}
 use Rattle.std.proofs.lemmas.Bool.{false≢true}
 use mathlib.Core.List.{List, [], ◌∷◌, map}
 use borrow.Author.Tests.{lt-ltb, ltb-true, eqb-true}
-use Rattle.basic_laws.specs.Choice.{if◌then◌else◌}
 use Rattle.basic_laws.specs.ChoiceLaws.{and_left, and_right}
 use Rattle.basic_laws.specs.Fold.{fold, all}
 use Rattle.basic_laws.specs.Front.{map_front}
-use Rattle.basic_laws.specs.Bits.{bit_at}
 use Rattle.refusals.specs.Refusals.{accepted}
 use Rattle.device.specs.Hear.{hear_of}
 use Rattle.device.specs.Offer.{offer_of}
 use Rattle.device.specs.Record.{holds_wire}
 use Rattle.device.specs.declared.Device.{Device}
-use Rattle.device.specs.declared.Phase.{Phase}
 use Rattle.device.specs.declared.Phase.TheVariants.{SendBit, SendComplement, TakeBit}
 use Rattle.device.specs.declared.Stage.{Stage}
 use Rattle.device.specs.declared.Stage.TheVariants.{AwaitRom, SendRom, Match, Search, AwaitFunction, TakeSettings}
@@ -32,9 +29,8 @@ use Rattle.bench.specs.declared.Bench.{Bench}
 use Rattle.bench.specs.declared.Slotted.{Slotted}
 use Rattle.bench.proofs.Laws.{heard-live}
 use Rattle.search.specs.Place.{chosen, placed}
-use Rattle.device.specs.Stages.{quiet_at, first_of, starts_at}
+use Rattle.device.specs.Stages.{quiet_at, starts_at}
 use Rattle.search.specs.Standing.{fits, one_at, zero_sent_at, survey_start, surveyed_with}
-use Rattle.search.specs.declared.place.Placed.{Placed}
 use Rattle.search.specs.declared.place.Survey.{Survey}
 
 -- ## One device

@@ -1,4 +1,6 @@
 // A master over the bench: search and alarm search, and reading and writing at a code.
+#![tactic(auto)]
+
 pub mod pass;
 pub mod place;
 

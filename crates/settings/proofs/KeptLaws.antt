@@ -4,13 +4,13 @@
 --     Keeps b         the invariant
 --     book-keeps      it holds after every run
 --     keeps-read      so that a read shows what the account comes to
-use Rattle.std.specs.Prelude.{ℕ, ◌+◌, ◌<◌, ◌≤◌, Bool, true, false, not, ◌&&◌, List, [], ◌∷◌, ◌++◌, map, ◌≢◌, ◌≡◌, refl, eqb, length}
+use Rattle.std.specs.Prelude.{ℕ, ◌+◌, ◌<◌, Bool, true, false, not, ◌&&◌, List, [], ◌∷◌, ◌++◌, map, ◌≢◌, ◌≡◌, refl, eqb, length}
 use Rattle.std.proofs.Common.{sym, ap, subst, ◌∙◌, arith, eqb-true, ne_eqb, lit≤, length-set, length-append, get_or-take, get_or-set_same, get_or-set_other}
 use Rattle.std.proofs.lemmas.Bool.{eqb-false}
 use Rattle.std.proofs.lemmas.List.{length-replicate}
 use Rattle.std.proofs.Math.Seq.{take-set-lt, map-set_same}
 use Rattle.basic_laws.specs.Choice.{if◌then◌else◌}
-use Rattle.basic_laws.specs.Each.{Each, Distinct}
+use Rattle.basic_laws.specs.Each.{Each}
 use Rattle.basic_laws.specs.EachLaws.{distinct_snoc}
 use Rattle.basic_laws.specs.First.{first_with}
 use Rattle.basic_laws.specs.Fold.{fold}

@@ -1,6 +1,6 @@
 -- The claims on every run of calls on a store, from the invariant `Keeps`.
 --     runs-right, same_version, nothing-undone, stale-refused, neighbours      the claims
-use Rattle.std.specs.Prelude.{ℕ, ◌+◌, Bool, true, false, not, ◌&&◌, ◌||◌, List, [], ◌∷◌, ◌++◌, map, ◌≢◌, ◌≡◌, eqb, ltb, length}
+use Rattle.std.specs.Prelude.{ℕ, ◌+◌, Bool, true, false, not, ◌&&◌, ◌||◌, List, [], ◌∷◌, ◌++◌, ◌≢◌, ◌≡◌, eqb, ltb, length}
 use Rattle.std.proofs.Common.{append-nil, append_assoc, sym, ◌∙◌, arith, eqb-true, eq-eqb, ne_eqb, length-take, length-append}
 use Rattle.std.proofs.Math.Path.{refl, ap}
 use Rattle.std.proofs.lemmas.Bool.{eqb-false}

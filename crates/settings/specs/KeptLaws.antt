@@ -4,34 +4,15 @@
 --     Keeps b         the invariant
 --     book-keeps      it holds after every run
 --     keeps-read      so that a read shows what the account comes to
-use Rattle.std.specs.Prelude.{ℕ, ◌+◌, ◌<◌, ◌≤◌, Bool, true, false, not, ◌&&◌, List, [], ◌∷◌, ◌++◌, map, ◌≢◌, ◌≡◌, refl, eqb, length}
-use Rattle.std.proofs.Common.{sym, ap, subst, ◌∙◌, arith, eqb-true, ne_eqb, lit≤, length-set, length-append, get_or-take, get_or-set_same, get_or-set_other}
-use Rattle.std.proofs.lemmas.Bool.{eqb-false}
-use Rattle.std.proofs.lemmas.List.{length-replicate}
-use Rattle.std.proofs.Math.Seq.{take-set-lt, map-set_same}
-use Rattle.basic_laws.specs.Choice.{if◌then◌else◌}
-use Rattle.basic_laws.specs.Each.{Each, Distinct}
-use Rattle.basic_laws.specs.EachLaws.{distinct_snoc}
-use Rattle.basic_laws.specs.First.{first_with}
-use Rattle.basic_laws.specs.Fold.{fold}
-use Rattle.basic_laws.specs.FoldLaws.{fold-append}
-use Rattle.refusals.specs.Refusals.{accepted, not_found}
-use Rattle.rom.specs.Code.{code_refusal}
-use Rattle.device.specs.declared.Settings.{Settings}
-use Rattle.settings.specs.Store.{live_entries, blank, kept_at, entry_at, with_entry, with_new_entry}
-use Rattle.settings.specs.Calls.{first_entry, there, gone, altered_entry, settings_altered, missing, located_where}
-use Rattle.settings.specs.Calls.{located, settings_read}
-use Rattle.settings.specs.Runs.{StoreCall, add, remove, read, change, AcceptedChange, Account, no_account, joining}
-use Rattle.settings.specs.Runs.{leaving, changing, Book, on_accepted, codes_joined, entered, book, settled}
-use Rattle.settings.specs.Runs.{none_shown, shown_of, InTurn}
-use Rattle.settings.specs.StoreLaws.{kept-found, kept-nowhere, same-places, new-live, new-place}
-use Rattle.settings.specs.StoreLaws.{store-added-cases, removed-cases, changed-cases}
-use Rattle.settings.specs.declared.Alterations.{Alterations}
-use Rattle.settings.specs.declared.Current.{Current}
+use Rattle.std.specs.Prelude.{ℕ, ◌≤◌, true, map, ◌≡◌, length}
+use Rattle.basic_laws.specs.Each.{Distinct}
+use Rattle.settings.specs.Store.{live_entries, kept_at, entry_at}
+use Rattle.settings.specs.Runs.{Account, no_account}
+use Rattle.settings.specs.Runs.{Book, settled}
+use Rattle.settings.specs.Runs.{InTurn}
 use Rattle.settings.specs.declared.Entry.{Entry}
 use Rattle.settings.specs.declared.Kept.{Kept}
 use Rattle.settings.specs.declared.Kept.TheVariants.{At, Nowhere}
-use Rattle.settings.specs.declared.Located.{Located}
 use Rattle.settings.specs.declared.Store.{Store}
 
 -- ## An entry and its account

@@ -1,6 +1,8 @@
 // A store of settings for up to 32 codes, each with a version, in which no caller undoes another: a
 // change names the version that it was based on, and is refused if another came between. A call is one
 // step; whoever shares a store between threads makes them in turn.
+#![tactic(auto)]
+
 pub mod writing;
 
 ghost use Rattle.std.specs.Prelude.{◌≡◌, ◌<◌};

@@ -15,7 +15,6 @@ use Rattle.std.proofs.lemmas.List.{length-map}
 use Rattle.basic_laws.specs.Choice.{if◌then◌else◌}
 use Rattle.basic_laws.specs.Each.{Each}
 use Rattle.basic_laws.specs.EachLaws.{each_at}
-use Rattle.basic_laws.specs.Fold.{fold}
 use Rattle.commands.specs.Bytes.{shift_in}
 use Rattle.commands.specs.BytesLaws.{shifted-cases}
 use Rattle.commands.specs.Commands.{search_rom, alarm_search, convert, write_scratchpad, read_scratchpad, copy_scratchpad}

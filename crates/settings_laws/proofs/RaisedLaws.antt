@@ -2,7 +2,7 @@
 -- runs
 -- (`to-the-wire`): of a shared run the store sees the calls on it, and nothing else.
 use Rattle.std.specs.Prelude.{ℕ, List, [], ◌∷◌, ◌++◌, ◌≡◌, refl}
-use Rattle.std.proofs.Common.{append-nil, sym, ap, subst}
+use Rattle.std.proofs.Common.{append-nil, sym, subst}
 use Rattle.basic_laws.specs.EachLaws.{each_snoc}
 use Rattle.basic_laws.specs.Fold.{fold}
 use Rattle.basic_laws.specs.FoldLaws.{fold-append}

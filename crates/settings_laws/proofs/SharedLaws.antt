@@ -3,7 +3,7 @@
 -- is the write that it makes, and what the store has for each code are bytes. An accepted settings write leaves the
 -- settings in the device
 -- (`written-holds`), and no call that spares the device takes them away (`call-spares`).
-use Rattle.std.specs.Prelude.{ℕ, ◌≤◌, Bool, true, false, not, ◌&&◌, List, [], ◌∷◌, ◌++◌, ◌≢◌, ◌≡◌, refl, eqb, length, set}
+use Rattle.std.specs.Prelude.{ℕ, ◌≤◌, Bool, true, false, not, ◌&&◌, List, [], ◌∷◌, ◌++◌, ◌≢◌, ◌≡◌, refl, eqb, length}
 use Rattle.std.proofs.Common.{ap, subst, ◌∙◌, arith, eqb-true, lit<}
 use Rattle.std.proofs.lemmas.Bool.{eqb-false}
 use Rattle.std.specs.Int.Bits.{bit_and}
@@ -17,7 +17,6 @@ use Rattle.refusals.specs.Refusals.{accepted, not_found}
 use Rattle.rom.specs.Code.{code_refusal}
 use Rattle.device.specs.declared.Settings.{Settings}
 use Rattle.bench.specs.declared.Bench.{Bench}
-use Rattle.bench.specs.declared.Place.TheVariants.{At}
 use Rattle.bench.specs.Sound.{BenchSound}
 use Rattle.master_rules.specs.declared.Access.{Access}
 use Rattle.master_rules.specs.Access.{refused_at, write_at}

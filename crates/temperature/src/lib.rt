@@ -2,6 +2,8 @@
 // rule. The sensor counts sixteenths of a degree; the families store sixteenths or half degrees; limits
 // are whole degrees. Every conversion to a coarser unit rounds down, by a shift that copies the sign;
 // what a half-degree device stores is the nearest half.
+#![tactic(auto)]
+
 ghost use Rattle.std.specs.Prelude.{◌≡◌};
 ghost use Rattle.temperature.specs.Alarm.{alarms_at, limit_of, limit_byte_of, verdict};
 ghost use Rattle.temperature.specs.Degrees.{degrees_of, IsSixteenths};

@@ -1,4 +1,6 @@
 // Text: numbers as digits, and lines.
+#![tactic(auto)]
+
 pub mod laying;
 mod lines;
 mod numbers;

@@ -1,4 +1,6 @@
 // Why a device is on the list of an alarm search, or is not. Asking changes nothing.
+#![tactic(auto)]
+
 pub mod rules;
 
 ghost use Rattle.std.specs.Prelude.{◌≡◌};

@@ -1,6 +1,5 @@
 -- Three sends one behind the other: 55h, the code, the command.
 use Rattle.master_rules.specs.Access.{addressed}
-use borrow.Author.Rules.{rules}
 use Rattle.at_code.proofs.address.Goals as goal
 
 pub returns : goal.returns

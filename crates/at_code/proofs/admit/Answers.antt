@@ -1,7 +1,6 @@
 -- The code is tested first, then the wire.
 use Rattle.master_rules.specs.Access.{admission}
 use borrow.Author.Tests.{eq-eqb, ne_eqb}
-use borrow.Author.Rules.{rules}
 use Rattle.at_code.proofs.admit.Goals as goal
 
 pub returns-then-refusal-ne-ACCEPTED : goal.returns-then-refusal-ne-ACCEPTED
@@ -12,19 +11,23 @@ returns-then-refusal-ne-ACCEPTED c =
 pub returns-then-is_free : goal.returns-then-is_free
 unfolding admission
 returns-then-is_free c =
-    record { answer = simp (
-  ← c.refusal_of-refusal.ensures.answer,
-  eq-eqb _ _ c.if-refusal-ne-ACCEPTED.false,
-  ← c.is_free.ensures.answer,
-  c.if-is_free.true,
-) }
+    record {
+      answer = simp (
+        ← c.refusal_of-refusal.ensures.answer,
+        eq-eqb _ _ c.if-refusal-ne-ACCEPTED.false,
+        ← c.is_free.ensures.answer,
+        c.if-is_free.true,
+      );
+    }
 
 pub returns-else-is_free : goal.returns-else-is_free
 unfolding admission
 returns-else-is_free c =
-    record { answer = simp (
-  ← c.refusal_of-refusal.ensures.answer,
-  eq-eqb _ _ c.if-refusal-ne-ACCEPTED.false,
-  ← c.is_free.ensures.answer,
-  c.if-is_free.false,
-) }
+    record {
+      answer = simp (
+        ← c.refusal_of-refusal.ensures.answer,
+        eq-eqb _ _ c.if-refusal-ne-ACCEPTED.false,
+        ← c.is_free.ensures.answer,
+        c.if-is_free.false,
+      );
+    }

@@ -1,7 +1,6 @@
 -- The limits one after the other, then the configuration by its family's own comparison.
 use Rattle.master_rules.specs.Access.{as_asked}
 use borrow.Author.Tests.{eq-eqb, ne_eqb}
-use borrow.Author.Rules.{rules}
 use Rattle.at_code.proofs.as_asked.Goals as goal
 
 pub returns-then-pad-s : goal.returns-then-pad-s
@@ -17,8 +16,10 @@ returns-then-pad-s-2 c =
 pub returns : goal.returns
 unfolding as_asked
 returns c =
-    record { answer = rw (
-  c.configuration_as_asked.ensures.answer,
-  eq-eqb _ _ c.if-pad-s.false,
-  eq-eqb _ _ c.if-pad-s-2.false,
-) }
+    record {
+      answer = rw (
+        c.configuration_as_asked.ensures.answer,
+        eq-eqb _ _ c.if-pad-s.false,
+        eq-eqb _ _ c.if-pad-s-2.false,
+      );
+    }

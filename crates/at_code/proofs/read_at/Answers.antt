@@ -2,7 +2,6 @@
 use Rattle.master_rules.specs.Access.{read_at}
 use Rattle.access_laws.specs.ReadLaws.{read-promised}
 use borrow.Author.Tests.{eq-eqb, ne_eqb}
-use borrow.Author.Rules.{rules}
 use Rattle.at_code.proofs.read_at.Goals as goal
 
 pub returns-then-refusal-ne-ACCEPTED : goal.returns-then-refusal-ne-ACCEPTED

@@ -1,6 +1,5 @@
 -- By presence: the nine bytes fetched, or 4.
 use Rattle.master_rules.specs.Access.{read_back}
-use borrow.Author.Rules.{rules}
 use Rattle.at_code.proofs.read_back.Goals as goal
 
 pub returns-then-r : goal.returns-then-r

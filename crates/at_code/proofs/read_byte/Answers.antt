@@ -1,4 +1,4 @@
-use Prim.Native.Nat.{ℕ, suc, ◌≤◌, ◌+◌, ◌-◌, ◌*◌, ◌^◌}
+use Prim.Native.Nat.{ℕ, suc, ◌+◌, ◌-◌, ◌*◌, ◌^◌}
 use mathlib.Core.Path.{◌≡◌, ◌∙◌, refl, ap}
 use mathlib.Core.Bool.{true}
 use native.Mathlib.Nat.{mul-one}
@@ -12,7 +12,6 @@ use Rattle.master_rules.specs.Access.{after_slots, byte_shown}
 use Rattle.search_laws.specs.Reads.{bits_shown}
 use Rattle.search_laws.specs.ReadsLaws.{reads_more, shown-more}
 use Rattle.master_rules.specs.Buses.{calls}
-use borrow.Author.Rules.{rules}
 use Rattle.at_code.proofs.read_byte.Goals as goal
 
 pub loop-i-init : goal.loop-i-init
@@ -42,6 +41,8 @@ loop-i-preserved c =
 pub returns : goal.returns
 unfolding byte_read_of
 returns c =
-    record { answer = let b = c.args.bench in
-    let all : c.loop-i.i ≡ 8 = omega arith in
-    rw (c.loop-i.invariant.1, c.loop-i.invariant.2, all, mul-one (byte_shown b)) }
+    record {
+      answer = let b = c.args.bench in
+          let all : c.loop-i.i ≡ 8 = omega arith in
+          rw (c.loop-i.invariant.1, c.loop-i.invariant.2, all, mul-one (byte_shown b));
+    }

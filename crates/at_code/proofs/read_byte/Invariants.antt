@@ -1,18 +1,10 @@
 -- The loop's invariant: i read slots have been made, and the register holds the number that they showed in its upper i
 -- bits. `shifted-on` puts in the next bit.
-use Prim.Native.Nat.{ℕ, suc, ◌≤◌, ◌+◌, ◌-◌, ◌*◌, ◌^◌}
-use mathlib.Core.Path.{◌≡◌, ◌∙◌, refl, ap}
-use mathlib.Core.Bool.{true}
-use native.Mathlib.Nat.{mul-one}
-use native.Mathlib.Omega.{arith}
+use Prim.Native.Nat.{◌≤◌, ◌-◌, ◌*◌, ◌^◌}
+use mathlib.Core.Path.{◌≡◌}
 use Rattle.basic_laws.specs.Bits.{number_of}
-use Rattle.commands.specs.BytesLaws.{shifted-on}
-use Rattle.search_laws.specs.Wire.{slots}
-use Rattle.bench.specs.Slot.{slotted}
-use Rattle.at_code.specs.Replies.{byte_read_of}
-use Rattle.master_rules.specs.Access.{after_slots, byte_shown}
+use Rattle.master_rules.specs.Access.{after_slots}
 use Rattle.search_laws.specs.Reads.{bits_shown}
-use Rattle.search_laws.specs.ReadsLaws.{reads_more, shown-more}
 use Rattle.master_rules.specs.Buses.{calls}
 use Rattle.at_code.proofs.read_byte.Given as goal
 

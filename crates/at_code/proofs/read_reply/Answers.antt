@@ -1,14 +1,12 @@
-use Prim.Native.Nat.{ℕ, ◌≤◌, ◌<◌, ◌-◌, ◌*◌}
+use Prim.Native.Nat.{ℕ, ◌<◌}
 use mathlib.Core.Path.{◌≡◌, refl}
 use native.Mathlib.Omega.{arith}
 use lib.ListN.{length, replicate}
-use Rattle.basic_laws.specs.Laid.{laid}
 use Rattle.basic_laws.specs.LaidLaws.{laid_none}
 use Rattle.search_laws.specs.Wire.{slots}
 use Rattle.at_code.specs.Replies.{byte_read_of, replied}
-use Rattle.master_rules.specs.Access.{after_slots, bytes_shown}
+use Rattle.master_rules.specs.Access.{bytes_shown}
 use Rattle.at_code.specs.Laws.{bytes-bench, bytes-more, bytes-all}
-use borrow.Author.Rules.{rules}
 use Rattle.at_code.proofs.read_reply.Goals as goal
 
 pub loop-i-init : goal.loop-i-init
@@ -30,6 +28,8 @@ loop-i-preserved c =
 pub returns : goal.returns
 unfolding replied
 returns c =
-    record { answer = let b = c.args.bench in
-    let all : c.loop-i.i ≡ 9 = omega arith in
-    rw (c.loop-i.invariant.1, c.loop-i.invariant.2, all, bytes-all b) }
+    record {
+      answer = let b = c.args.bench in
+          let all : c.loop-i.i ≡ 9 = omega arith in
+          rw (c.loop-i.invariant.1, c.loop-i.invariant.2, all, bytes-all b);
+    }

@@ -1,14 +1,8 @@
 -- The loop's invariant: i bytes of eight slots have been read, and stand in the first i places.
-use Prim.Native.Nat.{ℕ, ◌≤◌, ◌<◌, ◌-◌, ◌*◌}
-use mathlib.Core.Path.{◌≡◌, refl}
-use native.Mathlib.Omega.{arith}
-use lib.ListN.{length, replicate}
+use Prim.Native.Nat.{◌≤◌, ◌-◌, ◌*◌}
+use mathlib.Core.Path.{◌≡◌}
 use Rattle.basic_laws.specs.Laid.{laid}
-use Rattle.basic_laws.specs.LaidLaws.{laid_none}
-use Rattle.search_laws.specs.Wire.{slots}
-use Rattle.at_code.specs.Replies.{byte_read_of, replied}
 use Rattle.master_rules.specs.Access.{after_slots, bytes_shown}
-use Rattle.at_code.specs.Laws.{bytes-bench, bytes-more, bytes-all}
 use Rattle.at_code.proofs.read_reply.Given as goal
 
 abbrev pub invariant-loop-i : goal.invariant-loop-i

@@ -1,10 +1,8 @@
-use Prim.Native.Nat.{◌≤◌, ◌-◌}
+use Prim.Native.Nat.{◌-◌}
 use mathlib.Core.Path.{◌≡◌, ◌∙◌, sym}
 use native.Mathlib.Omega.{arith}
 use Rattle.search_laws.specs.ReadsLaws.{bits-turn, bits-end}
 use Rattle.master_rules.specs.Buses.{calls}
-use Rattle.master_rules.specs.Wire.{sent}
-use borrow.Author.Rules.{rules}
 use Rattle.at_code.proofs.send.Goals as goal
 
 pub loop-i-init : goal.loop-i-init
@@ -23,5 +21,7 @@ loop-i-preserved c =
 
 pub returns : goal.returns
 returns c =
-    record { answer = let count = c.args.count in
-    sym (bits-end calls count c.loop-i.i _ _ c.loop-i-test.false) ∙ c.loop-i.invariant.1 }
+    record {
+      answer = let count = c.args.count in
+          sym (bits-end calls count c.loop-i.i _ _ c.loop-i-test.false) ∙ c.loop-i.invariant.1;
+    }

@@ -1,10 +1,7 @@
 -- The loop's invariant says what is still to come: the bits that are left, sent on the bench as it stands, give the
 -- answer.
 use Prim.Native.Nat.{◌≤◌, ◌-◌}
-use mathlib.Core.Path.{◌≡◌, ◌∙◌, sym}
-use native.Mathlib.Omega.{arith}
-use Rattle.search_laws.specs.ReadsLaws.{bits-turn, bits-end}
-use Rattle.master_rules.specs.Buses.{calls}
+use mathlib.Core.Path.{◌≡◌}
 use Rattle.master_rules.specs.Wire.{sent}
 use Rattle.at_code.proofs.send.Given as goal
 

@@ -3,7 +3,6 @@
 use Rattle.master_rules.specs.Access.{write_at}
 use Rattle.access_laws.proofs.WriteLaws.{write-promised}
 use borrow.Author.Tests.{eq-eqb, ne_eqb}
-use borrow.Author.Rules.{rules}
 use Rattle.at_code.proofs.write_at.Goals as goal
 
 pub returns-then-refusal-ne-ACCEPTED : goal.returns-then-refusal-ne-ACCEPTED
@@ -14,21 +13,27 @@ returns-then-refusal-ne-ACCEPTED c =
 pub returns-then-r : goal.returns-then-r
 unfolding write_at
 returns-then-r c =
-    record { answer = simp (
-    ← c.admit-refusal.ensures.answer,
-    eq-eqb _ _ c.if-refusal-ne-ACCEPTED.false,
-    ← c.reset-r.ensures.answer,
-    c.if-r.true,
-    c.write_and_compare.ensures.answer,
-  ); history = write-promised _ _ _ }
+    record {
+      answer = simp (
+        ← c.admit-refusal.ensures.answer,
+        eq-eqb _ _ c.if-refusal-ne-ACCEPTED.false,
+        ← c.reset-r.ensures.answer,
+        c.if-r.true,
+        c.write_and_compare.ensures.answer,
+      );
+      history = write-promised _ _ _;
+    }
 
 pub returns : goal.returns
 unfolding write_at
 returns c =
-    record { answer = simp (
-    ← c.admit-refusal.ensures.answer,
-    eq-eqb _ _ c.if-refusal-ne-ACCEPTED.false,
-    ← c.reset-r.ensures.answer,
-    c.if-r.false,
-    c.refuse-2.ensures.answer,
-  ); history = write-promised _ _ _ }
+    record {
+      answer = simp (
+        ← c.admit-refusal.ensures.answer,
+        eq-eqb _ _ c.if-refusal-ne-ACCEPTED.false,
+        ← c.reset-r.ensures.answer,
+        c.if-r.false,
+        c.refuse-2.ensures.answer,
+      );
+      history = write-promised _ _ _;
+    }

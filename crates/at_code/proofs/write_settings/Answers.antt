@@ -1,7 +1,6 @@
 -- The address, then the two limits and, where the family has one, the configuration: the sends one behind the other are
 -- the definition's.
 use Rattle.master_rules.specs.Access.{settings_sent}
-use borrow.Author.Rules.{rules}
 use Rattle.at_code.proofs.write_settings.Goals as goal
 
 pub returns-then-row : goal.returns-then-row

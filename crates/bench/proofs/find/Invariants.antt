@@ -1,14 +1,10 @@
 -- The loop's invariant: the search among the live devices from i on gives the answer.
-use Prim.Native.Nat.{◌≤◌, ◌<◌, ◌-◌}
-use mathlib.Core.Logic.{⊎_elim}
-use mathlib.Core.Path.{◌≡◌, ◌∙◌, sym, refl}
-use native.Mathlib.Omega.{arith}
-use borrow.Author.Tests.{eq-eqb, ne_eqb}
+use Prim.Native.Nat.{◌≤◌, ◌-◌}
+use mathlib.Core.Path.{◌≡◌}
 use lib.Dec.{eqb}
-use lib.ListN.{length, length-map, length-take, take}
+use lib.ListN.{take}
 use Rattle.basic_laws.specs.First.{first_with}
-use Rattle.basic_laws.specs.FirstLaws.{onward, first-hit, first-miss, first-skip, first-end}
-use Rattle.bench.specs.Bench.{place_of}
+use Rattle.basic_laws.specs.FirstLaws.{onward}
 use Rattle.bench.specs.declared.Place.TheVariants.{At, Nowhere}
 use Rattle.bench.proofs.find.Given as goal
 

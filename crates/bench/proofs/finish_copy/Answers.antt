@@ -1,7 +1,7 @@
 -- The code is there, and its device ends its copy or is refused; or the code is refused. `known` is the place that was
 -- found, which lies within the table.
 use mathlib.Core.Path.{◌≡◌, sym, ◌∙◌}
-use lib.ListN.{length, length-map}
+use lib.ListN.{length}
 use Rattle.bench.specs.BenchLaws.{place-within}
 use Rattle.bench.specs.Calls.{copy_finished}
 use borrow.Author.Rules.{rules}
@@ -20,13 +20,15 @@ put_back-requires c =
 pub returns-in-At : goal.returns-in-At
 unfolding copy_finished
 returns-in-At c =
-    record { answer = simp (
-      ← c.find-place.ensures.answer,
-      c.in-At.is,
-      ← c.device_at.ensures.answer,
-      ← c.end_copy.ensures.answer,
-      c.put_back.ensures.answer,
-    ) }
+    record {
+      answer = simp (
+        ← c.find-place.ensures.answer,
+        c.in-At.is,
+        ← c.device_at.ensures.answer,
+        ← c.end_copy.ensures.answer,
+        c.put_back.ensures.answer,
+      );
+    }
 
 pub returns-in-Nowhere : goal.returns-in-Nowhere
 unfolding copy_finished

@@ -1,13 +1,7 @@
 -- The loop's invariant: whether the code is absent is left to the devices from i on.
-use Prim.Native.Nat.{◌≤◌, ◌<◌, ◌-◌}
-use mathlib.Core.Bool.{not}
-use mathlib.Core.Path.{◌≡◌, ◌∙◌, sym, ap, refl}
-use native.Mathlib.Omega.{arith}
-use borrow.Author.Tests.{eq-eqb, ne_eqb}
-use lib.Dec.{eqb}
-use lib.ListN.{length, length-take, take, drop}
-use lib.Seq.{get_or-take}
-use Rattle.basic_laws.specs.FoldLaws.{all-passes, all-fails, all_end}
+use Prim.Native.Nat.{◌-◌}
+use mathlib.Core.Path.{◌≡◌}
+use lib.ListN.{take, drop}
 use Rattle.bench.specs.Records.{absent}
 use Rattle.bench.proofs.is_absent.Given as goal
 

@@ -1,6 +1,5 @@
 -- The call's answer, of the devices that are there.
 use Rattle.bench.specs.Bench.{free}
-use borrow.Author.Rules.{rules}
 use Rattle.bench.proofs.is_free.Goals as goal
 
 pub returns : goal.returns

@@ -1,5 +1,4 @@
 -- By what the line shows so far.
-use borrow.Author.Rules.{rules}
 use Rattle.bench.proofs.line_with.Goals as goal
 
 pub returns-then-line : goal.returns-then-line

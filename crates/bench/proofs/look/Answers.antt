@@ -1,6 +1,6 @@
 -- A place that was found is one of the table, and its record is the definition's.
 use mathlib.Core.Path.{◌≡◌, ◌∙◌, sym}
-use lib.ListN.{length, length-map}
+use lib.ListN.{length}
 use Rattle.bench.specs.BenchLaws.{place-within}
 use Rattle.bench.specs.Calls.{looked}
 use borrow.Author.Rules.{rules}
@@ -15,17 +15,21 @@ device_at-requires c =
 pub returns-in-At : goal.returns-in-At
 unfolding looked
 returns-in-At c =
-    record { answer = simp (
-  ← c.find-place.ensures.answer,
-  c.in-At.is,
-  c.device_at.ensures.answer,
-) }
+    record {
+      answer = simp (
+        ← c.find-place.ensures.answer,
+        c.in-At.is,
+        c.device_at.ensures.answer,
+      );
+    }
 
 pub returns-in-Nowhere : goal.returns-in-Nowhere
 unfolding looked
 returns-in-Nowhere c =
-    record { answer = simp (
-  ← c.find-place.ensures.answer,
-  c.in-Nowhere.is,
-  c.vacant_place.ensures.answer,
-) }
+    record {
+      answer = simp (
+        ← c.find-place.ensures.answer,
+        c.in-Nowhere.is,
+        c.vacant_place.ensures.answer,
+      );
+    }

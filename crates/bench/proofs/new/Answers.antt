@@ -1,5 +1,4 @@
 -- The repeat of 32 is the definition's.
-use borrow.Author.Rules.{rules}
 use Rattle.bench.proofs.new.Goals as goal
 
 pub returns : goal.returns

@@ -1,5 +1,4 @@
 -- By the empty bench.
-use borrow.Author.Rules.{rules}
 use Rattle.bench.proofs.no_bench.Goals as goal
 
 pub returns : goal.returns

@@ -1,8 +1,7 @@
-use Prim.Native.Nat.{◌≤◌, ◌<◌, ◌-◌}
-use mathlib.Core.List.{◌++◌}
+use Prim.Native.Nat.{◌<◌}
 use mathlib.Core.Path.{◌≡◌, refl}
 use native.Mathlib.Omega.{arith}
-use lib.ListN.{length, take, drop}
+use lib.ListN.{length}
 use Rattle.bench.specs.RecordsLaws.{over-more}
 use borrow.Author.Rules.{rules}
 use Rattle.bench.proofs.over.Goals as goal
@@ -24,5 +23,7 @@ loop-i-preserved c =
 
 pub returns : goal.returns
 returns c =
-    record { answer = let end : c.loop-i.i ≡ c.args.count = let h = c.loop-i-test.false in omega (arith, c.loop-i.invariant.0) in
-    rw (← end) c.loop-i.invariant.1 }
+    record {
+      answer = let end : c.loop-i.i ≡ c.args.count = let h = c.loop-i-test.false in omega (arith, c.loop-i.invariant.0) in
+          rw (← end) c.loop-i.invariant.1;
+    }

@@ -1,10 +1,8 @@
 -- The loop's invariant: the places before i have the records, and the others are as they were.
-use Prim.Native.Nat.{◌≤◌, ◌<◌, ◌-◌}
+use Prim.Native.Nat.{◌≤◌, ◌-◌}
 use mathlib.Core.List.{◌++◌}
-use mathlib.Core.Path.{◌≡◌, refl}
-use native.Mathlib.Omega.{arith}
-use lib.ListN.{length, take, drop}
-use Rattle.bench.specs.RecordsLaws.{over-more}
+use mathlib.Core.Path.{◌≡◌}
+use lib.ListN.{take, drop}
 use Rattle.bench.proofs.over.Given as goal
 
 abbrev pub invariant-loop-i : goal.invariant-loop-i

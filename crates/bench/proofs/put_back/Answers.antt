@@ -1,6 +1,5 @@
 -- The attempt was accepted, and the device goes to its place; or it was refused, and nothing changes.
 use borrow.Author.Tests.{eq-eqb, ne_eqb}
-use borrow.Author.Rules.{rules}
 use Rattle.bench.proofs.put_back.Goals as goal
 
 pub returns-then-refusal-eq-ACCEPTED : goal.returns-then-refusal-eq-ACCEPTED

@@ -1,6 +1,5 @@
 -- Without a place left, with pins that cannot be, and with neither.
 use borrow.Author.Tests.{le-ltb, lt-ltb}
-use borrow.Author.Rules.{rules}
 use Rattle.bench.proofs.put_last.Goals as goal
 
 pub returns-then-place-ge32 : goal.returns-then-place-ge32
@@ -13,10 +12,12 @@ returns-then-pins_wrong c =
 
 pub returns : goal.returns
 returns c =
-    record { answer = simp (
-      lt-ltb _ _ c.if-place-ge32.false,
-      ← c.family_row.ensures.answer,
-      ← c.pins_wrong.ensures.answer,
-      c.if-pins_wrong.false,
-      c.join.ensures.answer,
-    ) }
+    record {
+      answer = simp (
+        lt-ltb _ _ c.if-place-ge32.false,
+        ← c.family_row.ensures.answer,
+        ← c.pins_wrong.ensures.answer,
+        c.if-pins_wrong.false,
+        c.join.ensures.answer,
+      );
+    }

@@ -1,6 +1,5 @@
 -- On a free wire and on one that is held.
 use Rattle.bench.specs.Slot.{restarted, reset_done}
-use borrow.Author.Rules.{rules}
 use Rattle.bench.proofs.reset.Goals as goal
 
 pub returns-then-is_free : goal.returns-then-is_free

@@ -1,5 +1,4 @@
 -- By the table of all devices.
-use borrow.Author.Rules.{rules}
 use Rattle.bench.proofs.settle.Goals as goal
 
 pub returns : goal.returns

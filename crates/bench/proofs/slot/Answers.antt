@@ -1,13 +1,12 @@
 -- The first round looks and changes nothing: the line is the AND of the master's bit and the offers of the devices
 -- before i, and whether the wire is free is left to those from i on. In the second the devices before j have heard the
 -- line, and all others are as they were; one that a slot leaves as it is has heard it as it stands.
-use Prim.Native.Nat.{◌≤◌, ◌<◌, ◌-◌, min}
+use Prim.Native.Nat.{◌≤◌, ◌<◌, min}
 use mathlib.Core.Bool.{true, false, not, ◌&&◌}
-use mathlib.Core.Logic.{⊎_elim}
 use mathlib.Core.Path.{◌≡◌, ◌∙◌, sym, ap, refl}
 use native.Mathlib.Omega.{arith}
-use lib.ListN.{length, take, length-take, length-map}
-use Rattle.basic_laws.specs.FirstLaws.{onward, all-onward, all-stopped}
+use lib.ListN.{length, take, length-take}
+use Rattle.basic_laws.specs.FirstLaws.{all-onward, all-stopped}
 use Rattle.basic_laws.specs.Fold.{fold, all}
 use Rattle.basic_laws.specs.FoldLaws.{all_end, all-fold, fold_step}
 use Rattle.basic_laws.specs.Front.{map_front}
@@ -44,15 +43,17 @@ bounds-next-i c =
 pub returns-then-holds_wire : goal.returns-then-holds_wire
 unfolding slotted free
 returns-then-holds_wire c =
-    record { answer = let b = c.args.bench in
-    let l = long (goal.at.returns-then-holds_wire c).Start in
-    let h : c.loop-i.i < length b.devices = omega (arith, c.places-taken.ensures.answer) in
-    let n : c.loop-i.i < b.count = omega (arith, c.places-taken.ensures.answer) in
-    let held : all (λ d. not (holds_wire d)) (take b.count b.devices) ≡ false =
-    sym c.loop-i.invariant.2 ∙ all-stopped (λ d. not (holds_wire d)) _ _ _ _ n h
-    (ap not (sym c.holds_wire.ensures.answer ∙ c.if-holds_wire.true))
-    in
-    rw held }
+    record {
+      answer = let b = c.args.bench in
+          let l = long (goal.at.returns-then-holds_wire c).Start in
+          let h : c.loop-i.i < length b.devices = omega (arith, c.places-taken.ensures.answer) in
+          let n : c.loop-i.i < b.count = omega (arith, c.places-taken.ensures.answer) in
+          let held : all (λ d. not (holds_wire d)) (take b.count b.devices) ≡ false =
+          sym c.loop-i.invariant.2 ∙ all-stopped (λ d. not (holds_wire d)) _ _ _ _ n h
+          (ap not (sym c.holds_wire.ensures.answer ∙ c.if-holds_wire.true))
+          in
+          rw held;
+    }
 
 pub overflow_add-i : goal.overflow_add-i
 overflow_add-i c =
@@ -64,8 +65,7 @@ loop-i-preserved c =
     let a = c.args in
     let l = long (goal.at.loop-i-preserved c).Start in
     let h : c.loop-i.i < length a.bench.devices = omega (arith, c.places-taken.ensures.answer) in
-    let n : c.loop-i.i < a.bench.count = omega (arith, c.places-taken.ensures.answer) in
-    (
+    let n : c.loop-i.i < a.bench.count = omega (arith, c.places-taken.ensures.answer) in (
       omega arith,
       rw (c.line_with-line.ensures.answer, c.loop-i.invariant.1)
           (fold_step (λ b d. b && offer_of d) a.bit c.loop-i.i a.bench.devices _ h),
@@ -94,9 +94,9 @@ offset_bounds-next-j-then-not-is_still c =
 pub bounds-next-j-then-not-is_still : goal.bounds-next-j-then-not-is_still
 bounds-next-j-then-not-is_still c =
     omega (
-  arith,
-  c.places-taken.ensures.answer,
-)
+      arith,
+      c.places-taken.ensures.answer,
+    )
 
 pub overflow_add-j : goal.overflow_add-j
 overflow_add-j c =
@@ -110,28 +110,30 @@ loop-j-preserved c =
     let h : c.loop-j.j < length b.devices = omega (arith, c.places-taken.ensures.answer) in (
       omega arith,
       elim c.if-not-is_still.branch [
-        then-not-is_still w ↦ w.next-is ∙ rw (w.hear.ensures.answer, c.loop-j.invariant.1) (front-more _ _ _ _)
+        | then-not-is_still w ↦ w.next-is ∙ rw (w.hear.ensures.answer, c.loop-j.invariant.1) (front-more _ _ _ _)
         | else-not-is_still w ↦ w.next-is ∙ front_kept _ _ _ _ _ c.loop-j.invariant.1 h
-          (still-stays _ _ (ap not (sym c.is_still.ensures.answer ∙ w.if-not-is_still.false)))
+            (still-stays _ _ (ap not (sym c.is_still.ensures.answer ∙ w.if-not-is_still.false)))
       ],
     )
 
 pub returns : goal.returns
 unfolding slotted free line_bit heard
 returns c =
-    record { answer = let a = c.args in
-    let n = a.bench.count in
-    let t = a.bench.devices in
-    let l = long (goal.at.returns c).Start in
-    let most : c.loop-i.i ≡ min n 32 = omega (arith, c.places-taken.ensures.answer) in
-    let most2 : c.loop-j.j ≡ min n 32 = omega (arith, c.places-taken.ensures.answer) in
-    let shown : c.loop-i.line ≡ (a.bit && all offer_of (take n t)) =
-    c.loop-i.invariant.1 ∙ ap (fold (λ b d. b && offer_of d) a.bit) (rw most (taken-most n 32 t l))
-    ∙ all-fold offer_of a.bit (take n t)
-    in
-    let over : length (take n t) ≤ c.loop-i.i = omega (arith, length-take n t) in
-    let passed : all (λ d. not (holds_wire d)) (take n t) ≡ true =
-    sym c.loop-i.invariant.2 ∙ all_end (λ d. not (holds_wire d)) (take n t) c.loop-i.i over in
-    let heard_all : c.loop-j.next ≡ map_front (λ d. hear_of d c.loop-i.line) n t =
-    c.loop-j.invariant.1 ∙ rw most2 (front-most n 32 t l (λ d. hear_of d c.loop-i.line)) in
-    rw (passed, ← shown, heard_all) }
+    record {
+      answer = let a = c.args in
+          let n = a.bench.count in
+          let t = a.bench.devices in
+          let l = long (goal.at.returns c).Start in
+          let most : c.loop-i.i ≡ min n 32 = omega (arith, c.places-taken.ensures.answer) in
+          let most2 : c.loop-j.j ≡ min n 32 = omega (arith, c.places-taken.ensures.answer) in
+          let shown : c.loop-i.line ≡ (a.bit && all offer_of (take n t)) =
+          c.loop-i.invariant.1 ∙ ap (fold (λ b d. b && offer_of d) a.bit) (rw most (taken-most n 32 t l))
+          ∙ all-fold offer_of a.bit (take n t)
+          in
+          let over : length (take n t) ≤ c.loop-i.i = omega (arith, length-take n t) in
+          let passed : all (λ d. not (holds_wire d)) (take n t) ≡ true =
+          sym c.loop-i.invariant.2 ∙ all_end (λ d. not (holds_wire d)) (take n t) c.loop-i.i over in
+          let heard_all : c.loop-j.next ≡ map_front (λ d. hear_of d c.loop-i.line) n t =
+          c.loop-j.invariant.1 ∙ rw most2 (front-most n 32 t l (λ d. hear_of d c.loop-i.line)) in
+          rw (passed, ← shown, heard_all);
+    }

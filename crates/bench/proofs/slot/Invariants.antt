@@ -1,21 +1,13 @@
-use Prim.Native.Nat.{◌≤◌, ◌<◌, ◌-◌, min}
-use mathlib.Core.Bool.{true, false, not, ◌&&◌}
-use mathlib.Core.Logic.{⊎_elim}
-use mathlib.Core.Path.{◌≡◌, ◌∙◌, sym, ap, refl}
-use native.Mathlib.Omega.{arith}
-use lib.ListN.{length, take, length-take, length-map}
-use Rattle.basic_laws.specs.FirstLaws.{onward, all-onward, all-stopped}
+use Prim.Native.Nat.{◌≤◌, ◌-◌}
+use mathlib.Core.Bool.{not, ◌&&◌}
+use mathlib.Core.Path.{◌≡◌}
+use lib.ListN.{take}
+use Rattle.basic_laws.specs.FirstLaws.{onward}
 use Rattle.basic_laws.specs.Fold.{fold, all}
-use Rattle.basic_laws.specs.FoldLaws.{all_end, all-fold, fold_step}
 use Rattle.basic_laws.specs.Front.{map_front}
-use Rattle.basic_laws.specs.FrontLaws.{front-none, front-more}
 use Rattle.device.specs.Hear.{hear_of}
 use Rattle.device.specs.Offer.{offer_of}
 use Rattle.device.specs.Record.{holds_wire}
-use Rattle.bench.specs.Taken.{taken-most, front-most, front_kept}
-use Rattle.bench.specs.Bench.{free}
-use Rattle.bench.specs.Slot.{line_bit, heard, slotted}
-use Rattle.device.specs.StillLaws.{still-stays}
 use Rattle.bench.proofs.slot.Given as goal
 
 abbrev pub invariant-loop-i : goal.invariant-loop-i

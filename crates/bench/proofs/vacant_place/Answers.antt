@@ -1,6 +1,5 @@
 -- The record is the definition's.
 use Rattle.bench.specs.Bench.{vacant}
-use borrow.Author.Rules.{rules}
 use Rattle.bench.proofs.vacant_place.Goals as goal
 
 pub returns : goal.returns

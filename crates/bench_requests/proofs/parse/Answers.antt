@@ -1,7 +1,6 @@
 -- By the definition's own tests.
 use borrow.Author.Tests.{lt-leb, le-leb}
 use Rattle.bench_requests.specs.Requests.{request_of}
-use borrow.Author.Rules.{rules}
 use Rattle.bench_requests.proofs.parse.Goals as goal
 
 pub returns-then-line-gt-LONGEST : goal.returns-then-line-gt-LONGEST

@@ -1,5 +1,4 @@
 -- The family of the code, then its properties.
-use borrow.Author.Rules.{rules}
 use Rattle.device.proofs.family_row.Goals as goal
 
 pub returns : goal.returns

@@ -1,6 +1,5 @@
 -- The row of the family, then the pins.
 use Rattle.device.specs.Record.{row_of}
-use borrow.Author.Rules.{rules}
 use Rattle.device.proofs.row_of.Goals as goal
 
 pub returns : goal.returns

@@ -1,6 +1,5 @@
 -- With a configuration and without one.
 use Rattle.device.specs.Settings.{settings_in}
-use borrow.Author.Rules.{rules}
 use Rattle.device.proofs.settings_in.Goals as goal
 
 pub returns-then-row : goal.returns-then-row

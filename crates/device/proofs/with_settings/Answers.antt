@@ -1,6 +1,5 @@
 -- With a configuration and without one; each byte goes to its own place.
 use Rattle.device.specs.Settings.{with_settings}
-use borrow.Author.Rules.{rules}
 use Rattle.device.proofs.with_settings.Goals as goal
 
 pub returns-then-row : goal.returns-then-row

@@ -1,13 +1,12 @@
 use mathlib.Core.Bool.{◌&&◌}
 use borrow.Author.Tests.{eq-eqb, ne_eqb}
 use lib.Dec.{eqb, lit<}
-use Prim.Native.Nat.{◌+◌, ◌/◌, ◌%◌, ◌^◌, ◌<◌, ◌-◌}
+use Prim.Native.Nat.{◌+◌, ◌/◌, ◌%◌, ◌^◌}
 use mathlib.Core.Path.{◌≡◌, refl, sym, ◌∙◌}
 use native.Mathlib.Omega.{arith}
-use lib.ListN.{length, drop, get_or}
+use lib.ListN.{drop, get_or}
 use Rattle.frame.specs.Frames.{clear_from}
 use Rattle.frame.specs.FramesLaws.{clear-start, clear_step, clear-end}
-use borrow.Author.Rules.{rules}
 use Rattle.frame.proofs.clear_from.Goals as goal
 use Rattle.frame.proofs.clear_from.Goals.{After-shared_slice_known-1}
 
@@ -18,13 +17,11 @@ step : (c : After-shared_slice_known-1) → clear_from c.loop-i.from
     ^ c.loop-i.from) 0
     && clear_from 0 (drop (c.loop-i.i + 1) c.args.bytes.now))
 step c =
-    
     clear_step c.args.bytes.now c.loop-i.from c.loop-i.i c.loop-i.invariant.0
     c.loop-i-test.true (c.shared_slice_known-1.given c.loop-i.i).fits
 
 pub loop-i-init : goal.loop-i-init
-loop-i-init c =
-    (
+loop-i-init c = (
   omega arith,
   clear-start c.args.bytes.now (c.args.place % 8) (c.args.place / 8)
       c.args.place refl refl,
@@ -32,8 +29,10 @@ loop-i-init c =
 
 pub returns-then-rest-ne0 : goal.returns-then-rest-ne0
 returns-then-rest-ne0 c =
-    record { answer = let x = get_or c.args.bytes.now c.loop-i.i 0 in
-    sym (sym c.loop-i.invariant.1 ∙ step (goal.at.returns-then-rest-ne0 c).After-shared_slice_known-1 ∙ rw (ne_eqb (x / 2 ^ c.loop-i.from) 0 c.if-rest-ne0.true)) }
+    record {
+      answer = let x = get_or c.args.bytes.now c.loop-i.i 0 in
+          sym (sym c.loop-i.invariant.1 ∙ step (goal.at.returns-then-rest-ne0 c).After-shared_slice_known-1 ∙ rw (ne_eqb (x / 2 ^ c.loop-i.from) 0 c.if-rest-ne0.true));
+    }
 
 pub loop-i-preserved : goal.loop-i-preserved
 loop-i-preserved c =
@@ -44,5 +43,7 @@ loop-i-preserved c =
 
 pub returns : goal.returns
 returns c =
-    record { answer = sym (sym c.loop-i.invariant.1 ∙ clear-end c.args.bytes.now c.loop-i.from c.loop-i.i
-    c.loop-i-test.false) }
+    record {
+      answer = sym (sym c.loop-i.invariant.1 ∙ clear-end c.args.bytes.now c.loop-i.from c.loop-i.i
+          c.loop-i-test.false);
+    }

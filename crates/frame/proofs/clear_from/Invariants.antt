@@ -1,14 +1,9 @@
 -- The loop's invariant: whether the bytes from `i` on are clear, from bit `from` of the first, is the answer. The
 -- measure is what is left.
-use mathlib.Core.Bool.{◌&&◌}
-use borrow.Author.Tests.{eq-eqb, ne_eqb}
-use lib.Dec.{eqb, lit<}
-use Prim.Native.Nat.{◌+◌, ◌/◌, ◌%◌, ◌^◌, ◌<◌, ◌-◌}
-use mathlib.Core.Path.{◌≡◌, refl, sym, ◌∙◌}
-use native.Mathlib.Omega.{arith}
-use lib.ListN.{length, drop, get_or}
+use Prim.Native.Nat.{◌<◌, ◌-◌}
+use mathlib.Core.Path.{◌≡◌}
+use lib.ListN.{length, drop}
 use Rattle.frame.specs.Frames.{clear_from}
-use Rattle.frame.specs.FramesLaws.{clear-start, clear_step, clear-end}
 use Rattle.frame.proofs.clear_from.Given as goal
 
 abbrev pub invariant-loop-i : goal.invariant-loop-i

@@ -1,9 +1,8 @@
 -- Below the most slots one byte is replaced, and so one bit of all.
-use Prim.Native.Nat.{ℕ, ◌+◌, ◌/◌, ◌<◌, ◌≤◌}
-use mathlib.Core.Path.{◌≡◌, refl, sym, ap, ◌∙◌}
+use Prim.Native.Nat.{ℕ, ◌+◌, ◌/◌, ◌<◌}
+use mathlib.Core.Path.{◌≡◌, sym, ap, ◌∙◌}
 use native.Mathlib.Omega.{arith}
-use borrow.Author.Tests.{le-ltb}
-use lib.ListN.{set, get_or, length-map}
+use lib.ListN.{set, get_or}
 use mir.Syntax.{w8}
 use mir.Val.{Fits}
 use Rattle.frame.specs.Frames.{slots_of, pushed, Held}

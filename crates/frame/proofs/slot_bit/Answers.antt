@@ -1,7 +1,7 @@
 -- Past the count or past the array there is no slot; else the bit of its byte.
-use lib.ListN.{length, length-map}
+use lib.ListN.{length}
 use mathlib.Core.Path.{◌≡◌, sym}
-use Rattle.frame.specs.FramesLaws.{slot-none, slot-past, slot-here}
+use Rattle.frame.specs.FramesLaws.{slot-past, slot-here}
 use borrow.Author.Rules.{rules}
 use Rattle.frame.proofs.slot_bit.Goals as goal
 use Rattle.frame.proofs.slot_bit.Goals.{Start}
@@ -12,10 +12,14 @@ long c =
 
 pub returns-then-i-ge-MOST_SLOTS : goal.returns-then-i-ge-MOST_SLOTS
 returns-then-i-ge-MOST_SLOTS c =
-    record { answer = sym (slot-past c.args.f c.args.i
-    (long (goal.at.returns-then-i-ge-MOST_SLOTS c).Start) c.if-i-ge-MOST_SLOTS.true) }
+    record {
+      answer = sym (slot-past c.args.f c.args.i
+          (long (goal.at.returns-then-i-ge-MOST_SLOTS c).Start) c.if-i-ge-MOST_SLOTS.true);
+    }
 
 pub returns : goal.returns
 returns c =
-    record { answer = sym (slot-here c.args.f c.args.i
-    (long (goal.at.returns c).Start) c.if-count-i.false c.if-i-ge-MOST_SLOTS.false) }
+    record {
+      answer = sym (slot-here c.args.f c.args.i
+          (long (goal.at.returns c).Start) c.if-count-i.false c.if-i-ge-MOST_SLOTS.false);
+    }

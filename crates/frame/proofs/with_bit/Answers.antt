@@ -7,7 +7,6 @@ use lib.Pow.{pow_mono}
 use Rattle.basic_laws.specs.Bits.{bit_number}
 use Rattle.frame.specs.Frames.{with_bit}
 use Rattle.frame.specs.FramesLaws.{with-sum, with-lt}
-use borrow.Author.Rules.{rules}
 use Rattle.frame.proofs.with_bit.Goals as goal
 use Rattle.frame.proofs.with_bit.Goals.{Start}
 

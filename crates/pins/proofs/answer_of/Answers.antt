@@ -21,10 +21,10 @@ slice_bounds-shared_pin-end c =
 pub returns : goal.returns
 returns c =
     ap (λ s. record {
-  refusal = 0;
-  codes = c.args.read.codes;
-  pins = c.args.read.pins;
-  shared = s;
-  bench =
-      c.args.read.bench;
-}) c.shared_pin-shared.ensures
+      refusal = 0;
+      codes = c.args.read.codes;
+      pins = c.args.read.pins;
+      shared = s;
+      bench =
+          c.args.read.bench;
+    }) c.shared_pin-shared.ensures

@@ -1,6 +1,5 @@
 -- By the test.
 use borrow.Author.Tests.{eq-eqb, ne_eqb}
-use borrow.Author.Rules.{rules}
 use Rattle.pins.proofs.count_pin.Goals as goal
 
 pub returns-then-there-pin : goal.returns-then-there-pin

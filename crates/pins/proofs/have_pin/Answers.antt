@@ -1,7 +1,7 @@
-use Prim.Native.Nat.{ℕ, ◌+◌, ◌-◌, ◌≤◌}
-use mathlib.Core.Path.{◌≡◌, ap, ◌∙◌}
+use Prim.Native.Nat.{ℕ, ◌+◌}
+use mathlib.Core.Path.{ap, ◌∙◌}
 use native.Mathlib.Omega.{arith}
-use lib.ListN.{length, take, get_or, length-take}
+use lib.ListN.{take, get_or, length-take}
 use mathlib.Core.List.{List}
 use lib.Seq.{take_all}
 use Rattle.master_rules.specs.Pins.{have_pin}

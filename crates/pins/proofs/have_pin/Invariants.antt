@@ -1,13 +1,8 @@
 -- The loop's invariant: so many of those passed have the number. The measure is how many are left.
-use Prim.Native.Nat.{ℕ, ◌+◌, ◌-◌, ◌≤◌}
-use mathlib.Core.Path.{◌≡◌, ap, ◌∙◌}
-use native.Mathlib.Omega.{arith}
-use lib.ListN.{length, take, get_or, length-take}
-use mathlib.Core.List.{List}
-use lib.Seq.{take_all}
+use Prim.Native.Nat.{◌-◌, ◌≤◌}
+use mathlib.Core.Path.{◌≡◌}
+use lib.ListN.{length, take}
 use Rattle.master_rules.specs.Pins.{have_pin}
-use Rattle.pins.specs.ReadingLaws.{have-none, have-more, have-few}
-use Rattle.pins.specs.Reading.{counted_pin}
 use Rattle.pins.proofs.have_pin.Given as goal
 
 abbrev pub invariant-loop-i : goal.invariant-loop-i

@@ -1,5 +1,4 @@
 -- The row of the code's family says so.
-use borrow.Author.Rules.{rules}
 use Rattle.pins.proofs.is_pinned.Goals as goal
 
 pub returns : goal.returns

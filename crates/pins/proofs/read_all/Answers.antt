@@ -1,12 +1,9 @@
-use Prim.Native.Nat.{◌-◌, ◌≤◌}
-use mathlib.Core.Path.{◌≡◌, refl}
+use mathlib.Core.Path.{refl}
 use native.Mathlib.Omega.{arith}
-use lib.ListN.{length, take}
 use lib.Seq.{take_all}
 use Rattle.basic_laws.specs.Fold.{fold}
 use Rattle.basic_laws.specs.FoldLaws.{fold_step}
 use Rattle.master_rules.specs.Pins.{pins_step, nobody_read}
-use Rattle.pins.specs.Reading.{Holds}
 use Rattle.pins.specs.ReadingLaws.{holds-none}
 use borrow.Author.Rules.{rules}
 use Rattle.pins.proofs.read_all.Goals as goal

@@ -1,15 +1,11 @@
 -- The loop's invariant: the reading and the list hold what the codes so far have given, and no more codes than were
 -- passed. The measure is how many are left.
 use Prim.Native.Nat.{◌-◌, ◌≤◌}
-use mathlib.Core.Path.{◌≡◌, refl}
-use native.Mathlib.Omega.{arith}
+use mathlib.Core.Path.{◌≡◌}
 use lib.ListN.{length, take}
-use lib.Seq.{take_all}
 use Rattle.basic_laws.specs.Fold.{fold}
-use Rattle.basic_laws.specs.FoldLaws.{fold_step}
 use Rattle.master_rules.specs.Pins.{pins_step, nobody_read}
 use Rattle.pins.specs.Reading.{Holds}
-use Rattle.pins.specs.ReadingLaws.{holds-none}
 use Rattle.pins.proofs.read_all.Given as goal
 
 abbrev pub invariant-loop-i : goal.invariant-loop-i

@@ -2,9 +2,7 @@
 -- `holds_read`).
 use mathlib.Core.Path.{sym, ◌∙◌}
 use native.Mathlib.Omega.{arith}
-use borrow.Author.Tests.{not-true, not-false}
 use Rattle.pins.specs.ReadingLaws.{holds-skip, holds-refused, holds_read}
-use borrow.Author.Rules.{rules}
 use Rattle.pins.proofs.read_one.Goals as goal
 
 pub returns-then-not-is_pinned : goal.returns-then-not-is_pinned
@@ -27,7 +25,6 @@ pub returns : goal.returns
 returns c =
     let some = sym c.is_pinned.ensures.answer ∙ c.if-not-is_pinned.false in
     let done = rw c.read_at-access.ensures.answer at c.if-access-ne-ACCEPTED.false in
-    
     let a = c.args in (
       omega arith,
       λ list0 f h. rw c.read_at-access.ensures.answer

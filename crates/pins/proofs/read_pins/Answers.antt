@@ -4,7 +4,6 @@ use lib.ListN.{length}
 use Rattle.basic_laws.specs.LaidLaws.{laid_none}
 use Rattle.access_laws.proofs.PinningLaws.{pins-promised}
 use Rattle.pins.specs.OutcomeLaws.{few-places, enough-places}
-use borrow.Author.Rules.{rules}
 use Rattle.pins.proofs.read_pins.Goals as goal
 
 pub returns-then-list-lt-FEWEST_PLACES : goal.returns-then-list-lt-FEWEST_PLACES

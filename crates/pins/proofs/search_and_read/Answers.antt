@@ -6,7 +6,6 @@ use lib.Seq.{length-take-le}
 use Rattle.basic_laws.specs.LaidLaws.{laid_none}
 use Rattle.master_rules.specs.Pins.{nobody_read, pinned_of, pins_list_after}
 use Rattle.pins.specs.OutcomeLaws.{listed-most, listed-within, refused-is, done-is, read-few, holds-answer}
-use borrow.Author.Rules.{rules}
 use Rattle.pins.proofs.search_and_read.Goals as goal
 
 pub returns-then-searched-ne-ACCEPTED : goal.returns-then-searched-ne-ACCEPTED
@@ -34,8 +33,6 @@ slice_bounds-read_all-end-2 c =
 pub answer_of-requires : goal.answer_of-requires
 answer_of-requires c =
     let read = c.read_all in
-    
-    
     let a = c.args in
     let done = c.search-searched.ensures in
     let most = listed-most a.bench a.found.now a.recording.now c.search-searched.new.list
@@ -48,8 +45,6 @@ answer_of-requires c =
 pub returns : goal.returns
 returns c =
     let read = c.read_all in
-    
-    
     let a = c.args in
     let done = c.search-searched.ensures in
     let is = done-is a.bench a.found.now a.recording.now c.search-searched.new.list

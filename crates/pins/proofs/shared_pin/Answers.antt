@@ -1,7 +1,5 @@
-use Prim.Native.Nat.{◌-◌, ◌≤◌}
-use mathlib.Core.Path.{◌≡◌, refl, sym, ◌∙◌}
+use mathlib.Core.Path.{refl, sym, ◌∙◌}
 use native.Mathlib.Omega.{arith}
-use Rattle.master_rules.specs.Pins.{shared_from, shared_pin}
 use Rattle.pins.specs.ReadingLaws.{shared-here, shared-on, shared-none}
 use borrow.Author.Rules.{rules}
 use Rattle.pins.proofs.shared_pin.Goals as goal

@@ -1,10 +1,8 @@
 -- The loop's invariant: from the number that is looked at on, the answer is still to come. The measure is how many
 -- numbers are left.
 use Prim.Native.Nat.{◌-◌, ◌≤◌}
-use mathlib.Core.Path.{◌≡◌, refl, sym, ◌∙◌}
-use native.Mathlib.Omega.{arith}
+use mathlib.Core.Path.{◌≡◌}
 use Rattle.master_rules.specs.Pins.{shared_from, shared_pin}
-use Rattle.pins.specs.ReadingLaws.{shared-here, shared-on, shared-none}
 use Rattle.pins.proofs.shared_pin.Given as goal
 
 abbrev pub invariant-loop-pin : goal.invariant-loop-pin

@@ -1,12 +1,9 @@
 -- The loop's invariant: whether all are zero is left to the bytes from i on.
-use Prim.Native.Nat.{◌≤◌, ◌<◌, ◌-◌}
-use mathlib.Core.Path.{◌≡◌, ◌∙◌, sym, refl}
-use native.Mathlib.Omega.{arith}
-use borrow.Author.Tests.{eq-eqb, ne_eqb}
+use Prim.Native.Nat.{◌≤◌, ◌-◌}
+use mathlib.Core.Path.{◌≡◌}
 use lib.Dec.{eqb}
-use lib.ListN.{length, drop}
+use lib.ListN.{drop}
 use Rattle.basic_laws.specs.Fold.{all}
-use Rattle.basic_laws.specs.FoldLaws.{all-passes, all-fails, all_end}
 use Rattle.scratchpad.proofs.all_zeros.Given as goal
 
 abbrev pub invariant-loop-i : goal.invariant-loop-i

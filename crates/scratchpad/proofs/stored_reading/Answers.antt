@@ -1,6 +1,5 @@
 -- The count is measured with the configuration that stands in the scratchpad.
 use Rattle.scratchpad.specs.Stored.{stored_reading}
-use borrow.Author.Rules.{rules}
 use Rattle.scratchpad.proofs.stored_reading.Goals as goal
 
 pub returns : goal.returns

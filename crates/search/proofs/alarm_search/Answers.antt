@@ -1,7 +1,6 @@
 -- The answer, the list and the recording are those of the run; that it misses nobody, after every history, is the
 -- theorem of demand 3.
 use Rattle.history_laws.proofs.Theorem.{alarm-promised}
-use borrow.Author.Rules.{rules}
 use Rattle.search.proofs.alarm_search.Goals as goal
 
 pub returns : goal.returns

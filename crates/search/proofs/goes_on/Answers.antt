@@ -1,5 +1,4 @@
 -- The two cases of the definition.
-use borrow.Author.Rules.{rules}
 use Rattle.search.proofs.goes_on.Goals as goal
 
 pub returns-then-answered : goal.returns-then-answered

@@ -9,7 +9,6 @@ use Rattle.frame.specs.Frames.{blank_frame}
 use Rattle.frame.specs.FramesLaws.{blank-lineable}
 use Rattle.frame.specs.Writing.{fed_line}
 use Rattle.search.specs.Sweep.{frame-written, blank-line, absence-is, lonely-recording}
-use borrow.Author.Rules.{rules}
 use Rattle.search.proofs.record_absence.Goals as goal
 use Rattle.search.proofs.record_absence.Goals.{After-write_line_at-written}
 
@@ -17,7 +16,6 @@ wrote : (c : After-write_line_at-written) → (c.write_line_at-written.result.ne
     × (c.write_line_at-written.new.s ≡ laid c.args.recording.now 0
     (fed_line (blank_frame false)))
 wrote c =
-    
     let n = blank-line in
     let w = frame-written c.args.recording.now 0 (blank_frame false) (blank-lineable false) (omega arith)
     (omega arith) in

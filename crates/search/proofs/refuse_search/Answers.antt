@@ -1,7 +1,6 @@
 -- A refusal counts nothing.
 use mathlib.Core.Path.{sym}
 use Rattle.search.specs.Sweep.{refused-answer}
-use borrow.Author.Rules.{rules}
 use Rattle.search.proofs.refuse_search.Goals as goal
 
 pub returns : goal.returns

@@ -8,7 +8,6 @@ use Rattle.bench.specs.Slot.{reset_done}
 use Rattle.master_rules.specs.Search.{answer_of, lonely_outcome}
 use Rattle.master_rules.specs.SearchLaws.{few-places, few_bytes, wire-held, nobody-there, passes-made}
 use Rattle.search.specs.Sweep.{unrecorded, answer_by, found-answer, found-list, found-recording}
-use borrow.Author.Rules.{rules}
 use Rattle.search.proofs.run_search.Goals as goal
 
 pub returns-then-list-lt-FEWEST_PLACES : goal.returns-then-list-lt-FEWEST_PLACES

@@ -1,16 +1,10 @@
-use Prim.Native.Nat.{◌+◌, ◌≤◌, ◌-◌}
-use mathlib.Core.List.{List}
-use Prim.Native.Nat.{ℕ}
+use Prim.Native.Nat.{◌+◌}
 use mathlib.Core.Path.{◌≡◌, refl, ap, ◌∙◌}
-use mathlib.Core.Logic.{⊎_elim}
 use native.Mathlib.Omega.{arith}
 use lib.Dec.{lit<}
 use lib.ListN.{length}
-use Rattle.bench.specs.declared.Bench.{Bench}
-use Rattle.master_rules.specs.Search.{fewest_places, fewest_bytes}
 use Rattle.search.specs.Sweep.{Sweeping, no_pass, sweeping-start, sweeping-as, sweeping-pass, sweeping-over}
 use Rattle.search.specs.Sweep.{sweeping-lengths, sweeping-end}
-use borrow.Author.Rules.{rules}
 use Rattle.search.proofs.sweep_wire.Goals as goal
 use Rattle.search.proofs.sweep_wire.Goals.{At-loop-i, then-s, else-s}
 
@@ -49,22 +43,21 @@ turn-s-requires-then-s c =
     (k.counted, omega arith, omega arith, omega arith)
 
 pub loop-i-preserved : goal.loop-i-preserved
-loop-i-preserved c =
-    (
-      omega arith,
-      λ b l r places room begun.
-          let k = c.loop-i.invariant.1 b l r places room begun in
-          elim c.if-s.branch [
-            then-s t ↦
-              let e = t.turn-s-then-s.ensures in
-              sweeping-as _ _ _ _ (c.loop-i.i + 1) (t.s-is ∙ e.answer) (t.list-is ∙ e.listed) (t.recording-is ∙ e.written)
-              (sweeping-pass _ _ _ _ c.loop-i.i c.loop-i.s c.loop-i.list c.loop-i.recording k t.reset-r.result.bench
-              (ap (λ r. r.bench) t.reset-r.ensures.answer)
-              c.loop-i-test.true t.if-s.true places room)
-            | else-s t ↦ rw (t.list-is, t.recording-is, t.s-is) (sweeping-over _ _ _ _ c.loop-i.i c.loop-i.s c.loop-i.list
-              c.loop-i.recording k t.if-s.false)
-          ],
-    )
+loop-i-preserved c = (
+  omega arith,
+  λ b l r places room begun.
+      let k = c.loop-i.invariant.1 b l r places room begun in
+      elim c.if-s.branch [
+        | then-s t ↦
+            let e = t.turn-s-then-s.ensures in
+            sweeping-as _ _ _ _ (c.loop-i.i + 1) (t.s-is ∙ e.answer) (t.list-is ∙ e.listed) (t.recording-is ∙ e.written)
+            (sweeping-pass _ _ _ _ c.loop-i.i c.loop-i.s c.loop-i.list c.loop-i.recording k t.reset-r.result.bench
+            (ap (λ r. r.bench) t.reset-r.ensures.answer)
+            c.loop-i-test.true t.if-s.true places room)
+        | else-s t ↦ rw (t.list-is, t.recording-is, t.s-is) (sweeping-over _ _ _ _ c.loop-i.i c.loop-i.s c.loop-i.list
+            c.loop-i.recording k t.if-s.false)
+      ],
+)
 
 pub shape_of-list : goal.shape_of-list
 shape_of-list c =

@@ -1,18 +1,13 @@
 -- The first pass goes on from the reset that showed presence, so that it is the pass after a reset of the bench given.
 -- The loop's invariant: whatever the first pass has listed and recorded, after i passes the list and the recording hold
 -- what the passes so far have found and shown.
-use Prim.Native.Nat.{◌+◌, ◌≤◌, ◌-◌}
+use Prim.Native.Nat.{◌≤◌, ◌-◌}
 use mathlib.Core.List.{List}
 use Prim.Native.Nat.{ℕ}
-use mathlib.Core.Path.{◌≡◌, refl, ap, ◌∙◌}
-use mathlib.Core.Logic.{⊎_elim}
-use native.Mathlib.Omega.{arith}
-use lib.Dec.{lit<}
 use lib.ListN.{length}
 use Rattle.bench.specs.declared.Bench.{Bench}
 use Rattle.master_rules.specs.Search.{fewest_places, fewest_bytes}
-use Rattle.search.specs.Sweep.{Sweeping, no_pass, sweeping-start, sweeping-as, sweeping-pass, sweeping-over}
-use Rattle.search.specs.Sweep.{sweeping-lengths, sweeping-end}
+use Rattle.search.specs.Sweep.{Sweeping}
 use Rattle.search.proofs.sweep_wire.Given as goal
 
 abbrev pub invariant-loop-i : goal.invariant-loop-i

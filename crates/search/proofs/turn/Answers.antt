@@ -6,7 +6,6 @@ use lib.ListN.{length}
 use Rattle.basic_laws.specs.Laid.{laid}
 use Rattle.frame.specs.Writing.{fed_line}
 use Rattle.search.specs.Sweep.{pass_from, PassFrame, next-frame, frame-written, swept-is}
-use borrow.Author.Rules.{rules}
 use Rattle.search.proofs.turn.Goals as goal
 use Rattle.search.proofs.turn.Goals.{After-pass-w, After-write_line_at-written}
 

@@ -1,6 +1,5 @@
 -- With a place left, and without one.
 use borrow.Author.Tests.{le-ltb, lt-ltb}
-use borrow.Author.Rules.{rules}
 use Rattle.settings.proofs.add_first.Goals as goal
 
 pub returns-then-place-ge32 : goal.returns-then-place-ge32

@@ -1,12 +1,11 @@
 -- Each of the three by its own alteration.
-use borrow.Author.Rules.{rules}
 use Rattle.settings.proofs.alter_settings.Goals as goal
 
 pub returns : goal.returns
 returns c =
     simp (
-  c.keep.ensures,
-  c.alter_byte-3.ensures,
-  c.alter_byte-2.ensures,
-  c.alter_byte.ensures,
-)
+      c.keep.ensures,
+      c.alter_byte-3.ensures,
+      c.alter_byte-2.ensures,
+      c.alter_byte.ensures,
+    )

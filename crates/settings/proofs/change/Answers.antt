@@ -2,7 +2,6 @@
 -- the last version is the entry's own test.
 use Rattle.settings.specs.Calls.{settings_changed}
 use borrow.Author.Tests.{eq-eqb, ne_eqb}
-use borrow.Author.Rules.{rules}
 use Rattle.settings.proofs.change.Goals as goal
 
 pub returns-then-found-ne-ACCEPTED : goal.returns-then-found-ne-ACCEPTED
@@ -13,12 +12,14 @@ returns-then-found-ne-ACCEPTED c =
 pub returns-then-version-entry : goal.returns-then-version-entry
 unfolding settings_changed
 returns-then-version-entry c =
-    record { answer = simp (
-      ← c.locate-found.ensures.answer,
-      eq-eqb _ _ c.if-found-ne-ACCEPTED.false,
-      ne_eqb _ _ c.if-version-entry.true,
-      c.refuse_change-then-version-entry.ensures,
-    ) }
+    record {
+      answer = simp (
+        ← c.locate-found.ensures.answer,
+        eq-eqb _ _ c.if-found-ne-ACCEPTED.false,
+        ne_eqb _ _ c.if-version-entry.true,
+        c.refuse_change-then-version-entry.ensures,
+      );
+    }
 
 pub change_entry-requires : goal.change_entry-requires
 change_entry-requires c =
@@ -27,9 +28,11 @@ change_entry-requires c =
 pub returns : goal.returns
 unfolding settings_changed
 returns c =
-    record { answer = simp (
-      ← c.locate-found.ensures.answer,
-      eq-eqb _ _ c.if-found-ne-ACCEPTED.false,
-      eq-eqb _ _ c.if-version-entry.false,
-      c.change_entry.ensures,
-    ) }
+    record {
+      answer = simp (
+        ← c.locate-found.ensures.answer,
+        eq-eqb _ _ c.if-found-ne-ACCEPTED.false,
+        eq-eqb _ _ c.if-version-entry.false,
+        c.change_entry.ensures,
+      );
+    }

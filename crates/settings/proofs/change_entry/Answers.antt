@@ -1,6 +1,5 @@
 -- At the last version, and before it.
 use borrow.Author.Tests.{eq-eqb, ne_eqb}
-use borrow.Author.Rules.{rules}
 use Rattle.settings.proofs.change_entry.Goals as goal
 
 pub returns-then-version : goal.returns-then-version

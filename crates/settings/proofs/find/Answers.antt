@@ -1,12 +1,9 @@
-use Prim.Native.Nat.{◌≤◌, ◌<◌, ◌-◌}
-use mathlib.Core.Logic.{⊎_elim}
+use Prim.Native.Nat.{◌≤◌, ◌<◌}
 use mathlib.Core.Path.{◌≡◌, ◌∙◌, sym, refl}
 use native.Mathlib.Omega.{arith}
 use borrow.Author.Tests.{eq-eqb, ne_eqb}
-use lib.Dec.{eqb}
-use lib.ListN.{length, length-map, length-take, take}
-use Rattle.basic_laws.specs.First.{first_with}
-use Rattle.basic_laws.specs.FirstLaws.{onward, first-hit, first-miss, first-skip, first-end}
+use lib.ListN.{length, length-take, take}
+use Rattle.basic_laws.specs.FirstLaws.{first-hit, first-miss, first-skip, first-end}
 use Rattle.settings.specs.Store.{kept_at}
 use Rattle.settings.specs.declared.Kept.TheVariants.{At, Nowhere}
 use borrow.Author.Rules.{rules}
@@ -36,7 +33,7 @@ loop-i-preserved c =
     let h : c.loop-i.i < length c.args.store.entries = omega arith in (
       omega arith,
       elim c.if-i-count.branch [
-        then-i-count+else-own-code w ↦ sym (first-miss _ At Nowhere _ _ _ _ w.if-i-count.true h (ne_eqb _ _ w.if-own-code.false)) ∙ c.loop-i.invariant.1
+        | then-i-count+else-own-code w ↦ sym (first-miss _ At Nowhere _ _ _ _ w.if-i-count.true h (ne_eqb _ _ w.if-own-code.false)) ∙ c.loop-i.invariant.1
         | else-i-count w ↦ sym (first-skip _ At Nowhere _ _ _ w.if-i-count.false) ∙ c.loop-i.invariant.1
       ],
     )

@@ -1,7 +1,7 @@
 -- The tests come in the order of the refusals: the code itself, then whether it is there. A place that was found lies
 -- within the table, and so does 0.
 use mathlib.Core.Path.{◌≡◌, sym, ◌∙◌}
-use lib.ListN.{length, length-map}
+use lib.ListN.{length}
 use Rattle.settings.specs.Calls.{located}
 use Rattle.settings.specs.StoreLaws.{kept-within, located-within}
 use borrow.Author.Tests.{eq-eqb, ne_eqb}

@@ -1,5 +1,4 @@
 -- The code is there, or it was removed.
-use borrow.Author.Rules.{rules}
 use Rattle.settings.proofs.locate_at.Goals as goal
 
 pub returns-then-entry : goal.returns-then-entry

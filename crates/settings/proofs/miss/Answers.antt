@@ -1,5 +1,4 @@
 -- The entry is the blank one.
-use borrow.Author.Rules.{rules}
 use Rattle.settings.proofs.miss.Goals as goal
 
 pub returns : goal.returns

@@ -1,6 +1,5 @@
 -- What was located, without its place.
 use Rattle.settings.specs.Calls.{settings_read}
-use borrow.Author.Rules.{rules}
 use Rattle.settings.proofs.read.Goals as goal
 
 pub returns : goal.returns

@@ -1,7 +1,6 @@
 -- The code is there, or not.
 use Rattle.settings.specs.Calls.{settings_removed}
 use borrow.Author.Tests.{eq-eqb, ne_eqb}
-use borrow.Author.Rules.{rules}
 use Rattle.settings.proofs.remove.Goals as goal
 
 pub returns-then-found-ne-ACCEPTED : goal.returns-then-found-ne-ACCEPTED

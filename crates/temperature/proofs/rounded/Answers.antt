@@ -4,9 +4,8 @@ use mathlib.Core.Path.{refl}
 use borrow.Author.Tests.{ne_eqb}
 use lib.Dec.{lit<}
 use Rattle.basic_laws.specs.Complement.{Fits16}
-use Rattle.basic_laws.proofs.ComplementLaws.{floor-code, floor-code-fits}
+use Rattle.basic_laws.proofs.ComplementLaws.{floor-code}
 use Rattle.basic_laws.proofs.RoundingLaws.{floor-one}
-use borrow.Author.Rules.{rules}
 use Rattle.temperature.proofs.rounded.Goals as goal
 use Rattle.temperature.proofs.rounded.Goals.{Start}
 
@@ -28,9 +27,11 @@ returns-in-2 c =
 
 pub returns-in_default : goal.returns-in_default
 returns-in_default c =
-    record { answer = simp (
-      ne_eqb _ 0 c.in_default.in_default-own.rest.0.0.1,
-      ne_eqb _ 1 c.in_default.in_default-own.rest.0.1,
-      ne_eqb _ 2 c.in_default.in_default-own.rest.1,
-      floor-one,
-    ) }
+    record {
+      answer = simp (
+        ne_eqb _ 0 c.in_default.in_default-own.rest.0.0.1,
+        ne_eqb _ 1 c.in_default.in_default-own.rest.0.1,
+        ne_eqb _ 2 c.in_default.in_default-own.rest.1,
+        floor-one,
+      );
+    }

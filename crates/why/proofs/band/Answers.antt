@@ -3,7 +3,6 @@ use mathlib.Core.Bool.{true, false}
 use mathlib.Core.Path.{◌≡◌}
 use lib.Signed.{le_z}
 use Rattle.basic_laws.proofs.ComplementLaws.{held_back}
-use borrow.Author.Rules.{rules}
 use Rattle.why.proofs.band.Goals as goal
 
 pub returns-then-degree-lower : goal.returns-then-degree-lower

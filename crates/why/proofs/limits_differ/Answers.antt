@@ -1,6 +1,5 @@
 -- Byte by byte, as the definition compares them.
 use borrow.Author.Tests.{ne_eqb, eq-eqb}
-use borrow.Author.Rules.{rules}
 use Rattle.why.proofs.limits_differ.Goals as goal
 
 pub returns-then-pad-page : goal.returns-then-pad-page

@@ -1,7 +1,6 @@
 -- Part by part, as the calls answer.
 use Rattle.why.specs.Why.{told_by}
 use borrow.Author.Tests.{not-true, not-false}
-use borrow.Author.Rules.{rules}
 use Rattle.why.proofs.say.Goals as goal
 
 pub returns-then-not-page : goal.returns-then-not-page

@@ -10,7 +10,6 @@ use Rattle.why.specs.Why.{silent, told_by, why_of}
 use Rattle.why.specs.WhyLaws.{why-refused, why-absent, why-there}
 use Rattle.why.specs.declared.rules.Reason.TheVariants.{NotOnBench}
 use Rattle.why.proofs.BookLaws.{why-promised}
-use borrow.Author.Rules.{rules}
 use Rattle.why.proofs.why.Goals as goal
 
 pub returns-then-refusal-ne-ACCEPTED : goal.returns-then-refusal-ne-ACCEPTED

@@ -1,10 +1,8 @@
-use Prim.Native.Nat.{◌≤◌, ◌<◌, ◌-◌, min}
+use Prim.Native.Nat.{◌<◌, min}
 use mathlib.Core.Bool.{not}
-use mathlib.Core.Logic.{⊎_elim}
 use mathlib.Core.Path.{◌≡◌, ◌∙◌, ap, sym}
 use native.Mathlib.Omega.{arith}
 use lib.ListN.{length}
-use Rattle.basic_laws.specs.Front.{map_front}
 use Rattle.basic_laws.specs.FrontLaws.{front-none, front-more}
 use Rattle.bench.specs.Taken.{front-most, front_kept}
 use Rattle.bench.specs.Settling.{settled_of, settled-quiet}
@@ -46,15 +44,17 @@ loop-i-preserved c =
     let quiet = ap not (sym c.is_quiet.ensures.answer) in (
       omega arith,
       elim c.if-not-is_quiet.branch [
-        then-not-is_quiet w ↦ w.next-is ∙ rw (w.settled.ensures.answer, c.loop-i.invariant.1) (front-more _ _ _ _)
+        | then-not-is_quiet w ↦ w.next-is ∙ rw (w.settled.ensures.answer, c.loop-i.invariant.1) (front-more _ _ _ _)
         | else-not-is_quiet w ↦ w.next-is ∙ front_kept _ _ _ _ _ c.loop-i.invariant.1 h
-          (settled-quiet a.place a.bit _ (quiet ∙ ap not w.if-not-is_quiet.false))
+            (settled-quiet a.place a.bit _ (quiet ∙ ap not w.if-not-is_quiet.false))
       ],
     )
 
 pub returns : goal.returns
 returns c =
-    record { answer = let a = c.args in
-    let long : length a.devices ≡ 32 = search rules in
-    let most : c.loop-i.i ≡ min a.count 32 = omega (arith, c.places-taken.ensures.answer) in
-    c.loop-i.invariant.1 ∙ rw most (front-most a.count 32 a.devices long (settled_of a.place a.bit)) }
+    record {
+      answer = let a = c.args in
+          let long : length a.devices ≡ 32 = search rules in
+          let most : c.loop-i.i ≡ min a.count 32 = omega (arith, c.places-taken.ensures.answer) in
+          c.loop-i.invariant.1 ∙ rw most (front-most a.count 32 a.devices long (settled_of a.place a.bit));
+    }

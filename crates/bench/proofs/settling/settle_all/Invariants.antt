@@ -1,15 +1,9 @@
 -- The loop's invariant: the devices before i are settled, and all others as they were; a quiet one is settled as it
 -- stands.
-use Prim.Native.Nat.{◌≤◌, ◌<◌, ◌-◌, min}
-use mathlib.Core.Bool.{not}
-use mathlib.Core.Logic.{⊎_elim}
-use mathlib.Core.Path.{◌≡◌, ◌∙◌, ap, sym}
-use native.Mathlib.Omega.{arith}
-use lib.ListN.{length}
+use Prim.Native.Nat.{◌≤◌, ◌-◌}
+use mathlib.Core.Path.{◌≡◌}
 use Rattle.basic_laws.specs.Front.{map_front}
-use Rattle.basic_laws.specs.FrontLaws.{front-none, front-more}
-use Rattle.bench.specs.Taken.{front-most, front_kept}
-use Rattle.bench.specs.Settling.{settled_of, settled-quiet}
+use Rattle.bench.specs.Settling.{settled_of}
 use Rattle.bench.proofs.settling.settle_all.Given as goal
 
 abbrev pub invariant-loop-i : goal.invariant-loop-i

@@ -1,6 +1,5 @@
 -- By whether the device is quiet.
 use Rattle.bench.specs.Settling.{settled_of}
-use borrow.Author.Rules.{rules}
 use Rattle.bench.proofs.settling.settled.Goals as goal
 
 pub returns-then-is_quiet : goal.returns-then-is_quiet
@@ -11,9 +10,11 @@ returns-then-is_quiet c =
 pub returns : goal.returns
 unfolding settled_of
 returns c =
-    record { answer = simp (
-      ← c.is_quiet.ensures.answer,
-      c.if-is_quiet.false,
-      c.with_stage.ensures.answer,
-      c.after_search.ensures.answer,
-    ) }
+    record {
+      answer = simp (
+        ← c.is_quiet.ensures.answer,
+        c.if-is_quiet.false,
+        c.with_stage.ensures.answer,
+        c.after_search.ensures.answer,
+      );
+    }

@@ -1,11 +1,9 @@
 -- The loop's invariant: whether the wire is free is left to the live devices from i on.
-use Prim.Native.Nat.{◌≤◌, ◌<◌, ◌-◌}
+use Prim.Native.Nat.{◌≤◌, ◌-◌}
 use mathlib.Core.Bool.{not}
-use mathlib.Core.Logic.{⊎_elim}
-use mathlib.Core.Path.{◌≡◌, ◌∙◌, sym, ap, refl}
-use native.Mathlib.Omega.{arith}
-use lib.ListN.{length, take}
-use Rattle.basic_laws.specs.FirstLaws.{onward, all-onward, all-stopped, all-skip, all-passed}
+use mathlib.Core.Path.{◌≡◌}
+use lib.ListN.{take}
+use Rattle.basic_laws.specs.FirstLaws.{onward}
 use Rattle.basic_laws.specs.Fold.{all}
 use Rattle.device.specs.Record.{holds_wire}
 use Rattle.bench.proofs.wire.is_free.Given as goal

@@ -1,11 +1,7 @@
 -- The loop's invariant: the live devices before i are changed, and all others as they were.
 use Prim.Native.Nat.{◌≤◌, ◌-◌, min}
-use mathlib.Core.Logic.{⊎_elim}
-use mathlib.Core.Path.{◌≡◌, ◌∙◌}
-use native.Mathlib.Omega.{arith}
-use lib.ListN.{length}
+use mathlib.Core.Path.{◌≡◌}
 use Rattle.basic_laws.specs.Front.{map_front}
-use Rattle.basic_laws.specs.FrontLaws.{upto-none, upto-more, upto_skip, upto-end}
 use Rattle.device.specs.Power.{reset_of}
 use Rattle.bench.proofs.wire.restart_all.Given as goal
 

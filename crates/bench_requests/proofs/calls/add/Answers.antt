@@ -1,7 +1,6 @@
 -- By the tests of the three fields.
 use mathlib.Core.Path.{ap, ◌∙◌}
 use Rattle.lines.specs.Fields.{code_in, power_in}
-use borrow.Author.Rules.{rules}
 use Rattle.bench_requests.proofs.calls.add.Goals as goal
 
 pub returns-then-s : goal.returns-then-s

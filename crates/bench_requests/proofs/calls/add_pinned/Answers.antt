@@ -4,7 +4,6 @@ use native.Mathlib.Omega.{arith}
 use Rattle.text.specs.NumbersLaws.{decimal-at-most}
 use Rattle.lines.specs.Fields.{pins_in}
 use Rattle.lines.specs.Words.{words_of, word_of}
-use borrow.Author.Rules.{rules}
 use Rattle.bench_requests.proofs.calls.add_pinned.Goals as goal
 
 pub overflow_cast-pins : goal.overflow_cast-pins

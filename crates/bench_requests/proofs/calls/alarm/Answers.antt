@@ -1,7 +1,6 @@
 -- By the tests of both fields.
 use mathlib.Core.Path.{ap, ◌∙◌}
 use Rattle.lines.specs.Fields.{places_in, bytes_in}
-use borrow.Author.Rules.{rules}
 use Rattle.bench_requests.proofs.calls.alarm.Goals as goal
 
 pub returns-then-bytes : goal.returns-then-bytes

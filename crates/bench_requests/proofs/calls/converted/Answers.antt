@@ -1,7 +1,6 @@
 -- By the tests of both fields.
 use mathlib.Core.Path.{ap, ◌∙◌}
 use Rattle.lines.specs.Fields.{code_in, count_in}
-use borrow.Author.Rules.{rules}
 use Rattle.bench_requests.proofs.calls.converted.Goals as goal
 
 pub returns-then-read : goal.returns-then-read

@@ -2,7 +2,6 @@
 use mathlib.Core.Path.{sym, ◌∙◌}
 use Rattle.bench_requests.specs.RequestsLaws.{row-add, row-pinned, row-reset, row-slot, row-converted, row_copied}
 use Rattle.bench_requests.specs.RequestsLaws.{row-cycle, row-show, row-why, no-bench-row}
-use borrow.Author.Rules.{rules}
 use Rattle.bench_requests.proofs.calls.of_bench.Goals as goal
 
 pub returns-then-asks : goal.returns-then-asks

@@ -2,7 +2,6 @@
 use mathlib.Core.Path.{sym, ◌∙◌}
 use Rattle.bench_requests.specs.RequestsLaws.{row-search-alone, row-alarm-alone, row-search, row-alarm, row_read}
 use Rattle.bench_requests.specs.RequestsLaws.{row_write, row-pins-alone, row-pins, no-master-row}
-use borrow.Author.Rules.{rules}
 use Rattle.bench_requests.proofs.calls.of_master.Goals as goal
 
 pub returns-then-asks : goal.returns-then-asks

@@ -1,7 +1,6 @@
 -- By the test of the field.
 use mathlib.Core.Path.{ap, ◌∙◌}
 use Rattle.lines.specs.Fields.{bit_in}
-use borrow.Author.Rules.{rules}
 use Rattle.bench_requests.proofs.calls.slot.Goals as goal
 
 pub returns-then-bit : goal.returns-then-bit

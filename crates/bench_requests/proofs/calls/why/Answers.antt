@@ -1,7 +1,6 @@
 -- By the test of the field.
 use mathlib.Core.Path.{ap, ◌∙◌}
 use Rattle.lines.specs.Fields.{code_in}
-use borrow.Author.Rules.{rules}
 use Rattle.bench_requests.proofs.calls.why.Goals as goal
 
 pub returns-then-code : goal.returns-then-code

@@ -1,7 +1,6 @@
 -- A minus, or a byte, whose two digits are below 256.
 use Rattle.lines.specs.FieldsLaws.{byte-below}
 use Rattle.bench_requests.specs.StoreRequests.{alter_in}
-use borrow.Author.Rules.{rules}
 use Rattle.bench_requests.proofs.settings_requests.alter_in.Goals as goal
 
 pub returns-then-same : goal.returns-then-same

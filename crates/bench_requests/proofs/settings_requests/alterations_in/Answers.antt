@@ -1,6 +1,5 @@
 -- Field by field.
 use Rattle.bench_requests.specs.StoreRequests.{alterations_in}
-use borrow.Author.Rules.{rules}
 use Rattle.bench_requests.proofs.settings_requests.alterations_in.Goals as goal
 
 pub returns : goal.returns

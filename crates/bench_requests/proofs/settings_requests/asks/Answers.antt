@@ -1,5 +1,4 @@
 -- By the words that stand first, then by how many there are.
-use borrow.Author.Rules.{rules}
 use Rattle.bench_requests.proofs.settings_requests.asks.Goals as goal
 
 pub returns-then-same-2 : goal.returns-then-same-2

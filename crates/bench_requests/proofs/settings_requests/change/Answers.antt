@@ -5,7 +5,6 @@ use Rattle.text.specs.NumbersLaws.{decimal-at-most}
 use Rattle.lines.specs.Words.{words_of, word_of}
 use Rattle.lines.specs.Fields.{code_in}
 use Rattle.bench_requests.specs.StoreRequests.{version_in, alterations_in}
-use borrow.Author.Rules.{rules}
 use Rattle.bench_requests.proofs.settings_requests.change.Goals as goal
 use Rattle.bench_requests.proofs.settings_requests.change.Goals.{After-alterations_in-a}
 
@@ -14,10 +13,10 @@ alterations-are : (c : After-alterations_in-a) → let fields = words_of c.args.
     c.alterations_in-a.result ≡ alterations_in (word_of fields 4) (word_of fields 5) (word_of fields 6)
 alterations-are c =
     rw (
-  c.word-3.ensures.answer,
-  c.word-4.ensures.answer,
-  c.word-5.ensures.answer,
-) at c.alterations_in-a.ensures
+      c.word-3.ensures.answer,
+      c.word-4.ensures.answer,
+      c.word-5.ensures.answer,
+    ) at c.alterations_in-a.ensures
 
 pub overflow_cast-result : goal.overflow_cast-result
 overflow_cast-result c =

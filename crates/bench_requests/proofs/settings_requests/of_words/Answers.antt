@@ -1,7 +1,6 @@
 -- Row by row: where a row asks, none before it did; behind the last, none has asked.
 use mathlib.Core.Path.{sym, ◌∙◌}
 use Rattle.bench_requests.specs.StoreRequests.{of_store}
-use borrow.Author.Rules.{rules}
 use Rattle.bench_requests.proofs.settings_requests.of_words.Goals as goal
 
 pub returns-then-asks : goal.returns-then-asks

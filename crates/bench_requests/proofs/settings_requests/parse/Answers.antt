@@ -1,7 +1,6 @@
 -- By the definition's own test.
 use borrow.Author.Tests.{lt-leb, le-leb}
 use Rattle.bench_requests.specs.StoreRequests.{store_request_of}
-use borrow.Author.Rules.{rules}
 use Rattle.bench_requests.proofs.settings_requests.parse.Goals as goal
 
 pub returns-then-line-gt-LONGEST : goal.returns-then-line-gt-LONGEST

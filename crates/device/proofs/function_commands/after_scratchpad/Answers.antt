@@ -1,7 +1,6 @@
 -- The tests of the code are those of the definition, in the same order: past the nine bytes, within a byte, at its end,
 -- at the end of all.
 use borrow.Author.Tests.{le-ltb, lt-ltb}
-use borrow.Author.Rules.{rules}
 use Rattle.device.proofs.function_commands.after_scratchpad.Goals as goal
 
 pub returns-then-k-ge9 : goal.returns-then-k-ge9
@@ -14,26 +13,32 @@ returns-then-j-ge8 c =
 
 pub returns-then-j-lt7 : goal.returns-then-j-lt7
 returns-then-j-lt7 c =
-    record { answer = simp (
-  lt-ltb _ _ c.if-k-ge9.false,
-  lt-ltb _ _ c.if-j-ge8.false,
-  lt-ltb _ _ c.if-j-lt7.true,
-) }
+    record {
+      answer = simp (
+        lt-ltb _ _ c.if-k-ge9.false,
+        lt-ltb _ _ c.if-j-ge8.false,
+        lt-ltb _ _ c.if-j-lt7.true,
+      );
+    }
 
 pub returns-then-k-lt8 : goal.returns-then-k-lt8
 returns-then-k-lt8 c =
-    record { answer = simp (
-  lt-ltb _ _ c.if-k-ge9.false,
-  lt-ltb _ _ c.if-j-ge8.false,
-  le-ltb _ _ c.if-j-lt7.false,
-  lt-ltb _ _ c.if-k-lt8.true,
-) }
+    record {
+      answer = simp (
+        lt-ltb _ _ c.if-k-ge9.false,
+        lt-ltb _ _ c.if-j-ge8.false,
+        le-ltb _ _ c.if-j-lt7.false,
+        lt-ltb _ _ c.if-k-lt8.true,
+      );
+    }
 
 pub returns : goal.returns
 returns c =
-    record { answer = simp (
-  lt-ltb _ _ c.if-k-ge9.false,
-  lt-ltb _ _ c.if-j-ge8.false,
-  le-ltb _ _ c.if-j-lt7.false,
-  le-ltb _ _ c.if-k-lt8.false,
-) }
+    record {
+      answer = simp (
+        lt-ltb _ _ c.if-k-ge9.false,
+        lt-ltb _ _ c.if-j-ge8.false,
+        le-ltb _ _ c.if-j-lt7.false,
+        le-ltb _ _ c.if-k-lt8.false,
+      );
+    }

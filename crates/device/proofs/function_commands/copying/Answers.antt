@@ -1,5 +1,4 @@
 -- The settings are those of the scratchpad, for the row of the code.
-use borrow.Author.Rules.{rules}
 use Rattle.device.proofs.function_commands.copying.Goals as goal
 
 pub returns : goal.returns

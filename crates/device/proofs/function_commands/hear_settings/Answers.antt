@@ -1,5 +1,4 @@
 -- One return for each thing that can be held of a byte: a part, the whole, or nothing.
-use borrow.Author.Rules.{rules}
 use Rattle.device.proofs.function_commands.hear_settings.Goals as goal
 
 pub returns-in-Partial : goal.returns-in-Partial

@@ -1,7 +1,6 @@
 -- One return for each command that a device obeys, by the key of the match, and one for all other bytes.
 use Rattle.device.specs.Hear.{idle_command}
 use borrow.Author.Tests.{ne_eqb}
-use borrow.Author.Rules.{rules}
 use Rattle.device.proofs.function_commands.idle_command.Goals as goal
 
 pub returns-in-68 : goal.returns-in-68
@@ -27,11 +26,13 @@ returns-in-184 c =
 pub returns-in_default : goal.returns-in_default
 unfolding idle_command
 returns-in_default c =
-    record { answer = let other = c.in_default.in_default-own.rest in
-    simp (
-      c.with_stage-in_default.ensures.answer,
-      ne_eqb _ _ other.0.0.0.1,
-      ne_eqb _ _ other.0.0.1,
-      ne_eqb _ _ other.0.1,
-      ne_eqb _ _ other.1,
-    ) }
+    record {
+      answer = let other = c.in_default.in_default-own.rest in
+          simp (
+            c.with_stage-in_default.ensures.answer,
+            ne_eqb _ _ other.0.0.0.1,
+            ne_eqb _ _ other.0.0.1,
+            ne_eqb _ _ other.0.1,
+            ne_eqb _ _ other.1,
+          );
+    }

@@ -1,5 +1,4 @@
 -- The settings of EEPROM go over the scratchpad, for the row of the code.
-use borrow.Author.Rules.{rules}
 use Rattle.device.proofs.function_commands.recalled.Goals as goal
 
 pub returns : goal.returns

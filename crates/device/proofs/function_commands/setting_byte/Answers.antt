@@ -1,6 +1,5 @@
 -- The third setting is the configuration.
 use borrow.Author.Tests.{eq-eqb, ne_eqb}
-use borrow.Author.Rules.{rules}
 use Rattle.device.proofs.function_commands.setting_byte.Goals as goal
 
 pub returns-then-k-eq2 : goal.returns-then-k-eq2

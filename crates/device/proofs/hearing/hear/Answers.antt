@@ -1,6 +1,5 @@
 -- One return for each stage, with what its own function says.
 use Rattle.device.specs.Hear.{hear_of}
-use borrow.Author.Rules.{rules}
 use Rattle.device.proofs.hearing.hear.Goals as goal
 
 pub returns-in-AwaitRom : goal.returns-in-AwaitRom

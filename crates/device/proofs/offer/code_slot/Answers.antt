@@ -1,6 +1,5 @@
 -- Within the 64 bits the line gets the bit of the code, past them a 1.
 use borrow.Author.Tests.{le-ltb, lt-ltb}
-use borrow.Author.Rules.{rules}
 use Rattle.device.proofs.offer.code_slot.Goals as goal
 
 pub returns-then-i-lt64 : goal.returns-then-i-lt64

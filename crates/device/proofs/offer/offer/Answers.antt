@@ -1,5 +1,4 @@
 -- One return for each stage, with what its own function says.
-use borrow.Author.Rules.{rules}
 use Rattle.device.proofs.offer.offer.Goals as goal
 
 pub returns-in-AwaitRom : goal.returns-in-AwaitRom

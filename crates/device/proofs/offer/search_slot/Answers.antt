@@ -1,6 +1,5 @@
 -- The bit, its complement, and nothing in the third slot; past the code a 1.
 use borrow.Author.Tests.{le-ltb, lt-ltb}
-use borrow.Author.Rules.{rules}
 use Rattle.device.proofs.offer.search_slot.Goals as goal
 
 pub returns-in-SendBit : goal.returns-in-SendBit

@@ -1,17 +1,18 @@
 -- A device that converts, with a count in range and out of it; any other is refused.
 use Rattle.device.specs.Finish.{conversion_ended}
-use borrow.Author.Rules.{rules}
 use Rattle.device.proofs.power_and_finishes.end_conversion.Goals as goal
 
 pub returns-then-in_range : goal.returns-then-in_range
 unfolding conversion_ended
 returns-then-in_range c =
-    record { answer = simp (
-      c.in-Converting.is,
-      ← c.in_range.ensures.answer,
-      c.if-in_range.true,
-      ← c.finish_conversion.ensures.answer,
-    ) }
+    record {
+      answer = simp (
+        c.in-Converting.is,
+        ← c.in_range.ensures.answer,
+        c.if-in_range.true,
+        ← c.finish_conversion.ensures.answer,
+      );
+    }
 
 pub returns-in-Idle : goal.returns-in-Idle
 unfolding conversion_ended

@@ -1,6 +1,5 @@
 -- A device that copies ends it with what it holds; any other is refused.
 use Rattle.device.specs.Finish.{copy_ended}
-use borrow.Author.Rules.{rules}
 use Rattle.device.proofs.power_and_finishes.end_copy.Goals as goal
 
 pub returns-in-Idle : goal.returns-in-Idle

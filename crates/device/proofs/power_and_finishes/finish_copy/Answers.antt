@@ -1,6 +1,5 @@
 -- The two parts are replaced one after the other.
 use Rattle.device.specs.Finish.{copy_done}
-use borrow.Author.Rules.{rules}
 use Rattle.device.proofs.power_and_finishes.finish_copy.Goals as goal
 
 pub returns : goal.returns

@@ -1,6 +1,5 @@
 -- The record is that of power-up, with code, power and EEPROM of the device.
 use Rattle.device.specs.Power.{power_up}
-use borrow.Author.Rules.{rules}
 use Rattle.device.proofs.power_and_finishes.power_cycle.Goals as goal
 
 pub returns : goal.returns

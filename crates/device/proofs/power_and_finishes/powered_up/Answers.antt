@@ -1,5 +1,4 @@
 -- The scratchpad is that of the family with the settings laid over it; the rest is as the definition gives it.
-use borrow.Author.Rules.{rules}
 use Rattle.device.proofs.power_and_finishes.powered_up.Goals as goal
 
 pub returns : goal.returns

@@ -1,5 +1,4 @@
 -- One return for each of the three slots of a bit.
-use borrow.Author.Rules.{rules}
 use Rattle.device.proofs.rom_commands.after_search.Goals as goal
 
 pub returns-in-SendBit : goal.returns-in-SendBit

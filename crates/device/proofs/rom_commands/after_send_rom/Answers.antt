@@ -1,6 +1,5 @@
 -- Before the last bit, at it, and past it.
 use borrow.Author.Tests.{eq-eqb, le-ltb, lt-ltb, ne_eqb}
-use borrow.Author.Rules.{rules}
 use Rattle.device.proofs.rom_commands.after_send_rom.Goals as goal
 
 pub returns-then-i-lt63 : goal.returns-then-i-lt63

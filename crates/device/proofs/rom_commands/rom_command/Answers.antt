@@ -1,6 +1,5 @@
 -- One return for each command, two for the alarm search, and one for all other bytes.
 use borrow.Author.Tests.{ne_eqb}
-use borrow.Author.Rules.{rules}
 use Rattle.device.proofs.rom_commands.rom_command.Goals as goal
 
 pub returns-in-51 : goal.returns-in-51
@@ -29,10 +28,12 @@ returns-else-alarm c =
 
 pub returns-in_default : goal.returns-in_default
 returns-in_default c =
-    record { answer = simp (
-  ne_eqb _ _ c.in_default.in_default-own.rest.0.0.0.0.1,
-  ne_eqb _ _ c.in_default.in_default-own.rest.0.0.0.1,
-  ne_eqb _ _ c.in_default.in_default-own.rest.0.0.1,
-  ne_eqb _ _ c.in_default.in_default-own.rest.0.1,
-  ne_eqb _ _ c.in_default.in_default-own.rest.1,
-) }
+    record {
+      answer = simp (
+        ne_eqb _ _ c.in_default.in_default-own.rest.0.0.0.0.1,
+        ne_eqb _ _ c.in_default.in_default-own.rest.0.0.0.1,
+        ne_eqb _ _ c.in_default.in_default-own.rest.0.0.1,
+        ne_eqb _ _ c.in_default.in_default-own.rest.0.1,
+        ne_eqb _ _ c.in_default.in_default-own.rest.1,
+      );
+    }

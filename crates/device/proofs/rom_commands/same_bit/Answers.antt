@@ -1,6 +1,5 @@
 -- A comparison with a known bit is that bit or its complement.
 use Rattle.basic_laws.specs.ChoiceLaws.{beq-true, beq-false}
-use borrow.Author.Rules.{rules}
 use Rattle.device.proofs.rom_commands.same_bit.Goals as goal
 
 pub returns-then-own : goal.returns-then-own

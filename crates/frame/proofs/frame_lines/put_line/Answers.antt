@@ -2,7 +2,7 @@
 use Prim.Native.Nat.{◌+◌, ◌*◌, ◌-◌, ◌≤◌}
 use mathlib.Core.Path.{◌≡◌, sym, ◌∙◌}
 use native.Mathlib.Omega.{arith}
-use lib.ListN.{length, length-map, length-set}
+use lib.ListN.{length}
 use lib.Seq.{length-take-le}
 use Rattle.frame.specs.Frames.{bytes_for}
 use Rattle.frame.specs.Writing.{slot_bytes}

@@ -7,7 +7,6 @@ use lib.ListN.{length, drop, length-drop}
 use Rattle.basic_laws.specs.FirstLaws.{at-within}
 use Rattle.text.specs.Lines.{line_feed}
 use Rattle.frame.proofs.RecordingLaws.{read_done, read_first}
-use borrow.Author.Rules.{rules}
 use Rattle.frame.proofs.frame_lines.read_line_at.Goals as goal
 use Rattle.frame.proofs.frame_lines.read_line_at.Goals.{After-line_end-end}
 
@@ -23,14 +22,18 @@ within c =
 
 pub returns-then-s-at : goal.returns-then-s-at
 returns-then-s-at c =
-    record { answer = let a = c.args in
-    rw c.blank.ensures.answer (sym (read_done a.s.now a.at c.if-s-at.true)) }
+    record {
+      answer = let a = c.args in
+          rw c.blank.ensures.answer (sym (read_done a.s.now a.at c.if-s-at.true));
+    }
 
 pub returns-then-end-s : goal.returns-then-end-s
 returns-then-end-s c =
-    record { answer = let a = c.args in
-    let r = read_first a.s.now a.at c.line_end-end.result c.if-s-at.false (sym c.line_end-end.ensures.answer) in
-    c.read_line.ensures.answer ∙ sym (rw (lt-ltb _ _ c.if-end-s.true) at r) }
+    record {
+      answer = let a = c.args in
+          let r = read_first a.s.now a.at c.line_end-end.result c.if-s-at.false (sym c.line_end-end.ensures.answer) in
+          c.read_line.ensures.answer ∙ sym (rw (lt-ltb _ _ c.if-end-s.true) at r);
+    }
 
 pub slice_bounds-read_line-end-2 : goal.slice_bounds-read_line-end-2
 slice_bounds-read_line-end-2 c =
@@ -38,6 +41,8 @@ slice_bounds-read_line-end-2 c =
 
 pub returns : goal.returns
 returns c =
-    record { answer = let a = c.args in
-    let r = read_first a.s.now a.at c.line_end-end.result c.if-s-at.false (sym c.line_end-end.ensures.answer) in
-    c.read_line-2.ensures.answer ∙ sym (rw (le-ltb _ _ c.if-end-s.false) at r) }
+    record {
+      answer = let a = c.args in
+          let r = read_first a.s.now a.at c.line_end-end.result c.if-s-at.false (sym c.line_end-end.ensures.answer) in
+          c.read_line-2.ensures.answer ∙ sym (rw (le-ltb _ _ c.if-end-s.false) at r);
+    }

@@ -2,11 +2,11 @@
 use Prim.Native.Nat.{◌+◌, ◌*◌, ◌≤◌}
 use mathlib.Core.Path.{◌≡◌, sym, ◌∙◌}
 use mathlib.Core.Bool.{true}
-use borrow.Author.Tests.{leb-true, not-true, not-false}
-use lib.ListN.{length, length-map}
+use borrow.Author.Tests.{leb-true}
+use lib.ListN.{length}
 use Rattle.frame.specs.Frames.{lineable}
 use Rattle.frame.specs.Writing.{fed_line}
-use Rattle.frame.proofs.WritingLaws.{lineable-count, fed-length, write-unsound, write-short, write_done}
+use Rattle.frame.proofs.WritingLaws.{fed-length, write-short, write_done}
 use borrow.Author.Rules.{rules}
 use Rattle.frame.proofs.frame_lines.write_line_at.Goals as goal
 use Rattle.frame.proofs.frame_lines.write_line_at.Goals.{After-bytes_for, Else-not-room, Else-not-sound, Start}
@@ -23,16 +23,12 @@ sound c =
 wide : (c : After-bytes_for) → length (fed_line c.args.f)
     ≡ 7 + 2 * c.bytes_for.result
 wide c =
-    
     rw c.bytes_for.ensures.answer (fed-length c.args.f (long (c.before.before.before.before)) (sound (record { before = c.before; type_inv = record { s = c.before.slice_known-1.given } })))
 
 -- behind the second there is room
-room-there : (c : Else-not-room) → 
-    
+room-there : (c : Else-not-room) →
     c.args.at + (7 + 2 * c.bytes_for.result) ≤ length c.args.s.now
 room-there c =
-    
-    
     leb-true (c.args.at + (7 + 2 * c.bytes_for.result)) (length c.args.s.now)
     (sym c.has_room-room.ensures.answer ∙ c.if-not-room.false)
 

@@ -45,12 +45,13 @@ overflow_cast-result c =
 pub returns-then-is_negative : goal.returns-then-is_negative
 unfolding count_in
 returns-then-is_negative c =
-    record { answer = let w = c.args.w.now in
-    let most = rw (← c.read_decimal-below.ensures.answer) at (decimal-at-most 5 32768 (take (length w - 1) (drop 1 w))) in
-    
-    let rest : c.read_decimal-below.result ≡ decimal_read 5 32768 (drop 1 w) =
-    c.read_decimal-below.ensures.answer ∙ ap (decimal_read 5 32768) (rest-whole w (length w - 1) refl) in
-    rw (negative-code _ most, ← c.is_negative.ensures.answer, c.if-is_negative.true, ← rest) }
+    record {
+      answer = let w = c.args.w.now in
+          let most = rw (← c.read_decimal-below.ensures.answer) at (decimal-at-most 5 32768 (take (length w - 1) (drop 1 w))) in
+          let rest : c.read_decimal-below.result ≡ decimal_read 5 32768 (drop 1 w) =
+          c.read_decimal-below.ensures.answer ∙ ap (decimal_read 5 32768) (rest-whole w (length w - 1) refl) in
+          rw (negative-code _ most, ← c.is_negative.ensures.answer, c.if-is_negative.true, ← rest);
+    }
 
 pub overflow_cast-result-2 : goal.overflow_cast-result-2
 overflow_cast-result-2 c =
@@ -61,8 +62,9 @@ overflow_cast-result-2 c =
 pub returns : goal.returns
 unfolding count_in
 returns c =
-    record { answer = let read = c.read_decimal-above.ensures.answer in
-    let w = c.args.w.now in
-    let most = rw (← read) at (decimal-at-most 5 32767 w) in
-    
-    rw (positive-code _ most, ← c.is_negative.ensures.answer, c.if-is_negative.false, ← read) }
+    record {
+      answer = let read = c.read_decimal-above.ensures.answer in
+          let w = c.args.w.now in
+          let most = rw (← read) at (decimal-at-most 5 32767 w) in
+          rw (positive-code _ most, ← c.is_negative.ensures.answer, c.if-is_negative.false, ← read);
+    }

@@ -1,6 +1,5 @@
 -- By the definition's own tests.
 use Rattle.lines.specs.Fields.{power_in}
-use borrow.Author.Rules.{rules}
 use Rattle.lines.proofs.fields.power_in.Goals as goal
 
 pub returns-then-same : goal.returns-then-same

@@ -1,7 +1,6 @@
 -- Two digits are a byte.
 use Rattle.lines.specs.Fields.{three_bytes_in}
 use Rattle.lines.specs.FieldsLaws.{byte-below}
-use borrow.Author.Rules.{rules}
 use Rattle.lines.proofs.fields.settings_in.Goals as goal
 
 pub overflow_cast-result : goal.overflow_cast-result
@@ -25,10 +24,12 @@ overflow_cast-result-3 c =
 pub returns : goal.returns
 unfolding three_bytes_in
 returns c =
-    record { answer = rw (
-      c.both-2.ensures.answer,
-      c.both.ensures.answer,
-      c.byte_in-h.ensures,
-      c.byte_in-l.ensures,
-      c.byte_in-c.ensures,
-    ) }
+    record {
+      answer = rw (
+        c.both-2.ensures.answer,
+        c.both.ensures.answer,
+        c.byte_in-h.ensures,
+        c.byte_in-l.ensures,
+        c.byte_in-c.ensures,
+      );
+    }

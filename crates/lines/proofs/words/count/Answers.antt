@@ -1,8 +1,4 @@
-use Prim.Native.Nat.{◌+◌, ◌≤◌, ◌-◌}
-use mathlib.Core.Path.{◌≡◌}
 use native.Mathlib.Omega.{arith}
-use lib.ListN.{length, drop}
-use Rattle.lines.specs.Words.{words_of}
 use Rattle.lines.specs.WordsLaws.{ended-few, words-on, words-end}
 use borrow.Author.Rules.{rules}
 use Rattle.lines.proofs.words.count.Goals as goal
@@ -23,6 +19,8 @@ loop-i-preserved c =
 
 pub returns : goal.returns
 returns c =
-    record { answer = let end = words-end c.args.line.now c.loop-i.i c.loop-i-test.false in
-    let inv = c.loop-i.invariant.2 in
-    omega arith }
+    record {
+      answer = let end = words-end c.args.line.now c.loop-i.i c.loop-i-test.false in
+          let inv = c.loop-i.invariant.2 in
+          omega arith;
+    }

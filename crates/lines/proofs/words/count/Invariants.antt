@@ -2,10 +2,8 @@
 -- is what is left.
 use Prim.Native.Nat.{◌+◌, ◌≤◌, ◌-◌}
 use mathlib.Core.Path.{◌≡◌}
-use native.Mathlib.Omega.{arith}
 use lib.ListN.{length, drop}
 use Rattle.lines.specs.Words.{words_of}
-use Rattle.lines.specs.WordsLaws.{ended-few, words-on, words-end}
 use Rattle.lines.proofs.words.count.Given as goal
 
 abbrev pub invariant-loop-i : goal.invariant-loop-i

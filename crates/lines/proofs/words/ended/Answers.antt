@@ -1,6 +1,5 @@
 -- By the definition's own tests.
 use borrow.Author.Tests.{eq-eqb, ne_eqb}
-use borrow.Author.Rules.{rules}
 use Rattle.lines.proofs.words.ended.Goals as goal
 
 pub returns-then-c-eq-SPACE : goal.returns-then-c-eq-SPACE

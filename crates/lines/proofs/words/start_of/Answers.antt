@@ -1,8 +1,5 @@
-use Prim.Native.Nat.{◌≤◌, ◌-◌}
 use mathlib.Core.Path.{◌≡◌, refl}
 use native.Mathlib.Omega.{arith}
-use lib.ListN.{length, drop}
-use Rattle.lines.specs.Words.{words_of}
 use Rattle.lines.specs.WordsLaws.{word_next}
 use borrow.Author.Rules.{rules}
 use Rattle.lines.proofs.words.start_of.Goals as goal

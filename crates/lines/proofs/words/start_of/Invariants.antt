@@ -1,10 +1,8 @@
 -- The loop's invariant: at `at` starts word `j`. The measure is how many words are left to pass.
 use Prim.Native.Nat.{◌≤◌, ◌-◌}
-use mathlib.Core.Path.{◌≡◌, refl}
-use native.Mathlib.Omega.{arith}
+use mathlib.Core.Path.{◌≡◌}
 use lib.ListN.{length, drop}
 use Rattle.lines.specs.Words.{words_of}
-use Rattle.lines.specs.WordsLaws.{word_next}
 use Rattle.lines.proofs.words.start_of.Given as goal
 
 abbrev pub invariant-loop-j : goal.invariant-loop-j

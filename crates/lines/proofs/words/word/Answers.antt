@@ -7,13 +7,14 @@ use Rattle.text.specs.Lines.{space}
 use Rattle.lines.specs.Words.{words_of}
 use Rattle.lines.specs.WordsLaws.{word-here, word-past}
 use Rattle.basic_laws.specs.FirstLaws.{at-within}
-use borrow.Author.Rules.{rules}
 use Rattle.lines.proofs.words.word.Goals as goal
 
 pub returns-then-words-k : goal.returns-then-words-k
 returns-then-words-k c =
-    record { answer = let none = c.if-words-k.true in
-    word-past (words_of c.args.line.now) c.args.k (rw c.count-words.ensures.answer at none) }
+    record {
+      answer = let none = c.if-words-k.true in
+          word-past (words_of c.args.line.now) c.args.k (rw c.count-words.ensures.answer at none);
+    }
 
 pub slice_bounds-result-end-2 : goal.slice_bounds-result-end-2
 slice_bounds-result-end-2 c =
@@ -28,7 +29,8 @@ slice_bounds-result-end-2 c =
 
 pub returns : goal.returns
 returns c =
-    record { answer = let s = c.start_of-from in
-    
-    word-here c.args.line.now c.args.k s.result c.args.k _ s.ensures.0 s.ensures.1
-    c.word_end-end.ensures _ refl }
+    record {
+      answer = let s = c.start_of-from in
+          word-here c.args.line.now c.args.k s.result c.args.k _ s.ensures.0 s.ensures.1
+          c.word_end-end.ensures _ refl;
+    }

@@ -1,11 +1,7 @@
-use Prim.Native.Nat.{◌+◌, ◌≤◌, ◌-◌}
-use mathlib.Core.Path.{◌≡◌, refl, sym, ◌∙◌}
+use mathlib.Core.Path.{refl, sym, ◌∙◌}
 use native.Mathlib.Omega.{arith}
-use lib.ListN.{length, drop}
 use Rattle.text.specs.Lines.{space}
-use Rattle.lines.specs.Words.{space_at}
 use Rattle.basic_laws.specs.FirstLaws.{at_here, at_on, at-end}
-use borrow.Author.Rules.{rules}
 use Rattle.lines.proofs.words.word_end.Goals as goal
 
 pub loop-i-init : goal.loop-i-init
@@ -18,12 +14,11 @@ returns-then-line-i-eq-SPACE c =
     ∙ c.loop-i.invariant.1
 
 pub loop-i-preserved : goal.loop-i-preserved
-loop-i-preserved c =
-    (
-      omega arith,
-      sym (at_on space c.args.line.now c.loop-i.i c.loop-i-test.true c.if-line-i-eq-SPACE.false)
-          ∙ c.loop-i.invariant.1,
-    )
+loop-i-preserved c = (
+  omega arith,
+  sym (at_on space c.args.line.now c.loop-i.i c.loop-i-test.true c.if-line-i-eq-SPACE.false)
+      ∙ c.loop-i.invariant.1,
+)
 
 pub returns : goal.returns
 returns c =

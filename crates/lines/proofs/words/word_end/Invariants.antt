@@ -1,11 +1,8 @@
 -- The loop's invariant: the end of the word that starts at `i` is the end asked for. The measure is what is left.
 use Prim.Native.Nat.{◌+◌, ◌≤◌, ◌-◌}
-use mathlib.Core.Path.{◌≡◌, refl, sym, ◌∙◌}
-use native.Mathlib.Omega.{arith}
+use mathlib.Core.Path.{◌≡◌}
 use lib.ListN.{length, drop}
-use Rattle.text.specs.Lines.{space}
 use Rattle.lines.specs.Words.{space_at}
-use Rattle.basic_laws.specs.FirstLaws.{at_here, at_on, at-end}
 use Rattle.lines.proofs.words.word_end.Given as goal
 
 abbrev pub invariant-loop-i : goal.invariant-loop-i

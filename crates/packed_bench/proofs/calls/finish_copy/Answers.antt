@@ -2,7 +2,6 @@
 use mathlib.Core.Path.{◌∙◌}
 use Rattle.bench.specs.Calls.{copy_finished}
 use Rattle.packed_bench.specs.ThroughLaws.{copy-keeps, accepted-room, refused-done, stored-done}
-use borrow.Author.Rules.{rules}
 use Rattle.packed_bench.proofs.calls.finish_copy.Goals as goal
 
 pub returns-then-refusal-ne-ACCEPTED : goal.returns-then-refusal-ne-ACCEPTED

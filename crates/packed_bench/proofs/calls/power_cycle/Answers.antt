@@ -2,7 +2,6 @@
 use mathlib.Core.Path.{◌∙◌}
 use Rattle.bench.specs.Calls.{power_cycled}
 use Rattle.packed_bench.specs.ThroughLaws.{cycle-keeps, accepted-room, refused-done, stored-done}
-use borrow.Author.Rules.{rules}
 use Rattle.packed_bench.proofs.calls.power_cycle.Goals as goal
 
 pub returns-then-refusal-ne-ACCEPTED : goal.returns-then-refusal-ne-ACCEPTED

@@ -2,7 +2,6 @@
 use Rattle.bench.specs.Slot.{reset_done}
 use Rattle.packed_bench.specs.Answers.{no_reset, reset_seen}
 use Rattle.packed_bench.specs.ThroughLaws.{reset-keeps, accepted-room, refused-done, stored-done}
-use borrow.Author.Rules.{rules}
 use Rattle.packed_bench.proofs.calls.reset.Goals as goal
 
 pub returns-then-refusal-ne-ACCEPTED : goal.returns-then-refusal-ne-ACCEPTED

@@ -2,7 +2,6 @@
 use Rattle.bench.specs.Slot.{slotted}
 use Rattle.packed_bench.specs.Answers.{no_slot, slot_seen}
 use Rattle.packed_bench.specs.ThroughLaws.{slot-keeps, accepted-room, refused-done, stored-done}
-use borrow.Author.Rules.{rules}
 use Rattle.packed_bench.proofs.calls.slot.Goals as goal
 
 pub returns-then-refusal-ne-ACCEPTED : goal.returns-then-refusal-ne-ACCEPTED

@@ -1,11 +1,10 @@
 -- The first i bytes are copied.
-use Prim.Native.Nat.{◌-◌, ◌<◌, ◌≤◌}
+use Prim.Native.Nat.{◌<◌, ◌≤◌}
 use mathlib.Core.Path.{◌≡◌, refl, sym, ◌∙◌}
 use native.Mathlib.Omega.{arith}
-use lib.ListN.{length, take, drop, length-drop, length-set}
+use lib.ListN.{length, drop, length-drop, length-set}
 use lib.Seq.{take_all, get_or-drop}
 use Rattle.packed_bench.specs.LoopLaws.{copy_more}
-use borrow.Author.Rules.{rules}
 use Rattle.packed_bench.proofs.entries.entry_at.Goals as goal
 
 pub loop-i-init : goal.loop-i-init
@@ -25,7 +24,9 @@ loop-i-preserved c =
 
 pub returns : goal.returns
 returns c =
-    record { answer = let l = c.loop-i in
-    let e : l.i ≡ 48 = omega arith in
-    let w : length l.e ≤ 48 = omega arith in
-    sym (take_all 48 l.e w) ∙ rw e at l.invariant.2 }
+    record {
+      answer = let l = c.loop-i in
+          let e : l.i ≡ 48 = omega arith in
+          let w : length l.e ≤ 48 = omega arith in
+          sym (take_all 48 l.e w) ∙ rw e at l.invariant.2;
+    }

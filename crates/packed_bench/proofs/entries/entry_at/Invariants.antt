@@ -1,9 +1,6 @@
-use Prim.Native.Nat.{◌-◌, ◌<◌, ◌≤◌}
-use mathlib.Core.Path.{◌≡◌, refl, sym, ◌∙◌}
-use native.Mathlib.Omega.{arith}
-use lib.ListN.{length, take, drop, length-drop, length-set}
-use lib.Seq.{take_all, get_or-drop}
-use Rattle.packed_bench.specs.LoopLaws.{copy_more}
+use Prim.Native.Nat.{◌-◌, ◌≤◌}
+use mathlib.Core.Path.{◌≡◌}
+use lib.ListN.{length, take, drop}
 use Rattle.packed_bench.proofs.entries.entry_at.Given as goal
 
 abbrev pub invariant-loop-i : goal.invariant-loop-i

@@ -17,8 +17,11 @@ long c =
 pub returns-then-place-count : goal.returns-then-place-count
 returns-then-place-count c =
     let l = long (goal.at.returns-then-place-count c).Start in
-    let h : c.args.place < length c.args.devices = omega arith in record { answer = c.pack.ensures.answer ∙ entry-there c.args.devices c.args.count c.args.place
-          _ c.if-place-count.true h; typed = (λ k. subst InTypes (getD-within c.args.devices c.args.place _ _ h) c.pack.ensures.typed) }
+    let h : c.args.place < length c.args.devices = omega arith in record {
+      answer = c.pack.ensures.answer ∙ entry-there c.args.devices c.args.count c.args.place
+          _ c.if-place-count.true h;
+      typed = (λ k. subst InTypes (getD-within c.args.devices c.args.place _ _ h) c.pack.ensures.typed);
+    }
 
 pub returns : goal.returns
 returns c =

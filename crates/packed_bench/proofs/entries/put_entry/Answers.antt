@@ -1,5 +1,5 @@
 -- The first i bytes are laid over the slice.
-use Prim.Native.Nat.{◌+◌, ◌-◌, ◌<◌, ◌≤◌}
+use Prim.Native.Nat.{◌+◌, ◌<◌, ◌≤◌}
 use mathlib.Core.Path.{◌≡◌, refl, ap, ◌∙◌}
 use native.Mathlib.Omega.{arith}
 use native.Mathlib.Numerals.{add-one}
@@ -7,7 +7,6 @@ use lib.ListN.{length, get_or, set, take, length-set}
 use lib.Seq.{take_all, take-suc, length-take-le}
 use Rattle.basic_laws.specs.Laid.{laid}
 use Rattle.basic_laws.specs.LaidLaws.{laid_none, laid-store}
-use borrow.Author.Rules.{rules}
 use Rattle.packed_bench.proofs.entries.put_entry.Goals as goal
 use Rattle.packed_bench.proofs.entries.put_entry.Goals.{Start}
 
@@ -38,9 +37,10 @@ loop-i-preserved c =
 
 pub returns : goal.returns
 returns c =
-    record { written = let l = c.loop-i in
-    
-    let e : l.i ≡ 48 = omega arith in
-    let k = long (goal.at.returns c).Start in
-    let w : length c.args.e ≤ l.i = omega arith in
-    l.invariant.2 ∙ ap (laid c.args.t.now c.args.at) (take_all l.i c.args.e w) }
+    record {
+      written = let l = c.loop-i in
+          let e : l.i ≡ 48 = omega arith in
+          let k = long (goal.at.returns c).Start in
+          let w : length c.args.e ≤ l.i = omega arith in
+          l.invariant.2 ∙ ap (laid c.args.t.now c.args.at) (take_all l.i c.args.e w);
+    }

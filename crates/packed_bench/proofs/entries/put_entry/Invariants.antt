@@ -1,11 +1,7 @@
-use Prim.Native.Nat.{◌+◌, ◌-◌, ◌<◌, ◌≤◌}
-use mathlib.Core.Path.{◌≡◌, refl, ap, ◌∙◌}
-use native.Mathlib.Omega.{arith}
-use native.Mathlib.Numerals.{add-one}
-use lib.ListN.{length, get_or, set, take, length-set}
-use lib.Seq.{take_all, take-suc, length-take-le}
+use Prim.Native.Nat.{◌-◌, ◌≤◌}
+use mathlib.Core.Path.{◌≡◌}
+use lib.ListN.{length, take}
 use Rattle.basic_laws.specs.Laid.{laid}
-use Rattle.basic_laws.specs.LaidLaws.{laid_none, laid-store}
 use Rattle.packed_bench.proofs.entries.put_entry.Given as goal
 
 abbrev pub invariant-loop-i : goal.invariant-loop-i

@@ -1,12 +1,9 @@
-use Prim.Native.Nat.{ℕ, ◌+◌, ◌*◌, ◌≤◌, ◌-◌}
+use Prim.Native.Nat.{ℕ}
 use mathlib.Core.Path.{◌≡◌, ◌∙◌, sym, ap, refl}
-use mathlib.Core.List.{◌++◌}
 use native.Mathlib.Omega.{arith}
-use lib.ListN.{length, take, drop, length-set}
+use lib.ListN.{length, take, length-set}
 use Rattle.packed_bench.specs.Packed.{fields_of}
-use Rattle.packed_bench.specs.Table.{devices_in}
 use Rattle.packed_bench.specs.LoopLaws.{read-turn, read-stop, read-end}
-use borrow.Author.Rules.{rules}
 use Rattle.packed_bench.proofs.entries.read_entries.Goals as goal
 
 pub loop-i-init : goal.loop-i-init

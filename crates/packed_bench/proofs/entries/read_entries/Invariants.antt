@@ -1,12 +1,9 @@
 -- The loop's invariant: the devices so far, and those of the entries from i on, are the devices of the bytes.
-use Prim.Native.Nat.{ℕ, ◌+◌, ◌*◌, ◌≤◌, ◌-◌}
-use mathlib.Core.Path.{◌≡◌, ◌∙◌, sym, ap, refl}
+use Prim.Native.Nat.{◌*◌, ◌≤◌, ◌-◌}
+use mathlib.Core.Path.{◌≡◌}
 use mathlib.Core.List.{◌++◌}
-use native.Mathlib.Omega.{arith}
-use lib.ListN.{length, take, drop, length-set}
-use Rattle.packed_bench.specs.Packed.{fields_of}
+use lib.ListN.{length, take, drop}
 use Rattle.packed_bench.specs.Table.{devices_in}
-use Rattle.packed_bench.specs.LoopLaws.{read-turn, read-stop, read-end}
 use Rattle.packed_bench.proofs.entries.read_entries.Given as goal
 
 abbrev pub invariant-loop-i : goal.invariant-loop-i

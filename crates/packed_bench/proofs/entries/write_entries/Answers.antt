@@ -3,7 +3,6 @@ use mathlib.Core.Path.{◌≡◌, ◌∙◌, sym, ap, refl}
 use native.Mathlib.Omega.{arith}
 use lib.ListN.{length, take, drop, length-take}
 use lib.Seq.{take_all, get_or-take}
-use Rattle.basic_laws.specs.Each.{Each}
 use Rattle.basic_laws.specs.Laid.{laid}
 use Rattle.basic_laws.specs.LaidLaws.{laid-length}
 use Rattle.packed_bench.specs.Types.{InTypes}
@@ -12,7 +11,6 @@ use Rattle.packed_bench.specs.Table.{entry_bytes, table_of}
 use Rattle.packed_bench.specs.TableLaws.{entry_length}
 use Rattle.basic_laws.specs.EachLaws.{each_more}
 use Rattle.packed_bench.specs.LoopLaws.{table-turn, table-end}
-use borrow.Author.Rules.{rules}
 use Rattle.packed_bench.proofs.entries.write_entries.Goals as goal
 
 pub loop-i-init : goal.loop-i-init

@@ -1,5 +1,4 @@
 -- The bytes of the two cases.
-use borrow.Author.Rules.{rules}
 use Rattle.packed_bench.proofs.packing.course_bytes.Goals as goal
 
 pub returns : goal.returns

@@ -17,7 +17,8 @@ pad-length c =
 
 pub returns : goal.returns
 returns c =
-    let d = c.args.d in record { answer = rw (
+    let d = c.args.d in record {
+      answer = rw (
         c.with_eight.ensures.answer,
         c.page_bytes.ensures.answer,
         c.with_eight-kept.ensures.answer,
@@ -28,4 +29,6 @@ returns c =
         c.with_eight-coded.ensures.answer,
         c.code_bytes-code.ensures.answer,
       )
-          (packed-laid d (pad-length (goal.at.returns c).Start)); typed = record { code_fits = code_fits (goal.at.returns c).Start; pad-length = pad-length (goal.at.returns c).Start; reading-fits = c.page_bytes.ensures.typed } }
+          (packed-laid d (pad-length (goal.at.returns c).Start));
+      typed = record { code_fits = code_fits (goal.at.returns c).Start; pad-length = pad-length (goal.at.returns c).Start; reading-fits = c.page_bytes.ensures.typed };
+    }

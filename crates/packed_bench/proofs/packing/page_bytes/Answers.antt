@@ -1,5 +1,4 @@
 -- Each byte by what its call answers.
-use borrow.Author.Rules.{rules}
 use Rattle.packed_bench.proofs.packing.page_bytes.Goals as goal
 
 pub returns : goal.returns

@@ -1,8 +1,8 @@
 -- The first i bytes are laid over the entry.
-use Prim.Native.Nat.{◌+◌, ◌-◌, ◌<◌, ◌≤◌}
-use mathlib.Core.Path.{◌≡◌, refl, ap, ◌∙◌}
+use Prim.Native.Nat.{◌+◌, ◌<◌, ◌≤◌}
+use mathlib.Core.Path.{refl, ap, ◌∙◌}
 use native.Mathlib.Omega.{arith}
-use lib.ListN.{length, get_or, set, take, length-set}
+use lib.ListN.{length, get_or, set, length-set}
 use lib.Seq.{take_all}
 use Rattle.basic_laws.specs.Laid.{laid}
 use Rattle.basic_laws.specs.LaidLaws.{laid_none, laid_next}
@@ -31,6 +31,8 @@ loop-i-preserved c =
 
 pub returns : goal.returns
 returns c =
-    record { answer = let l = c.loop-i in
-    let all : length c.args.b ≤ l.i = omega arith in
-    l.invariant.4 ∙ ap (laid c.args.t c.args.at) (take_all l.i c.args.b all) }
+    record {
+      answer = let l = c.loop-i in
+          let all : length c.args.b ≤ l.i = omega arith in
+          l.invariant.4 ∙ ap (laid c.args.t c.args.at) (take_all l.i c.args.b all);
+    }

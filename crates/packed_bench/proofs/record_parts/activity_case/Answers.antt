@@ -1,5 +1,4 @@
 -- One return for each case.
-use borrow.Author.Rules.{rules}
 use Rattle.packed_bench.proofs.record_parts.activity_case.Goals as goal
 
 pub returns-in-Idle : goal.returns-in-Idle

@@ -1,5 +1,4 @@
 -- One return for each stage.
-use borrow.Author.Rules.{rules}
 use Rattle.packed_bench.proofs.record_parts.stage_case.Goals as goal
 
 pub returns-in-AwaitRom : goal.returns-in-AwaitRom

@@ -4,7 +4,6 @@ use Rattle.packed_bench.specs.PartsLaws.{nonzero, past}
 use Rattle.device.specs.declared.Stage.TheVariants.{Quiet}
 use lib.ListN.{get_or-eq_default}
 use mathlib.Core.Path.{sym}
-use borrow.Author.Rules.{rules}
 use Rattle.packed_bench.proofs.record_parts.stage_of.Goals as goal
 
 pub returns-in-0 : goal.returns-in-0
@@ -45,11 +44,13 @@ returns-in-8 c =
 
 pub returns-in_default : goal.returns-in_default
 returns-in_default c =
-    record { answer = let x = c.args.x in
-    let n = x.0 in
-    let r = c.in_default.in_default-own.rest in
-    let p3 = past n 2 (past n 1 (nonzero n r.0.0.0.0.0.0.0.0.1) r.0.0.0.0.0.0.0.1)
-    r.0.0.0.0.0.0.1 in
-    let p6 = past n 5 (past n 4 (past n 3 p3 r.0.0.0.0.0.1) r.0.0.0.0.1) r.0.0.0.1 in
-    let p9 = past n 8 (past n 7 (past n 6 p6 r.0.0.1) r.0.1) r.1 in
-    sym (get_or-eq_default (stages x.1 x.2 x.3) Quiet p9) }
+    record {
+      answer = let x = c.args.x in
+          let n = x.0 in
+          let r = c.in_default.in_default-own.rest in
+          let p3 = past n 2 (past n 1 (nonzero n r.0.0.0.0.0.0.0.0.1) r.0.0.0.0.0.0.0.1)
+          r.0.0.0.0.0.0.1 in
+          let p6 = past n 5 (past n 4 (past n 3 p3 r.0.0.0.0.0.1) r.0.0.0.0.1) r.0.0.0.1 in
+          let p9 = past n 8 (past n 7 (past n 6 p6 r.0.0.1) r.0.1) r.1 in
+          sym (get_or-eq_default (stages x.1 x.2 x.3) Quiet p9);
+    }

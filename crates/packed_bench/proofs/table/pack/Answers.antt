@@ -12,7 +12,6 @@ use Rattle.bench.specs.Records.{made_of}
 use Rattle.bench.specs.declared.Made.{Made}
 use Rattle.packed_bench.specs.Table.{table_of, unpacked}
 use Rattle.packed_bench.specs.TableLaws.{written_over_lem, pack-short, pack-refused, pack-done, packed-back}
-use borrow.Author.Rules.{rules}
 use Rattle.packed_bench.proofs.table.pack.Goals as goal
 use Rattle.packed_bench.proofs.table.pack.Goals.{After-of_records-made}
 
@@ -21,8 +20,6 @@ module _ (c : After-of_records-made) where
   judged : c.of_records-made.result.refusal ≡ (let b = c.args.bench in
       (made_of b.devices b.count).refusal)
   judged =
-      
-      
       let b = c.args.bench in
       let own : made_of c.records_of-devices.result c.count_of-count.result ≡ made_of b.devices b.count =
       ap (λ (k : ℕ). made_of c.records_of-devices.result k) c.count_of-count.ensures.answer
@@ -51,5 +48,9 @@ returns c =
     rw (c.count_of-count.ensures.answer, c.records_of-devices.ensures.answer) in
     let wrote = c.write.ensures.written ∙ written_over_lem t _ long ∙ ap (λ (ds : List Device). laid t 0 (table_of 32 ds)) are in
     let typed = rw are at (c.write.ensures.typed long) in
-    let e = pack-done a.bench t long c.of_records-made.result.refusal (judged (goal.at.returns c).After-of_records-made) c.if-refusal-ne-ACCEPTED.false in record { answer = e.0; written = wrote ∙ e.1; back = λ z. ap unpacked wrote
-            ∙ packed-back a.bench t typed long (sym (judged (goal.at.returns c).After-of_records-made) ∙ c.if-refusal-ne-ACCEPTED.false) }
+    let e = pack-done a.bench t long c.of_records-made.result.refusal (judged (goal.at.returns c).After-of_records-made) c.if-refusal-ne-ACCEPTED.false in record {
+      answer = e.0;
+      written = wrote ∙ e.1;
+      back = λ z. ap unpacked wrote
+          ∙ packed-back a.bench t typed long (sym (judged (goal.at.returns c).After-of_records-made) ∙ c.if-refusal-ne-ACCEPTED.false);
+    }

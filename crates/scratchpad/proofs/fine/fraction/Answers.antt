@@ -9,10 +9,9 @@ use mir.Syntax.{w16, w32}
 use mir.Val.{SFits, to_z, of_z}
 use mir.ValLaws.{to_z-of_z, to_z_pos}
 use Rattle.basic_laws.specs.Complement.{Fits16}
-use Rattle.basic_laws.proofs.ComplementLaws.{widened, widened-back}
+use Rattle.basic_laws.proofs.ComplementLaws.{widened-back}
 use Rattle.basic_laws.proofs.DifferencesLaws.{plus-size, minus-size}
 use Rattle.basic_laws.proofs.RoundingLaws.{mul-size}
-use borrow.Author.Rules.{rules}
 use Rattle.scratchpad.proofs.fine.fraction.Goals as goal
 use Rattle.scratchpad.proofs.fine.fraction.Goals.{After-struct_told-1}
 

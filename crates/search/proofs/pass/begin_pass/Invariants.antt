@@ -1,9 +1,8 @@
 -- The loop's invariant says what is still to come: the bits that are left, sent and recorded on what stands, give the
 -- answer.
 use Prim.Native.Nat.{◌≤◌, ◌-◌}
-use mathlib.Core.Path.{◌≡◌, ◌∙◌, sym}
-use native.Mathlib.Omega.{arith}
-use Rattle.search.specs.Pass.{command_sent, pass_begun, command-turn, command-end}
+use mathlib.Core.Path.{◌≡◌}
+use Rattle.search.specs.Pass.{command_sent}
 use Rattle.search.proofs.pass.begin_pass.Given as goal
 
 abbrev pub invariant-loop-i : goal.invariant-loop-i

@@ -1,11 +1,6 @@
-use Prim.Native.Nat.{◌≤◌, ◌-◌}
-use mathlib.Core.Logic.{⊎_elim}
-use mathlib.Core.Path.{◌≡◌, ◌∙◌, refl}
+use mathlib.Core.Path.{◌∙◌, refl}
 use native.Mathlib.Omega.{arith}
-use Rattle.search_laws.specs.PassLoop.{Walk as PassWalk}
-use Rattle.bench.specs.declared.Bench.{Bench}
-use Rattle.search.specs.Pass.{walk_of, Walking, begun-walk, walking_start, walking-turn, walking-over, walking-end}
-use borrow.Author.Rules.{rules}
+use Rattle.search.specs.Pass.{begun-walk, walking_start, walking-turn, walking-over, walking-end}
 use Rattle.search.proofs.pass.pass.Goals as goal
 use Rattle.search.proofs.pass.pass.Goals.{then-w, else-w}
 
@@ -26,14 +21,16 @@ loop-place-preserved c =
       λ v₀ e z.
           let k = c.loop-place.invariant.1 v₀ e z in
           elim c.if-w.branch [
-            then-w t ↦ rw (t.w-is, t.take_bit-w.ensures.answer) (walking-turn a.previous a.departure v₀ c.loop-place.place c.loop-place.w
-              c.loop-place-test.true t.if-w.true k)
+            | then-w t ↦ rw (t.w-is, t.take_bit-w.ensures.answer) (walking-turn a.previous a.departure v₀ c.loop-place.place c.loop-place.w
+                c.loop-place-test.true t.if-w.true k)
             | else-w t ↦ rw t.w-is (walking-over a.previous a.departure v₀ c.loop-place.place c.loop-place.w t.if-w.false k)
           ],
     )
 
 pub returns : goal.returns
 returns c =
-    record { answer = let k = c.loop-place.invariant.1 _ (c.begin_pass-w.ensures.answer
-    ∙ begun-walk c.args.command c.args.bench) refl in
-    walking-end _ _ _ _ _ c.loop-place-test.false k }
+    record {
+      answer = let k = c.loop-place.invariant.1 _ (c.begin_pass-w.ensures.answer
+          ∙ begun-walk c.args.command c.args.bench) refl in
+          walking-end _ _ _ _ _ c.loop-place-test.false k;
+    }

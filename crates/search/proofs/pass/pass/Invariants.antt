@@ -1,11 +1,9 @@
 -- The loop's invariant: the walk is one of the laws at this place, from the walk that the command left on.
 use Prim.Native.Nat.{◌≤◌, ◌-◌}
-use mathlib.Core.Logic.{⊎_elim}
-use mathlib.Core.Path.{◌≡◌, ◌∙◌, refl}
-use native.Mathlib.Omega.{arith}
+use mathlib.Core.Path.{◌≡◌}
 use Rattle.search_laws.specs.PassLoop.{Walk as PassWalk}
 use Rattle.bench.specs.declared.Bench.{Bench}
-use Rattle.search.specs.Pass.{walk_of, Walking, begun-walk, walking_start, walking-turn, walking-over, walking-end}
+use Rattle.search.specs.Pass.{walk_of, Walking}
 use Rattle.search.proofs.pass.pass.Given as goal
 
 abbrev pub invariant-loop-place : goal.invariant-loop-place

@@ -1,6 +1,5 @@
 -- Before the place of departure a bit of the code, else a comparison.
 use borrow.Author.Tests.{le-ltb, lt-ltb}
-use borrow.Author.Rules.{rules}
 use Rattle.search.proofs.pass.planned.Goals as goal
 
 pub returns-then-place-departure : goal.returns-then-place-departure

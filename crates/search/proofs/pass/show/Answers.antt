@@ -1,6 +1,5 @@
 -- The slot's line is pushed.
 use Rattle.search.specs.Pass.{one_slot}
-use borrow.Author.Rules.{rules}
 use Rattle.search.proofs.pass.show.Goals as goal
 
 pub returns : goal.returns

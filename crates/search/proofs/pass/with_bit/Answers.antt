@@ -2,7 +2,6 @@
 use Prim.Native.Nat.{◌^◌, ◌≤◌}
 use native.Mathlib.Omega.{arith}
 use lib.Pow.{pow_mono}
-use borrow.Author.Rules.{rules}
 use Rattle.search.proofs.pass.with_bit.Goals as goal
 use Rattle.search.proofs.pass.with_bit.Goals.{Start}
 

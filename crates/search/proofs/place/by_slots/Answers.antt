@@ -1,6 +1,5 @@
 -- Three slots in a row, or two where both reads showed 1.
 use Rattle.search.specs.Place.{placed}
-use borrow.Author.Rules.{rules}
 use Rattle.search.proofs.place.by_slots.Goals as goal
 
 pub returns-then-both : goal.returns-then-both
@@ -11,11 +10,13 @@ returns-then-both c =
 pub returns : goal.returns
 unfolding placed
 returns c =
-    record { answer = simp (
-      ← c.slot-one.ensures.answer,
-      ← c.slot-two.ensures.answer,
-      ← c.both.ensures.answer,
-      c.if-both.false,
-      ← c.choose-taken.ensures.answer,
-      ← c.slot-three.ensures.answer,
-    ) }
+    record {
+      answer = simp (
+        ← c.slot-one.ensures.answer,
+        ← c.slot-two.ensures.answer,
+        ← c.both.ensures.answer,
+        c.if-both.false,
+        ← c.choose-taken.ensures.answer,
+        ← c.slot-three.ensures.answer,
+      );
+    }

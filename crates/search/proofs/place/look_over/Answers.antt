@@ -1,7 +1,7 @@
-use Prim.Native.Nat.{◌≤◌, ◌<◌, ◌-◌, min}
+use Prim.Native.Nat.{◌<◌, min}
 use mathlib.Core.Path.{◌≡◌, ◌∙◌, ap, refl}
 use native.Mathlib.Omega.{arith}
-use lib.ListN.{length, take}
+use lib.ListN.{length}
 use Rattle.basic_laws.specs.Fold.{fold}
 use Rattle.basic_laws.specs.FoldLaws.{fold_step}
 use Rattle.bench.specs.Taken.{taken-most}
@@ -40,7 +40,9 @@ loop-i-preserved c =
 
 pub returns : goal.returns
 returns c =
-    record { answer = let long : length c.args.devices ≡ 32 = search rules in
-    let most : c.loop-i.i ≡ min c.args.count 32 = omega (arith, c.places-taken.ensures.answer) in
-    c.loop-i.invariant.1 ∙ ap (fold (surveyed_with c.args.place) survey_start)
-    (rw most (taken-most c.args.count 32 c.args.devices long)) }
+    record {
+      answer = let long : length c.args.devices ≡ 32 = search rules in
+          let most : c.loop-i.i ≡ min c.args.count 32 = omega (arith, c.places-taken.ensures.answer) in
+          c.loop-i.invariant.1 ∙ ap (fold (surveyed_with c.args.place) survey_start)
+          (rw most (taken-most c.args.count 32 c.args.devices long));
+    }

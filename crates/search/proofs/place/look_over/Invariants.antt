@@ -1,11 +1,8 @@
 -- The loop's invariant: the survey is of the devices before i.
-use Prim.Native.Nat.{◌≤◌, ◌<◌, ◌-◌, min}
-use mathlib.Core.Path.{◌≡◌, ◌∙◌, ap, refl}
-use native.Mathlib.Omega.{arith}
-use lib.ListN.{length, take}
+use Prim.Native.Nat.{◌≤◌, ◌-◌}
+use mathlib.Core.Path.{◌≡◌}
+use lib.ListN.{take}
 use Rattle.basic_laws.specs.Fold.{fold}
-use Rattle.basic_laws.specs.FoldLaws.{fold_step}
-use Rattle.bench.specs.Taken.{taken-most}
 use Rattle.search.specs.Standing.{survey_start, surveyed_with}
 use Rattle.search.proofs.place.look_over.Given as goal
 

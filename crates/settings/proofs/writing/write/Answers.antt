@@ -1,7 +1,6 @@
 -- The store's refusal, or the write.
 use Rattle.settings.specs.Written.{settings_written}
 use borrow.Author.Tests.{eq-eqb, ne_eqb}
-use borrow.Author.Rules.{rules}
 use Rattle.settings.proofs.writing.write.Goals as goal
 
 pub returns-then-current-ne-ACCEPTED : goal.returns-then-current-ne-ACCEPTED

@@ -5,7 +5,6 @@ use native.Mathlib.Omega.{arith}
 use lib.ListN.{length, get_or}
 use Rattle.basic_laws.specs.FoldLaws.{all-at}
 use Rattle.text.specs.Digits.{value_of, is_digit}
-use borrow.Author.Rules.{rules}
 use Rattle.text.proofs.laying.byte_at.Goals as goal
 use Rattle.text.proofs.laying.byte_at.Goals.{Start}
 

@@ -1,13 +1,11 @@
 use lib.Seq.{take_all}
 use Rattle.basic_laws.specs.LaidLaws.{laid_next, laid_none}
-use Prim.Native.Nat.{◌+◌, ◌*◌, ◌≤◌, ◌<◌, ◌-◌}
+use Prim.Native.Nat.{◌+◌, ◌*◌, ◌≤◌, ◌<◌}
 use mathlib.Core.Path.{◌≡◌, refl, ◌∙◌}
 use native.Mathlib.Omega.{arith}
-use lib.ListN.{length, take, length-set}
-use Rattle.basic_laws.specs.Laid.{laid}
+use lib.ListN.{length, length-set}
 use Rattle.text.specs.Digits.{bytes_of}
 use Rattle.text.specs.DigitsLaws.{bytes-half, bytes-at}
-use borrow.Author.Rules.{rules}
 use Rattle.text.proofs.laying.decode.Goals as goal
 
 pub loop-i-init : goal.loop-i-init

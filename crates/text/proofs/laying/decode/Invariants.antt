@@ -1,14 +1,10 @@
 -- The loop's invariant: the first `i` of the bytes that the digits stand for are laid from place 0. The measure is what
 -- is left.
-use lib.Seq.{take_all}
-use Rattle.basic_laws.specs.LaidLaws.{laid_next, laid_none}
-use Prim.Native.Nat.{◌+◌, ◌*◌, ◌≤◌, ◌<◌, ◌-◌}
-use mathlib.Core.Path.{◌≡◌, refl, ◌∙◌}
-use native.Mathlib.Omega.{arith}
-use lib.ListN.{length, take, length-set}
+use Prim.Native.Nat.{◌≤◌, ◌-◌}
+use mathlib.Core.Path.{◌≡◌}
+use lib.ListN.{length, take}
 use Rattle.basic_laws.specs.Laid.{laid}
 use Rattle.text.specs.Digits.{bytes_of}
-use Rattle.text.specs.DigitsLaws.{bytes-half, bytes-at}
 use Rattle.text.proofs.laying.decode.Given as goal
 
 abbrev pub invariant-loop-i : goal.invariant-loop-i

@@ -1,24 +1,19 @@
 -- The digits are counted, and laid where they fit.
 use Prim.Native.Nat.{◌+◌, ◌≤◌}
 use mathlib.Core.Path.{sym, ap, ◌∙◌}
-use borrow.Author.Tests.{leb-true, not-true, not-false}
+use borrow.Author.Tests.{leb-true}
 use lib.ListN.{length}
-use lib.Dec.{lit<, lit≤}
 use Rattle.basic_laws.specs.Laid.{laid}
 use Rattle.text.specs.Decimal.{decimal}
 use Rattle.text.specs.DecimalLaws.{decimal-length, decimal-digits}
 use Rattle.text.proofs.LayingLaws.{lay-short, lay_done}
-use borrow.Author.Rules.{rules}
 use Rattle.text.proofs.laying.lay_decimal.Goals as goal
 use Rattle.text.proofs.laying.lay_decimal.Goals.{Else-not-room}
 
 -- behind the test there is room
-room-there : (c : Else-not-room) → 
-    
+room-there : (c : Else-not-room) →
     c.args.at + c.decimal_length-count.result ≤ length c.args.out.now
 room-there c =
-    
-    
     leb-true (c.args.at + c.decimal_length-count.result) (length c.args.out.now)
     (sym c.has_room-room.ensures.answer ∙ c.if-not-room.false)
 

@@ -1,23 +1,18 @@
 -- The digits are laid where they fit.
 use Prim.Native.Nat.{◌+◌, ◌≤◌}
 use mathlib.Core.Path.{sym, ◌∙◌}
-use borrow.Author.Tests.{leb-true, not-true, not-false}
+use borrow.Author.Tests.{leb-true}
 use lib.ListN.{length}
-use lib.Dec.{lit<, lit≤}
 use Rattle.text.specs.Digits.{digits}
 use Rattle.text.specs.DigitsLaws.{digits-length}
 use Rattle.text.proofs.LayingLaws.{lay-short, lay_done}
-use borrow.Author.Rules.{rules}
 use Rattle.text.proofs.laying.lay_decimals.Goals as goal
 use Rattle.text.proofs.laying.lay_decimals.Goals.{Else-not-room}
 
 -- behind the test there is room
-room-there : (c : Else-not-room) → 
-    
+room-there : (c : Else-not-room) →
     c.args.at + c.args.count ≤ length c.args.out.now
 room-there c =
-    
-    
     leb-true (c.args.at + c.args.count) (length c.args.out.now) (sym c.has_room-room.ensures.answer
     ∙ c.if-not-room.false)
 

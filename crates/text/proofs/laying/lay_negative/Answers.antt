@@ -3,21 +3,18 @@ use Prim.Native.Nat.{◌+◌, ◌≤◌}
 use mathlib.Core.List.{◌∷◌}
 use mathlib.Core.Path.{◌≡◌, sym, ◌∙◌}
 use native.Mathlib.Omega.{arith}
-use borrow.Author.Tests.{leb-true, not-true, not-false}
-use lib.ListN.{length, length-set}
+use borrow.Author.Tests.{leb-true}
+use lib.ListN.{length}
 use Rattle.text.specs.Decimal.{decimal}
 use Rattle.text.specs.DecimalLaws.{decimal-length, decimal-most}
 use Rattle.text.proofs.LayingLaws.{lay-short, lay-marked}
-use borrow.Author.Rules.{rules}
 use Rattle.text.proofs.laying.lay_negative.Goals as goal
 use Rattle.text.proofs.laying.lay_negative.Goals.{Else-not-room}
 
 -- both are there
-room-there : (c : Else-not-room) → 
+room-there : (c : Else-not-room) →
     c.args.at + (1 + length (decimal c.args.size)) ≤ length c.args.out.now
 room-there c =
-    
-    
     let count = c.decimal_length-count.ensures.answer in
     let digits = decimal-length c.args.size in
     let fits = leb-true (c.args.at + (c.decimal_length-count.result + 1))
@@ -45,7 +42,6 @@ returns-then-not-room c =
 pub returns : goal.returns
 returns c =
     let digits = c.lay_decimal.ensures in
-    
     let done = lay-marked c.args.out.now c.args.at 0x2D (decimal c.args.size)
     (room-there (goal.at.returns c).Else-not-room) in
     record { answer = digits.answer ∙ done.0; written = digits.written ∙ done.1 }

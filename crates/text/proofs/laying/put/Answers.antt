@@ -1,11 +1,8 @@
-use Prim.Native.Nat.{◌+◌, ◌-◌, ◌<◌, ◌≤◌}
-use mathlib.Core.Path.{◌≡◌, refl, ◌∙◌}
+use Prim.Native.Nat.{◌+◌, ◌<◌}
+use mathlib.Core.Path.{refl}
 use native.Mathlib.Omega.{arith}
-use lib.ListN.{length, take, length-set}
-use lib.Seq.{take-length}
-use Rattle.basic_laws.specs.Laid.{laid}
+use lib.ListN.{length, length-set}
 use Rattle.basic_laws.specs.LaidLaws.{laid_none, laid_next}
-use borrow.Author.Rules.{rules}
 use Rattle.text.proofs.laying.put.Goals as goal
 
 pub loop-i-init : goal.loop-i-init

@@ -1,11 +1,8 @@
 -- The loop's invariant: the first `i` characters are laid, and the slice has its length. The measure is what is left.
-use Prim.Native.Nat.{◌+◌, ◌-◌, ◌<◌, ◌≤◌}
-use mathlib.Core.Path.{◌≡◌, refl, ◌∙◌}
-use native.Mathlib.Omega.{arith}
-use lib.ListN.{length, take, length-set}
-use lib.Seq.{take-length}
+use Prim.Native.Nat.{◌-◌, ◌≤◌}
+use mathlib.Core.Path.{◌≡◌}
+use lib.ListN.{length, take}
 use Rattle.basic_laws.specs.Laid.{laid}
-use Rattle.basic_laws.specs.LaidLaws.{laid_none, laid_next}
 use Rattle.text.proofs.laying.put.Given as goal
 
 abbrev pub invariant-loop-i : goal.invariant-loop-i

@@ -1,4 +1,4 @@
-use Prim.Native.Nat.{ℕ, suc, ◌+◌, ◌-◌, ◌%◌, ◌<◌, ◌≤◌}
+use Prim.Native.Nat.{ℕ, suc, ◌+◌, ◌-◌, ◌%◌, ◌<◌}
 use mathlib.Core.Path.{◌≡◌, refl, ap, ◌∙◌}
 use native.Mathlib.Omega.{arith}
 use native.Mathlib.Nat.{mod-lt, mod-eq_of_lt}
@@ -7,7 +7,6 @@ use Rattle.basic_laws.specs.Laid.{laid}
 use Rattle.basic_laws.specs.LaidLaws.{laid_none}
 use Rattle.text.specs.Digits.{digit_of, digits}
 use Rattle.text.proofs.LayingLaws.{digits_last}
-use borrow.Author.Rules.{rules}
 use Rattle.text.proofs.laying.put_digits.Goals as goal
 
 pub loop-left-preserved : goal.loop-left-preserved

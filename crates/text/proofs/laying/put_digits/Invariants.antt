@@ -1,14 +1,10 @@
 -- The loop's invariant: with the digits that are left laid too, the slice is as it is to be. The measure is how many
 -- are left.
-use Prim.Native.Nat.{ℕ, suc, ◌+◌, ◌-◌, ◌%◌, ◌<◌, ◌≤◌}
-use mathlib.Core.Path.{◌≡◌, refl, ap, ◌∙◌}
-use native.Mathlib.Omega.{arith}
-use native.Mathlib.Nat.{mod-lt, mod-eq_of_lt}
-use lib.ListN.{length, length-set}
+use Prim.Native.Nat.{◌≤◌}
+use mathlib.Core.Path.{◌≡◌}
+use lib.ListN.{length}
 use Rattle.basic_laws.specs.Laid.{laid}
-use Rattle.basic_laws.specs.LaidLaws.{laid_none}
-use Rattle.text.specs.Digits.{digit_of, digits}
-use Rattle.text.proofs.LayingLaws.{digits_last}
+use Rattle.text.specs.Digits.{digits}
 use Rattle.text.proofs.laying.put_digits.Given as goal
 
 abbrev pub invariant-loop-left : goal.invariant-loop-left

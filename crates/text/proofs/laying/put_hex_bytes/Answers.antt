@@ -1,13 +1,10 @@
-use Prim.Native.Nat.{◌≤◌, ◌<◌, ◌-◌}
-use mathlib.Core.Path.{◌≡◌, refl, ◌∙◌}
+use Prim.Native.Nat.{◌<◌}
+use mathlib.Core.Path.{refl, ◌∙◌}
 use native.Mathlib.Omega.{arith}
-use lib.ListN.{length, take}
-use lib.Seq.{take-length}
-use Rattle.basic_laws.specs.Laid.{laid}
+use lib.ListN.{length}
 use Rattle.basic_laws.specs.LaidLaws.{laid_none}
 use Rattle.text.specs.Digits.{hex_of}
 use Rattle.text.proofs.LayingLaws.{laid-hex}
-use borrow.Author.Rules.{rules}
 use Rattle.text.proofs.laying.put_hex_bytes.Goals as goal
 
 pub loop-i-init : goal.loop-i-init

@@ -1,14 +1,10 @@
 -- The loop's invariant: the digits of the first `i` bytes are laid, and the slice has its length. The measure is what
 -- is left.
-use Prim.Native.Nat.{◌≤◌, ◌<◌, ◌-◌}
-use mathlib.Core.Path.{◌≡◌, refl, ◌∙◌}
-use native.Mathlib.Omega.{arith}
+use Prim.Native.Nat.{◌≤◌, ◌-◌}
+use mathlib.Core.Path.{◌≡◌}
 use lib.ListN.{length, take}
-use lib.Seq.{take-length}
 use Rattle.basic_laws.specs.Laid.{laid}
-use Rattle.basic_laws.specs.LaidLaws.{laid_none}
 use Rattle.text.specs.Digits.{hex_of}
-use Rattle.text.proofs.LayingLaws.{laid-hex}
 use Rattle.text.proofs.laying.put_hex_bytes.Given as goal
 
 abbrev pub invariant-loop-i : goal.invariant-loop-i

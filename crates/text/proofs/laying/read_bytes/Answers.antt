@@ -2,13 +2,11 @@
 use Prim.Native.Nat.{◌+◌, ◌/◌, ◌≤◌}
 use mathlib.Core.Path.{◌≡◌, sym, ◌∙◌}
 use mathlib.Core.Bool.{true}
-use native.Mathlib.Omega.{arith}
-use borrow.Author.Tests.{leb-true, not-true, not-false}
+use borrow.Author.Tests.{leb-true}
 use lib.ListN.{length}
 use Rattle.text.specs.Digits.{spells}
 use Rattle.text.specs.DigitsLaws.{bytes-half}
-use Rattle.text.proofs.LayingLaws.{decode-other, decode-short, decode-done}
-use borrow.Author.Rules.{rules}
+use Rattle.text.proofs.LayingLaws.{decode-short, decode-done}
 use Rattle.text.proofs.laying.read_bytes.Goals as goal
 use Rattle.text.proofs.laying.read_bytes.Goals.{Else-not-room, Else-not-spelt}
 
@@ -17,10 +15,9 @@ spelt-all : (c : Else-not-spelt) → spells 16 c.args.s.now ≡ true
 spelt-all c =
     sym c.all_digits-spelt.ensures.answer ∙ c.if-not-spelt.false
 
-room-there : (c : Else-not-room) → 
+room-there : (c : Else-not-room) →
     0 + length c.args.s.now / 2 ≤ length c.args.out.now
 room-there c =
-    
     leb-true (0 + length c.args.s.now / 2) (length c.args.out.now) (sym c.has_room-room.ensures.answer
     ∙ c.if-not-room.false)
 

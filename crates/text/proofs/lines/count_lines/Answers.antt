@@ -1,10 +1,5 @@
-use Prim.Native.Nat.{◌+◌, ◌-◌, ◌≤◌}
-use mathlib.Core.Path.{◌≡◌}
 use native.Mathlib.Omega.{arith}
-use lib.ListN.{length, drop}
-use Rattle.text.specs.Lines.{lines_of}
 use Rattle.text.specs.LinesLaws.{line-ends, count-on, count-end}
-use borrow.Author.Rules.{rules}
 use Rattle.text.proofs.lines.count_lines.Goals as goal
 
 pub loop-at-preserved : goal.loop-at-preserved
@@ -23,5 +18,7 @@ loop-at-preserved c =
 
 pub returns : goal.returns
 returns c =
-    record { answer = count-end c.args.s.now c.loop-at.at c.loop-at.count
-    c.loop-at-test.false c.loop-at.invariant.2 }
+    record {
+      answer = count-end c.args.s.now c.loop-at.at c.loop-at.count
+          c.loop-at-test.false c.loop-at.invariant.2;
+    }

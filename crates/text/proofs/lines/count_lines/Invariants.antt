@@ -1,10 +1,8 @@
 -- The loop's invariant: so many lines stand before the place, at most one for each byte. The measure is what is left.
 use Prim.Native.Nat.{◌+◌, ◌-◌, ◌≤◌}
 use mathlib.Core.Path.{◌≡◌}
-use native.Mathlib.Omega.{arith}
 use lib.ListN.{length, drop}
 use Rattle.text.specs.Lines.{lines_of}
-use Rattle.text.specs.LinesLaws.{line-ends, count-on, count-end}
 use Rattle.text.proofs.lines.count_lines.Given as goal
 
 abbrev pub invariant-loop-at : goal.invariant-loop-at

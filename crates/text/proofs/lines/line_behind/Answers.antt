@@ -1,6 +1,5 @@
 -- The line ends behind its feed, which belongs to it, or at the end of the data.
-use Rattle.text.specs.LinesLaws.{behind-fed, behind-open}
-use borrow.Author.Rules.{rules}
+use Rattle.text.specs.LinesLaws.{behind-open}
 use Rattle.text.proofs.lines.line_behind.Goals as goal
 
 pub returns-else-end-s : goal.returns-else-end-s

@@ -1,15 +1,14 @@
-use Prim.Native.Nat.{◌+◌, ◌-◌}
-use mathlib.Core.Path.{◌≡◌, refl, sym, ◌∙◌}
-use lib.ListN.{length, drop}
-use Rattle.text.specs.Lines.{line_feed, feed_at}
+use mathlib.Core.Path.{sym, ◌∙◌}
+use Rattle.text.specs.Lines.{line_feed}
 use Rattle.basic_laws.specs.FirstLaws.{at_here, at_on, at-end}
-use borrow.Author.Rules.{rules}
 use Rattle.text.proofs.lines.line_end.Goals as goal
 
 pub returns-then-s-i-eq-LINE_FEED : goal.returns-then-s-i-eq-LINE_FEED
 returns-then-s-i-eq-LINE_FEED c =
-    record { answer = sym (at_here line_feed c.args.s.now c.loop-i.i c.loop-i-test.true c.if-s-i-eq-LINE_FEED.true)
-    ∙ c.loop-i.invariant }
+    record {
+      answer = sym (at_here line_feed c.args.s.now c.loop-i.i c.loop-i-test.true c.if-s-i-eq-LINE_FEED.true)
+          ∙ c.loop-i.invariant;
+    }
 
 pub loop-i-preserved : goal.loop-i-preserved
 loop-i-preserved c =

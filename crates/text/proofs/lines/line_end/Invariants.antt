@@ -1,9 +1,8 @@
 -- The loop's invariant: the end of the line that starts at `i` is the end asked for. The measure is what is left.
 use Prim.Native.Nat.{◌+◌, ◌-◌}
-use mathlib.Core.Path.{◌≡◌, refl, sym, ◌∙◌}
+use mathlib.Core.Path.{◌≡◌}
 use lib.ListN.{length, drop}
-use Rattle.text.specs.Lines.{line_feed, feed_at}
-use Rattle.basic_laws.specs.FirstLaws.{at_here, at_on, at-end}
+use Rattle.text.specs.Lines.{feed_at}
 use Rattle.text.proofs.lines.line_end.Given as goal
 
 abbrev pub invariant-loop-i : goal.invariant-loop-i

@@ -1,10 +1,6 @@
-use Prim.Native.Nat.{◌≤◌, ◌-◌}
-use mathlib.Core.Path.{◌≡◌, sym, ◌∙◌}
+use mathlib.Core.Path.{sym, ◌∙◌}
 use native.Mathlib.Omega.{arith}
-use lib.ListN.{length, drop}
-use Rattle.basic_laws.specs.Same.{same}
 use Rattle.basic_laws.specs.SameLaws.{same-lengths, same-on, same_not, same-past}
-use borrow.Author.Rules.{rules}
 use Rattle.text.proofs.lines.same.Goals as goal
 
 pub returns-then-a-b : goal.returns-then-a-b
@@ -13,8 +9,10 @@ returns-then-a-b c =
 
 pub returns-then-a-i : goal.returns-then-a-i
 returns-then-a-i c =
-    record { answer = let h = c.loop-i-test.true in
-    sym (sym c.loop-i.invariant.2 ∙ same_not _ _ c.loop-i.i h (omega arith) c.if-a-i.true) }
+    record {
+      answer = let h = c.loop-i-test.true in
+          sym (sym c.loop-i.invariant.2 ∙ same_not _ _ c.loop-i.i h (omega arith) c.if-a-i.true);
+    }
 
 pub loop-i-preserved : goal.loop-i-preserved
 loop-i-preserved c =

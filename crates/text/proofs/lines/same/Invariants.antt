@@ -1,11 +1,9 @@
 -- The loop's invariant: the texts have one length, and what is left of both from `i` on is the same just where the
 -- texts are. The measure is what is left.
 use Prim.Native.Nat.{◌≤◌, ◌-◌}
-use mathlib.Core.Path.{◌≡◌, sym, ◌∙◌}
-use native.Mathlib.Omega.{arith}
+use mathlib.Core.Path.{◌≡◌}
 use lib.ListN.{length, drop}
 use Rattle.basic_laws.specs.Same.{same}
-use Rattle.basic_laws.specs.SameLaws.{same-lengths, same-on, same_not, same-past}
 use Rattle.text.proofs.lines.same.Given as goal
 
 abbrev pub invariant-loop-i : goal.invariant-loop-i

@@ -1,7 +1,4 @@
-use Prim.Native.Nat.{◌+◌}
-use mathlib.Core.Path.{◌≡◌}
 use native.Mathlib.Omega.{arith}
-use Rattle.text.specs.Decimal.{decimal_length}
 use Rattle.text.specs.DecimalLaws.{length-small, length-tenth, decimal-most}
 use borrow.Author.Rules.{rules}
 use Rattle.text.proofs.numbers.decimal_length.Goals as goal
@@ -21,6 +18,8 @@ loop-rest-preserved c =
 
 pub returns : goal.returns
 returns c =
-    record { answer = let last = length-small c.loop-rest.rest c.loop-rest-test.false in
-    let counted = c.loop-rest.invariant in
-    omega arith }
+    record {
+      answer = let last = length-small c.loop-rest.rest c.loop-rest-test.false in
+          let counted = c.loop-rest.invariant in
+          omega arith;
+    }

@@ -2,9 +2,7 @@
 -- digit of all is counted from the start. The measure is what is left.
 use Prim.Native.Nat.{◌+◌}
 use mathlib.Core.Path.{◌≡◌}
-use native.Mathlib.Omega.{arith}
 use Rattle.text.specs.Decimal.{decimal_length}
-use Rattle.text.specs.DecimalLaws.{length-small, length-tenth, decimal-most}
 use Rattle.text.proofs.numbers.decimal_length.Given as goal
 
 abbrev pub invariant-loop-rest : goal.invariant-loop-rest

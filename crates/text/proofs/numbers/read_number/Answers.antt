@@ -1,8 +1,8 @@
-use Prim.Native.Nat.{◌-◌, ◌<◌, ◌≤◌}
+use Prim.Native.Nat.{◌<◌}
 use mathlib.Core.Path.{◌≡◌, refl, sym, ◌∙◌}
 use mathlib.Core.Bool.{true}
 use native.Mathlib.Omega.{arith}
-use lib.ListN.{length, take, drop}
+use lib.ListN.{length}
 use lib.Seq.{take-length}
 use Rattle.basic_laws.specs.Fold.{fold}
 use Rattle.basic_laws.specs.FoldLaws.{all_past}
@@ -10,7 +10,6 @@ use Rattle.text.specs.Digits.{is_digit, spells, number_in}
 use Rattle.text.specs.DigitsLaws.{number-next}
 use Rattle.text.specs.NumbersLaws.{turn-other, turn-digit, turn-past, digit-fits, digit-exceeds, read_number}
 use Rattle.text.specs.NumbersLaws.{read-other, read_past}
-use borrow.Author.Rules.{rules}
 use Rattle.text.proofs.numbers.read_number.Goals as goal
 
 pub loop-i-init : goal.loop-i-init
@@ -20,33 +19,39 @@ loop-i-init c =
 
 pub returns-then-base-v : goal.returns-then-base-v
 returns-then-base-v c =
-    record { answer = let within = c.loop-i-test.true in
-    let no_digit = turn-other c.args.base c.args.bound c.args.s.now c.loop-i.i within
-    (rw c.value-v.ensures.answer at c.if-base-v.true) in
-    c.no_number.ensures ∙ read-other c.args.base c.args.bound c.args.s.now (sym c.loop-i.invariant.3
-    ∙ no_digit) }
+    record {
+      answer = let within = c.loop-i-test.true in
+          let no_digit = turn-other c.args.base c.args.bound c.args.s.now c.loop-i.i within
+          (rw c.value-v.ensures.answer at c.if-base-v.true) in
+          c.no_number.ensures ∙ read-other c.args.base c.args.bound c.args.s.now (sym c.loop-i.invariant.3
+          ∙ no_digit);
+    }
 
 pub returns-then-bound-d : goal.returns-then-bound-d
 returns-then-bound-d c =
-    record { answer = let within = c.loop-i-test.true in
-    let is_digit = c.if-base-v.false in
-    let digit-past = c.if-bound-d.true in
-    let value-is = c.value-v.ensures.answer in
-    let past = turn-past c.args.base c.args.bound c.args.s.now c.loop-i.i within (omega arith)
-    (omega arith) in
-    c.no_number-then-bound-d.ensures ∙ read_past c.args.base c.args.bound c.args.s.now past }
+    record {
+      answer = let within = c.loop-i-test.true in
+          let is_digit = c.if-base-v.false in
+          let digit-past = c.if-bound-d.true in
+          let value-is = c.value-v.ensures.answer in
+          let past = turn-past c.args.base c.args.bound c.args.s.now c.loop-i.i within (omega arith)
+          (omega arith) in
+          c.no_number-then-bound-d.ensures ∙ read_past c.args.base c.args.bound c.args.s.now past;
+    }
 
 pub returns-then-bound-d-2 : goal.returns-then-bound-d-2
 returns-then-bound-d-2 c =
-    record { answer = let within = c.loop-i-test.true in
-    let is_digit = c.if-base-v.false in
-    let digit-small = c.if-bound-d.false in
-    let some : 0 < c.args.base = omega arith in
-    let exceeds = digit-exceeds c.args.base c.loop-i.number c.value-v.result c.args.bound some digit-small
-    c.if-bound-d-2.true in
-    let past = turn-past c.args.base c.args.bound c.args.s.now c.loop-i.i within some
-    (rw (c.loop-i.invariant.1, c.value-v.ensures.answer) at exceeds) in
-    c.no_number-then-bound-d-2.ensures ∙ read_past c.args.base c.args.bound c.args.s.now past }
+    record {
+      answer = let within = c.loop-i-test.true in
+          let is_digit = c.if-base-v.false in
+          let digit-small = c.if-bound-d.false in
+          let some : 0 < c.args.base = omega arith in
+          let exceeds = digit-exceeds c.args.base c.loop-i.number c.value-v.result c.args.bound some digit-small
+          c.if-bound-d-2.true in
+          let past = turn-past c.args.base c.args.bound c.args.s.now c.loop-i.i within some
+          (rw (c.loop-i.invariant.1, c.value-v.ensures.answer) at exceeds) in
+          c.no_number-then-bound-d-2.ensures ∙ read_past c.args.base c.args.bound c.args.s.now past;
+    }
 
 pub loop-i-preserved : goal.loop-i-preserved
 loop-i-preserved c =
@@ -65,9 +70,11 @@ loop-i-preserved c =
 
 pub returns : goal.returns
 returns c =
-    record { answer = let s = c.args.s.now in
-    let end : c.loop-i.i ≡ length s = omega arith in
-    let number_is : c.loop-i.number ≡ number_in c.args.base s = c.loop-i.invariant.1 ∙ rw (end, take-length) in
-    let spelt : spells c.args.base s ≡ true =
-    sym c.loop-i.invariant.3 ∙ all_past (is_digit c.args.base) s c.loop-i.i c.loop-i-test.false in
-    rw number_is (read_number c.args.base c.args.bound s spelt (rw number_is at c.loop-i.invariant.2)) }
+    record {
+      answer = let s = c.args.s.now in
+          let end : c.loop-i.i ≡ length s = omega arith in
+          let number_is : c.loop-i.number ≡ number_in c.args.base s = c.loop-i.invariant.1 ∙ rw (end, take-length) in
+          let spelt : spells c.args.base s ≡ true =
+          sym c.loop-i.invariant.3 ∙ all_past (is_digit c.args.base) s c.loop-i.i c.loop-i-test.false in
+          rw number_is (read_number c.args.base c.args.bound s spelt (rw number_is at c.loop-i.invariant.2));
+    }

@@ -1,18 +1,10 @@
 -- The loop's invariant: the first `i` characters are digits, and make a number up to the bound. A character that is no
 -- digit, or a digit that takes the number past the bound, ends the loop: digits behind it make no number smaller. The
 -- measure is what is left.
-use Prim.Native.Nat.{◌-◌, ◌<◌, ◌≤◌}
-use mathlib.Core.Path.{◌≡◌, refl, sym, ◌∙◌}
-use mathlib.Core.Bool.{true}
-use native.Mathlib.Omega.{arith}
+use Prim.Native.Nat.{◌-◌, ◌≤◌}
+use mathlib.Core.Path.{◌≡◌}
 use lib.ListN.{length, take, drop}
-use lib.Seq.{take-length}
-use Rattle.basic_laws.specs.Fold.{fold}
-use Rattle.basic_laws.specs.FoldLaws.{all_past}
-use Rattle.text.specs.Digits.{is_digit, spells, number_in}
-use Rattle.text.specs.DigitsLaws.{number-next}
-use Rattle.text.specs.NumbersLaws.{turn-other, turn-digit, turn-past, digit-fits, digit-exceeds, read_number}
-use Rattle.text.specs.NumbersLaws.{read-other, read_past}
+use Rattle.text.specs.Digits.{spells, number_in}
 use Rattle.text.proofs.numbers.read_number.Given as goal
 
 abbrev pub invariant-loop-i : goal.invariant-loop-i

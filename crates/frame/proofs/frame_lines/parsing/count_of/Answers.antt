@@ -11,7 +11,6 @@ use Rattle.text.specs.Digits.{is_digit, spells}
 use Rattle.text.specs.DigitsLaws.{number-below}
 use Rattle.text.specs.NumbersLaws.{fixed-hex}
 use Rattle.frame.specs.ReadLine.{slot_count_in}
-use borrow.Author.Rules.{rules}
 use Rattle.frame.proofs.frame_lines.parsing.count_of.Goals as goal
 use Rattle.frame.proofs.frame_lines.parsing.count_of.Goals.{After-read_fixed-read, Start}
 
@@ -28,7 +27,6 @@ spelt c =
 read : (c : After-read_fixed-read) → c.read_fixed-read.result.number
     ≡ slot_count_in c.args.line.now
 read c =
-    
     ap (λ (r : NumberRead). r.number) (c.read_fixed-read.ensures.answer
     ∙ fixed-hex 4 (take 4 (drop 2 c.args.line.now)) (four (c.before.before.before.before)) (omega arith) (spelt (c.before.before.before.before)))
 

@@ -7,7 +7,6 @@ use Rattle.basic_laws.specs.FoldLaws.{all_take}
 use Rattle.text.specs.declared.NumberRead.{NumberRead}
 use Rattle.text.specs.Digits.{is_digit}
 use Rattle.text.specs.NumbersLaws.{fixed-hex}
-use borrow.Author.Rules.{rules}
 use Rattle.frame.proofs.frame_lines.parsing.presence_of.Goals as goal
 
 pub returns : goal.returns

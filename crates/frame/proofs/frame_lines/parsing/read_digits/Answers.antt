@@ -4,7 +4,7 @@ use mathlib.Core.Path.{◌≡◌, sym, ap, ◌∙◌}
 use mathlib.Core.Bool.{◌||◌}
 use mathlib.Core.List.{List}
 use native.Mathlib.Omega.{arith}
-use borrow.Author.Tests.{not-true, not-false, leb-true}
+use borrow.Author.Tests.{leb-true}
 use lib.Dec.{eqb, leb}
 use lib.ListN.{length, take, drop, length-drop}
 use lib.Seq.{take_all}
@@ -14,7 +14,6 @@ use Rattle.text.specs.Digits.{is_digit}
 use Rattle.frame.specs.Frames.{count_allowed, bytes_for}
 use Rattle.frame.specs.ReadLine.{LineContent, found, line_answer_of, presence_in, slot_count_in}
 use Rattle.frame.specs.ReadLineLaws.{wrong-length, wrong-presence, wrong-count, right-head}
-use borrow.Author.Rules.{rules}
 use Rattle.frame.proofs.frame_lines.parsing.read_digits.Goals as goal
 use Rattle.frame.proofs.frame_lines.parsing.read_digits.Goals.{After-count_allowed-allowed, After-presence_of-presence, Else-line-length, Else-not-allowed}
 

@@ -1,5 +1,4 @@
 -- The decoded bytes lie over 64 zeros, and those before place n are the ones decoded.
-use borrow.Author.Tests.{not-true, not-false}
 use Prim.Native.Nat.{◌+◌, ◌-◌, ◌≤◌}
 use mathlib.Core.Path.{◌≡◌, sym, ap, ◌∙◌}
 use native.Mathlib.Omega.{arith}
@@ -9,10 +8,8 @@ use Rattle.basic_laws.specs.LaidLaws.{laid-read}
 use Rattle.text.specs.Digits.{bytes_of}
 use Rattle.text.proofs.LayingLaws.{lay-fits}
 use Rattle.frame.specs.Frames.{no_bits, bytes_for, clear_from}
-use Rattle.frame.specs.FramesLaws.{pad-length}
 use Rattle.frame.specs.ReadLine.{LineContent, found, line_answer_of}
 use Rattle.frame.specs.ReadLineLaws.{body-length, slots-clear, slots-spare}
-use borrow.Author.Rules.{rules}
 use Rattle.frame.proofs.frame_lines.parsing.read_slots.Goals as goal
 use Rattle.frame.proofs.frame_lines.parsing.read_slots.Goals.{After-clear_from-clear, After-read_bytes, Start}
 
@@ -30,19 +27,16 @@ filled : (c : After-read_bytes) → c.read_bytes.new.out
     ≡ laid no_bits 0 (bytes_of c.args.body.now)
 unfolding no_bits
 filled c =
-    
     let x = bytes_of c.args.body.now in
     let size = few (c.before.before.before.before.before) in
     let room : 0 + length x ≤ length no_bits = omega arith in
     c.read_bytes.ensures.written ∙ rw c.requires.2 (lay-fits no_bits 0 x room).1
 
 -- what the test says of the digits' own bytes
-seen : (c : After-clear_from-clear) → 
+seen : (c : After-clear_from-clear) →
     let a = c.args in
     c.clear_from-clear.result ≡ clear_from a.count (bytes_of a.body.now)
 seen c =
-    
-    
     let x = bytes_of c.args.body.now in
     let n = c.bytes_for-n.result in
     let e : n - 0 ≡ length x = let m = many (c.before.before.before.before.before.before.before.before) in let b = c.bytes_for-n.ensures.answer in omega arith in
