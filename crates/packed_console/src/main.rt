@@ -2,6 +2,8 @@
 // its answer on standard output at once. It only moves bytes: `sessions::gathering` says where a line ends, and
 // `packed_session::table_settings` reads it, unpacks the table, makes the call, packs the bench again and forms the
 // answer.
+#![tactic(auto)]
+
 ghost use Rattle.std.specs.Prelude.{◌≡◌, true, false, ◌<◌, ◌≤◌, length, take};
 ghost use Rattle.text.specs.Lines.{Line};
 ghost use Rattle.bench_answers.specs.Whole.{room};
@@ -10,7 +12,6 @@ ghost use Rattle.sessions.specs.Session.{held_ended, run_after, at_end, run_at, 
 ghost use Rattle.packed_session.specs.TableSession.{table_state, table_console, first_state};
 
 use bench_answers::search_answers::ROOM;
-use libc::{STDIN_FILENO, STDOUT_FILENO};
 use packed_bench::table::TABLE_BYTES;
 use packed_session::table_settings;
 use sessions::gathering;
@@ -43,21 +44,21 @@ struct Run {
 }
 
 // Hands to the output what is said to a line in the state in hand.
-fn write_answer(table: Table, store: Store, line: &[u8], text: &[u8])
+fn write_answer(rt: &impl Print, table: Table, store: Store, line: &[u8], text: &[u8])
     requires { text.now ≡ table_console.says (table_state table store) (record { chars = line.now; fed = true }) }
 {
-    io::write_all(STDOUT_FILENO, text);
+    streams::write_all(rt, text);
 }
 
 // Hands to the output what is said at the end to what is held.
-fn write_last(table: Table, store: Store, line: &[u8], text: &[u8])
+fn write_last(rt: &impl Print, table: Table, store: Store, line: &[u8], text: &[u8])
     requires { text.now ≡ at_end table_console (record { state = table_state table store; held = line.now }) }
 {
-    io::write_all(STDOUT_FILENO, text);
+    streams::write_all(rt, text);
 }
 
 // A line that has its feed, answered.
-fn answer_line(table: Table, store: Store, line: &[u8], out: &mut [u8]) -> Left
+fn answer_line(rt: &impl Print, table: Table, store: Store, line: &[u8], out: &mut [u8]) -> Left
     requires { room ≤ length out.old }
     ensures { table_state result.table result.store
         ≡ table_console.next (table_state table store) (record { chars = line.now; fed = true }) }
@@ -66,7 +67,7 @@ fn answer_line(table: Table, store: Store, line: &[u8], out: &mut [u8]) -> Left
     let told = table_settings::answer(&mut bytes, store, line, true, out);
     let written = told.written;
     let count = written.next;
-    write_answer(table, store, line, &out[..count]);
+    write_answer(rt, table, store, line, &out[..count]);
     let store_after = told.store;
     Left {
         table: bytes,
@@ -75,18 +76,19 @@ fn answer_line(table: Table, store: Store, line: &[u8], out: &mut [u8]) -> Left
 }
 
 // A last line without a feed, answered.
-fn answer_last(table: Table, store: Store, line: &[u8], out: &mut [u8])
+fn answer_last(rt: &impl Print, table: Table, store: Store, line: &[u8], out: &mut [u8])
     requires { (room ≤ length out.old) × (0 < length line.now) }
 {
     let mut bytes = table;
     let told = table_settings::answer(&mut bytes, store, line, false, out);
     let written = told.written;
     let count = written.next;
-    write_last(table, store, line, &out[..count]);
+    write_last(rt, table, store, line, &out[..count]);
 }
 
 // A line that has its feed is answered, and held no more.
 fn end_line(
+    rt: &impl Print,
     table: Table,
     store: Store,
     line: &[u8],
@@ -100,7 +102,7 @@ fn end_line(
         × (result.held ≤ held) }
 {
     if whole {
-        let left = answer_line(table, store, &line[..held], out);
+        let left = answer_line(rt, table, store, &line[..held], out);
         let table_after = left.table;
         let store_after = left.store;
         return State {
@@ -113,7 +115,13 @@ fn end_line(
 }
 
 // A piece, line by line.
-fn answer_piece(start: State, line: &mut [u8], piece: &[u8], out: &mut [u8]) -> State
+fn answer_piece(
+    rt: &impl Print,
+    start: State,
+    line: &mut [u8],
+    piece: &[u8],
+    out: &mut [u8],
+) -> State
     requires { (room ≤ length out.old) × Holding line.old start.held }
     ensures run { run_at (table_state result.table result.store) line.new result.held
         ≡ run_after table_console (run_at (table_state start.table start.store) line.old start.held)
@@ -126,14 +134,20 @@ fn answer_piece(start: State, line: &mut [u8], piece: &[u8], out: &mut [u8]) -> 
         let table = s.table;
         let store = s.store;
         let gathered = gathering::take_line(line, s.held, piece, at);
-        s = end_line(table, store, line, gathered.held, gathered.whole, out);
+        s = end_line(rt, table, store, line, gathered.held, gathered.whole, out);
         at = gathered.next;
     }
     s
 }
 
 // One read. What came stands at the front of the buffer.
-fn next_piece(run: Run, buffer: &mut [u8], line: &mut [u8], out: &mut [u8]) -> Run
+fn next_piece(
+    rt: &(impl Input + Print),
+    run: Run,
+    buffer: &mut [u8],
+    line: &mut [u8],
+    out: &mut [u8],
+) -> Run
     requires { (room ≤ length out.old) × Holding line.old run.state.held }
     ensures run { run_at (table_state result.state.table result.state.store) line.new result.state.held
         ≡ run_after table_console (run_at (table_state run.state.table run.state.store) line.old
@@ -141,10 +155,9 @@ fn next_piece(run: Run, buffer: &mut [u8], line: &mut [u8], out: &mut [u8]) -> R
     ensures holding { Holding line.new result.state.held }
     ensures reads { 0 < run.reads → result.reads < run.reads }
 {
-    let got = libc::read(STDIN_FILENO, buffer);
-    let came = io::count(got, buffer);
+    let came = streams::read(rt, buffer);
     let before = run.state;
-    let state = answer_piece(before, line, &buffer[..came], out);
+    let state = answer_piece(rt, before, line, &buffer[..came], out);
     Run {
         state,
         came,
@@ -152,7 +165,7 @@ fn next_piece(run: Run, buffer: &mut [u8], line: &mut [u8], out: &mut [u8]) -> R
     }
 }
 
-fn finish(run: Run, line: &[u8], out: &mut [u8])
+fn finish(rt: &impl Print, run: Run, line: &[u8], out: &mut [u8])
     requires { (room ≤ length out.old) × Holding line.now run.state.held }
 {
     let state = run.state;
@@ -160,7 +173,7 @@ fn finish(run: Run, line: &[u8], out: &mut [u8])
     let store = state.store;
     let held = state.held;
     if held > 0 {
-        answer_last(table, store, &line[..held], out);
+        answer_last(rt, table, store, &line[..held], out);
     }
 }
 
@@ -181,19 +194,19 @@ fn first_run() -> Run
 }
 
 // The line and the answer have just the room that they need.
-fn answer_input(buffer: &mut [u8], line: &mut [u8], out: &mut [u8])
+fn answer_input(rt: &(impl Input + Print), buffer: &mut [u8], line: &mut [u8], out: &mut [u8])
     requires { (room ≤ length out.old) × (length line.old ≡ most_held) }
 {
     let mut run = first_run();
     while run.reads > 0 {
-        run = next_piece(run, buffer, line, out);
+        run = next_piece(rt, run, buffer, line, out);
     }
-    finish(run, line, out);
+    finish(rt, run, line, out);
 }
 
-fn main() {
+fn main(rt: HostRuntime) {
     let mut buffer = [0u8; 4096];
     let mut line = [0u8; MOST_HELD];
     let mut out = [0u8; ROOM];
-    answer_input(&mut buffer, &mut line, &mut out);
+    answer_input(&rt, &mut buffer, &mut line, &mut out);
 }
