@@ -13,7 +13,7 @@ use Rattle.std.proofs.lemmas.Nat.{and_le_r}
 use Rattle.std.proofs.Math.ListN.{get_or}
 use Rattle.std.proofs.Math.Seq.{get_or-set_other}
 use Rattle.std.specs.Int.Signed.{mag}
-use Rattle.basic_laws.specs.Choice.{if◌then◌else◌}
+use Rattle.std.specs.Prelude.{if◌then◌else◌}
 use Rattle.basic_laws.specs.ChoiceLaws.{and_left, and_right}
 use Rattle.basic_laws.specs.Each.{Each}
 use Rattle.basic_laws.specs.Fold.{all}

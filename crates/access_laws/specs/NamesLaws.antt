@@ -3,7 +3,7 @@
 -- that the naming reads; and the lines of a recording are read as the frames that were written (`read_back`).
 --     Fits c     the bits of a sound code
 use Rattle.std.specs.Prelude.{ℕ, suc, ◌*◌, ◌^◌, ◌<◌, ◌≤◌, Bool, true, false, not, ◌||◌, List, [], ◌∷◌, ◌++◌, map, ◌≡◌, refl, ltb, length}
-use Rattle.basic_laws.specs.Choice.{if◌then◌else◌}
+use Rattle.std.specs.Prelude.{if◌then◌else◌}
 use Rattle.std.proofs.Common.{sym, ap, ◌∙◌, arith, eqb-true, lt-ltb, ltb-false, lit≤, length-append}
 use Rattle.std.proofs.lemmas.List.{length-map}
 use Rattle.basic_laws.specs.Bits.{bits_of, number_of}

@@ -14,7 +14,7 @@ use Rattle.std.proofs.Common.{sym, ap, ◌∙◌, pow-suc, lt-ltb, eqb-true}
 use Rattle.std.proofs.Math.Nat.{div-div-eq-div-mul}
 use native.Mathlib.Omega.{arith}
 use Rattle.std.proofs.lemmas.Bool.{eqb-false}
-use Rattle.basic_laws.specs.Choice.{if◌then◌else◌}
+use Rattle.std.specs.Prelude.{if◌then◌else◌}
 use Rattle.basic_laws.specs.Bits.{bit_at, bits_of}
 use Rattle.commands.specs.Commands.{match_rom, read_scratchpad}
 use Rattle.rom.specs.Code.{code_bits}

@@ -5,7 +5,7 @@
 use Rattle.std.specs.Prelude.{ℕ, ◌<◌, Bool, true, false, not, ◌||◌, List, [], ◌∷◌, ◌≢◌, ◌≡◌, refl, eqb, length, get_or, replicate}
 use Rattle.std.proofs.lemmas.Bool.{false≢true}
 use Rattle.std.proofs.Common.{sym, ap, ◌∙◌, arith, eqb-true, eq-eqb, lt-ltb, lit<, length-take, take_at}
-use Rattle.basic_laws.specs.Choice.{if◌then◌else◌}
+use Rattle.std.specs.Prelude.{if◌then◌else◌}
 use Rattle.basic_laws.specs.EachLaws.{each_at}
 use Rattle.basic_laws.specs.Fold.{fold, all}
 use Rattle.basic_laws.specs.FoldLaws.{all-at}

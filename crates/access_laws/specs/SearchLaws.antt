@@ -1,7 +1,7 @@
 -- A search and an alarm search change nothing of any device but its stage, refused or not: `search-kept`, `alarm-kept`.
 use Rattle.std.specs.Prelude.{ℕ, Bool, true, false, not, ◌||◌, map, ◌≡◌, refl, ltb}
 use Rattle.std.proofs.Common.{ap, ◌∙◌}
-use Rattle.basic_laws.specs.Choice.{if◌then◌else◌}
+use Rattle.std.specs.Prelude.{if◌then◌else◌}
 use Rattle.commands.specs.Commands.{search_rom, alarm_search}
 use Rattle.refusals.specs.Refusals.{no_room, wire_busy}
 use Rattle.bench.specs.Bench.{live, free}

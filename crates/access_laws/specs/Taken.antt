@@ -8,7 +8,7 @@
 use Rattle.std.specs.Prelude.{ℕ, ◌^◌, ◌<◌, Bool, List, [], ◌∷◌, ◌++◌, ◌≡◌, refl, eqb, ltb, set}
 use Rattle.std.proofs.Math.Bool.{true, false}
 use Rattle.std.proofs.Common.{ap, subst, ◌∙◌, eqb-true}
-use Rattle.basic_laws.specs.Choice.{if◌then◌else◌}
+use Rattle.std.specs.Prelude.{if◌then◌else◌}
 use Rattle.basic_laws.specs.Bits.{bits_of, number_of}
 use Rattle.basic_laws.specs.BitsLaws.{number-bits}
 use Rattle.commands.specs.BytesLaws.{eight-in}

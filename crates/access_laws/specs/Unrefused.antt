@@ -6,7 +6,7 @@
 --     Unrefused passes b a       the answer's bench is where these resets and slots leave it, by the slot rule, and
 --                                none of them is refused
 use Rattle.std.specs.Prelude.{ℕ, Bool, List, [], ◌∷◌, ◌++◌, ◌≡◌}
-use Rattle.basic_laws.specs.Choice.{if◌then◌else◌}
+use Rattle.std.specs.Prelude.{if◌then◌else◌}
 use Rattle.basic_laws.specs.Bits.{bits_of}
 use Rattle.commands.specs.Commands.{match_rom, read_scratchpad, write_scratchpad}
 use Rattle.refusals.specs.Refusals.{accepted}

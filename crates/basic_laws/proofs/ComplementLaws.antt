@@ -9,7 +9,7 @@ use Rattle.std.specs.Int.Signed.{mag, mag_shr, le_z, shr_z}
 use Rattle.std.specs.Int.{Width, w8, w16, w32}
 use mir.Val.{SFits, to_z, of_z, bits, hbits}
 use mir.ValLaws.{to_z-of_z, of_z-to_z, of_z_fits, to_z-Fits, sfits_le, half_full}
-use Rattle.basic_laws.specs.Choice.{if◌then◌else◌}
+use Rattle.std.specs.Prelude.{if◌then◌else◌}
 use Rattle.basic_laws.specs.Rounding.{floor_div, floor_to}
 use Rattle.basic_laws.proofs.RoundingLaws.{floor-size, mul-size, sub-below, sub-above}
 use Rattle.basic_laws.specs.Complement.{signed16, signed8, bits16, bits8, Fits16}

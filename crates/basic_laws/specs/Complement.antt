@@ -7,7 +7,7 @@
 use Rattle.std.specs.Prelude.{ℕ, suc, ◌-◌, ltb, ℤ, pos, negsuc, ◌-ℤ◌}
 use Rattle.std.specs.Int.{w16}
 use Rattle.std.proofs.Common.{SFits}
-use Rattle.basic_laws.specs.Choice.{if◌then◌else◌}
+use Rattle.std.specs.Prelude.{if◌then◌else◌}
 
 abbrev pub signed16 : ℕ → ℤ
 signed16 n = if ltb n 32768 then pos n else pos n -ℤ pos 65536

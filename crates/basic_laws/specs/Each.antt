@@ -5,7 +5,7 @@
 --     Along R l m       l and m are as long, and R holds of each two at the same place
 --     those p l         those of l that pass the test p, in their order
 use Rattle.std.specs.Prelude.{◌≢◌, List, [], ◌∷◌, Bool}
-use Rattle.basic_laws.specs.Choice.{if◌then◌else◌}
+use Rattle.std.specs.Prelude.{if◌then◌else◌}
 
 -- ## What is said of a list
 

@@ -3,7 +3,7 @@
 -- so with a new one at the end; two tests that agree pick the same; and those of two lists are those of the one and
 -- then of the other.
 use mathlib.Core.List.{List, [], ◌∷◌, ◌++◌, map, Permᴰ}
-use Rattle.basic_laws.specs.Choice.{if◌then◌else◌}
+use Rattle.std.specs.Prelude.{if◌then◌else◌}
 use Rattle.basic_laws.specs.Each.{Each, Distinct, those}
 use Rattle.std.specs.Prelude.{Bool, true, false, ◌≡◌, refl, ◌≢◌, ℕ, zero, suc, ◌+◌, ◌<◌, length, get_or, set, take}
 use Rattle.std.proofs.Common.{ap, ◌∙◌, arith, add-one}

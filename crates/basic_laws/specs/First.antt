@@ -2,7 +2,7 @@
 --     first_with p f z k l      f of the place of the first that passes, places counted from k; z where none passes
 --     first_at v l              how many stand before the first that is v; all where none is
 use Rattle.std.specs.Prelude.{ℕ, suc, Bool, List, [], ◌∷◌, eqb}
-use Rattle.basic_laws.specs.Choice.{if◌then◌else◌}
+use Rattle.std.specs.Prelude.{if◌then◌else◌}
 
 unfoldable pub first_with : {A R : Type 0} → (A → Bool) → (ℕ → R) → R → ℕ → List A → R
 first_with p f z k [] = z

@@ -11,7 +11,7 @@ use Rattle.std.specs.Prelude.{ℕ, suc, ◌+◌, ◌<◌, ◌≤◌, ◌≡◌, 
 use Rattle.std.proofs.Common.{sym, ap, subst, ◌∙◌, arith, length-take, drop_of_length-le, drop-cons, get_or-take}
 use Rattle.std.proofs.Math.Numerals.{add-one}
 use borrow.Author.Tests.{eq-eqb, ne_eqb, eqb-true}
-use Rattle.basic_laws.specs.Choice.{if◌then◌else◌}
+use Rattle.std.specs.Prelude.{if◌then◌else◌}
 use Rattle.basic_laws.specs.Each.{Each}
 use Rattle.basic_laws.specs.Fold.{all}
 use Rattle.basic_laws.specs.FoldLaws.{all-passes, all-fails, all_end}

@@ -3,7 +3,7 @@
 --     alike p l m          how many elements from the front go alike by the test p, up to the first two that do not, or
 --                          to the end of either list
 use Rattle.std.specs.Prelude.{ℕ, suc, Bool, true, false, ◌&&◌, List, [], ◌∷◌, eqb}
-use Rattle.basic_laws.specs.Choice.{if◌then◌else◌}
+use Rattle.std.specs.Prelude.{if◌then◌else◌}
 
 unfoldable pub same : List ℕ → List ℕ → Bool
 same [] [] = true

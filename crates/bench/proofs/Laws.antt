@@ -12,7 +12,7 @@ use Rattle.std.proofs.Math.Path.{refl}
 use Rattle.std.proofs.Common.{ap, ◌∙◌, arith, add-one, eqb-true, ltb-true, ne_eqb, length-set, length-take, take-suc-set, drop-set-lt, get_or-take}
 use Rattle.std.proofs.lemmas.Bool.{eqb-false}
 use Rattle.std.proofs.Math.Seq.{take-set-lt}
-use Rattle.basic_laws.specs.Choice.{if◌then◌else◌}
+use Rattle.std.specs.Prelude.{if◌then◌else◌}
 use Rattle.basic_laws.specs.FirstLaws.{first-cases}
 use Rattle.basic_laws.specs.Fold.{all}
 use Rattle.basic_laws.specs.FrontLaws.{front-taken, front_length, front-dropped}

@@ -8,7 +8,7 @@
 --     power_cycled b code             12 for a code that is not there; else the device is powered up again
 -- These name one device, the first with the code; no other changes.
 use Rattle.std.specs.Prelude.{ℕ, ◌+◌, Bool, true, false, not, eqb, ltb, get_or, set}
-use Rattle.basic_laws.specs.Choice.{if◌then◌else◌}
+use Rattle.std.specs.Prelude.{if◌then◌else◌}
 use Rattle.refusals.specs.Refusals.{accepted, duplicate, bench_full, not_found, wrong_pins}
 use Rattle.family.specs.Families.{pins_wrong}
 use Rattle.rom.specs.Code.{code_refusal}

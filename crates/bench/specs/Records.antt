@@ -5,7 +5,7 @@
 --     fits_bench ds n         whether the first n of a table may make a bench: at most 32, and their codes fit
 --     made_of ds n            their bench, or 22 and the empty bench
 use Rattle.std.specs.Prelude.{ℕ, ◌-◌, Bool, true, not, ◌&&◌, List, [], ◌∷◌, ◌++◌, eqb, leb, length, take, replicate}
-use Rattle.basic_laws.specs.Choice.{if◌then◌else◌}
+use Rattle.std.specs.Prelude.{if◌then◌else◌}
 use Rattle.basic_laws.specs.Fold.{all}
 use Rattle.refusals.specs.Refusals.{accepted, not_a_table}
 use Rattle.rom.specs.Code.{sound}

@@ -4,7 +4,7 @@
 --     settled-quiet          a quiet device is as it was
 use Rattle.std.specs.Prelude.{ℕ, Bool, false, not, ◌≡◌}
 use Rattle.std.proofs.lemmas.Bool.{not-false}
-use Rattle.basic_laws.specs.Choice.{if◌then◌else◌}
+use Rattle.std.specs.Prelude.{if◌then◌else◌}
 use Rattle.basic_laws.specs.Front.{map_front}
 use Rattle.device.specs.Hear.{after_search}
 use Rattle.device.specs.Record.{with_stage}

@@ -5,7 +5,7 @@
 --     slotted b m     one slot: the line's bit, and the bench after it; on the empty bench the line is the master's bit
 --     reset_done b     a reset: every live device listens for a ROM command; presence is shown if there is any device
 use Rattle.std.specs.Prelude.{Bool, false, ltb}
-use Rattle.basic_laws.specs.Choice.{if◌then◌else◌}
+use Rattle.std.specs.Prelude.{if◌then◌else◌}
 use Rattle.refusals.specs.Refusals.{accepted, wire_busy}
 use Rattle.bench.specs.Wire.{line_shown, all_heard, all_restarted}
 use Rattle.bench.specs.declared.Bench.{Bench}

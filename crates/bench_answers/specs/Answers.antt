@@ -7,7 +7,7 @@
 --     code_line, code_lines    a code that a search listed, and all of them
 --     show_line               REFUSAL PAD8 EEPROM FLAG BUSY of a device, and zeros for a code that is not on the bench
 use Rattle.std.specs.Prelude.{ℕ, Bool, false, List, [], ◌∷◌, ◌++◌, eqb, replicate}
-use Rattle.basic_laws.specs.Choice.{if◌then◌else◌}
+use Rattle.std.specs.Prelude.{if◌then◌else◌}
 use Rattle.refusals.specs.Refusals.{accepted}
 use Rattle.text.specs.Ascii.{ascii}
 use Rattle.text.specs.Decimal.{decimal}

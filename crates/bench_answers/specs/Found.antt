@@ -3,7 +3,7 @@
 --     counts_line o           the first line of a search
 --     of_search o             the whole answer
 use Rattle.std.specs.Prelude.{ℕ, Bool, List, ◌++◌}
-use Rattle.basic_laws.specs.Choice.{if◌then◌else◌}
+use Rattle.std.specs.Prelude.{if◌then◌else◌}
 use Rattle.commands.specs.Commands.{search_rom, alarm_search}
 use Rattle.frame.specs.Recording.{write_all}
 use Rattle.master_rules.specs.Search.{Outcome, answer_of}

@@ -6,7 +6,7 @@
 --     Says d a d' r          what a part of a call has come to: the answer a, its text at the front of what is lent and
 --                            within the room
 use Rattle.std.specs.Prelude.{ℕ, ◌≤◌, ◌≡◌, List, leb, length}
-use Rattle.basic_laws.specs.Choice.{if◌then◌else◌}
+use Rattle.std.specs.Prelude.{if◌then◌else◌}
 use Rattle.basic_laws.specs.Laid.{laid}
 use Rattle.refusals.specs.Refusals.{accepted, no_room}
 use Rattle.bench.specs.declared.Bench.{Bench}

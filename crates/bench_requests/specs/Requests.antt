@@ -5,7 +5,7 @@
 --     of_master ws            the calls of the master
 --     request_of s            what a line, without its feed, asks for; a line over 80 characters is `Bad`
 use Rattle.std.specs.Prelude.{ℕ, ◌-◌, Bool, ◌&&◌, List, eqb, leb, length}
-use Rattle.basic_laws.specs.Choice.{if◌then◌else◌}
+use Rattle.std.specs.Prelude.{if◌then◌else◌}
 use Rattle.text.specs.Ascii.{ascii}
 use Rattle.text.specs.declared.NumberRead.{NumberRead}
 use Rattle.lines.specs.declared.fields.CountRead.{CountRead}

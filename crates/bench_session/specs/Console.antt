@@ -5,7 +5,7 @@
 --                            refusal 1 where less than the room is lent
 --     bench_leaves b l out    the lent bytes after it: the text from byte 0 on, or as they were
 use Rattle.std.specs.Prelude.{ℕ, List}
-use Rattle.basic_laws.specs.Choice.{if◌then◌else◌}
+use Rattle.std.specs.Prelude.{if◌then◌else◌}
 use Rattle.commands.specs.Commands.{search_rom, alarm_search}
 use Rattle.text.specs.Lines.{Line}
 use Rattle.bench.specs.Calls.{added_to, conversion_finished, copy_finished, power_cycled, looked}

@@ -7,7 +7,7 @@
 --                            store, or refusal 1 where less than the room is lent
 --     leaves b s l out       the lent bytes after it: the text from byte 0 on, or as they were
 use Rattle.std.specs.Prelude.{ℕ, List, leb, length}
-use Rattle.basic_laws.specs.Choice.{if◌then◌else◌}
+use Rattle.std.specs.Prelude.{if◌then◌else◌}
 use Rattle.text.specs.Lines.{Line}
 use Rattle.bench.specs.declared.Bench.{Bench}
 use Rattle.bench_answers.specs.Said.{Answered, says, of_access}

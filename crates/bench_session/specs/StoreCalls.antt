@@ -9,7 +9,7 @@
 --     Calls d x s d' r       what a part of the call has come to: the line x at the front of what is lent, and the
 --                            store s
 use Rattle.std.specs.Prelude.{ℕ, ◌≤◌, ◌≡◌, List, [], length}
-use Rattle.basic_laws.specs.Choice.{if◌then◌else◌}
+use Rattle.std.specs.Prelude.{if◌then◌else◌}
 use Rattle.text.specs.Laying.{has_room}
 use Rattle.text.specs.Putting.{line_room, line_answer, line_leaves}
 use Rattle.bench_answers.specs.Answers.{refusal_line}

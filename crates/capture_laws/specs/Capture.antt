@@ -10,7 +10,7 @@
 --     course_ended c          the course with its end
 --     FrameSound f           a frame that the program can hold and a line can carry
 use Rattle.std.specs.Prelude.{ℕ, ◌≡◌, true, not, List, [], ◌∷◌, ◌++◌, eqb, length}
-use Rattle.basic_laws.specs.Choice.{if◌then◌else◌}
+use Rattle.std.specs.Prelude.{if◌then◌else◌}
 use Rattle.refusals.specs.Refusals.{accepted, not_hex, malformed}
 use Rattle.text.specs.Digits.{spells, number_in}
 use Rattle.text.specs.Lines.{Line, lines_of}

@@ -10,7 +10,7 @@
 --     fed_in out ss           reader and buffer after a capture in pieces, from the start
 --     RoomClaim              that a reader holds so every capture, cut anywhere, in every buffer, and an end behind it
 use Rattle.std.specs.Prelude.{ℕ, suc, ◌+◌, ◌-◌, ◌<◌, ◌≤◌, ◌≡◌, List, [], ◌∷◌, leb, length, take}
-use Rattle.basic_laws.specs.Choice.{if◌then◌else◌}
+use Rattle.std.specs.Prelude.{if◌then◌else◌}
 use Rattle.basic_laws.specs.Laid.{laid}
 use Rattle.refusals.specs.Refusals.{no_room}
 use Rattle.pieces.specs.Pieces.{together}

@@ -8,7 +8,7 @@
 use Rattle.std.specs.Prelude.{ℕ, ◌+◌, ◌<◌, ◌≤◌, ◌≡◌, refl, ◌≢◌, Bool, true, false, not, List, [], ◌∷◌, ◌++◌, eqb, leb, length}
 use Rattle.std.proofs.Common.{ap, ◌∙◌, append_assoc, append-nil, arith, eqb-true, ne_eqb, leb-true, leb-false, length-append}
 use Rattle.std.proofs.lemmas.Bool.{eqb-false}
-use Rattle.basic_laws.specs.Choice.{if◌then◌else◌}
+use Rattle.std.specs.Prelude.{if◌then◌else◌}
 use Rattle.basic_laws.specs.Fold.{fold, all}
 use Rattle.basic_laws.specs.FoldLaws.{all_append}
 use Rattle.refusals.specs.Refusals.{accepted, no_room, not_hex, malformed}

@@ -8,7 +8,7 @@
 --                            1
 use Rattle.std.specs.Prelude.{ℕ, ◌+◌, ◌-◌, ◌<◌, ◌≤◌, ◌≡◌, refl, ◌≢◌, Bool, true, false, not, ◌&&◌, List, [], ◌∷◌, eqb, leb, ltb, length}
 use Rattle.std.proofs.Common.{arith, ltb-true}
-use Rattle.basic_laws.specs.Choice.{if◌then◌else◌}
+use Rattle.std.specs.Prelude.{if◌then◌else◌}
 use Rattle.basic_laws.specs.ChoiceLaws.{and_left, and_right}
 use Rattle.refusals.specs.Refusals.{accepted, no_room, not_hex, malformed, bad_pulse, not_later}
 use Rattle.text.specs.Digits.{spells, number_in}

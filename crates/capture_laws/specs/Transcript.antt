@@ -11,7 +11,7 @@
 --     piece_after r s         the reader after it
 --     end_text r              what it hands on for the end
 use Rattle.std.specs.Prelude.{ℕ, ◌+◌, ◌≤◌, ◌≡◌, true, List, [], ◌∷◌, ◌++◌, eqb, length, take, replicate}
-use Rattle.basic_laws.specs.Choice.{if◌then◌else◌}
+use Rattle.std.specs.Prelude.{if◌then◌else◌}
 use Rattle.basic_laws.specs.Each.{Each}
 use Rattle.basic_laws.specs.Fold.{all}
 use Rattle.refusals.specs.Refusals.{accepted}

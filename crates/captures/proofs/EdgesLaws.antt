@@ -12,7 +12,7 @@ use native.Mathlib.Omega.{arith}
 use borrow.Author.Tests.{eq-eqb, ne_eqb, not-true}
 use Rattle.std.proofs.Math.ListN.{length, drop, length-drop}
 use Rattle.std.proofs.Math.Seq.{drop-cons}
-use Rattle.basic_laws.specs.Choice.{if◌then◌else◌}
+use Rattle.std.specs.Prelude.{if◌then◌else◌}
 use Rattle.basic_laws.specs.ChoiceLaws.{choice-then, choice-else, and_left, and_right}
 use Rattle.basic_laws.specs.Fold.{fold, all}
 use Rattle.basic_laws.specs.FirstLaws.{at_none, at_there}

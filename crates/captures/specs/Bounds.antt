@@ -8,7 +8,7 @@
 --     is_silence d            the high after a reset that nobody answers
 --     pulse_of d              what a low is by how long it lasts
 use Rattle.std.specs.Prelude.{ℕ, Bool, ◌&&◌, leb}
-use Rattle.basic_laws.specs.Choice.{if◌then◌else◌}
+use Rattle.std.specs.Prelude.{if◌then◌else◌}
 use Rattle.captures.specs.declared.pulses.Pulse.{Pulse}
 use Rattle.captures.specs.declared.pulses.Pulse.TheVariants.{One, Zero, Reset, Other}
 

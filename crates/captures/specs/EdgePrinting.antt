@@ -5,7 +5,7 @@
 --     printed_for a out           what is printed for the answer a of a reader
 --     printed_leaves a out        the buffer with it
 use Rattle.std.specs.Prelude.{ℕ, true, false, List, eqb}
-use Rattle.basic_laws.specs.Choice.{if◌then◌else◌}
+use Rattle.std.specs.Prelude.{if◌then◌else◌}
 use Rattle.refusals.specs.Refusals.{accepted}
 use Rattle.text.specs.Laying.{lay_answer, lay_leaves}
 use Rattle.naming.specs.Naming.{refused_name}

@@ -18,7 +18,7 @@
 --     feed_answer, feed_leaves r out s  the answer for a piece, and what is left of the buffer
 --     end_answer, end_leaves r out      the same for an end; where it is accepted the reader is fresh
 use Rattle.std.specs.Prelude.{ℕ, Bool, false, not, ◌&&◌, List, eqb}
-use Rattle.basic_laws.specs.Choice.{if◌then◌else◌}
+use Rattle.std.specs.Prelude.{if◌then◌else◌}
 use Rattle.basic_laws.specs.Fold.{fold}
 use Rattle.refusals.specs.Refusals.{accepted, not_hex, malformed}
 use Rattle.text.specs.Lines.{line_feed}

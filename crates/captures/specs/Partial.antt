@@ -6,7 +6,7 @@
 --     longer_partial l c      the line with one character more
 --     gathered_time cs        what is known of a line of the characters cs
 use Rattle.std.specs.Prelude.{ℕ, ◌+◌, ◌%◌, true, ◌&&◌, List, ltb}
-use Rattle.basic_laws.specs.Choice.{if◌then◌else◌}
+use Rattle.std.specs.Prelude.{if◌then◌else◌}
 use Rattle.basic_laws.specs.Fold.{fold}
 use Rattle.text.specs.Digits.{is_digit, then_digit}
 use Rattle.captures.specs.declared.edge_lines.Partial.{Partial}

@@ -15,7 +15,7 @@
 --     takes_slot w t b              one slot more; refusal 3 without presence, and at 512 slots
 --     refuses w n                  a refusal, and the line as it was
 use Rattle.std.specs.Prelude.{ℕ, ◌-◌, Bool, true, false, ◌&&◌, leb, ltb}
-use Rattle.basic_laws.specs.Choice.{if◌then◌else◌}
+use Rattle.std.specs.Prelude.{if◌then◌else◌}
 use Rattle.refusals.specs.Refusals.{accepted, malformed, bad_pulse, not_later}
 use Rattle.frame.specs.declared.Frame.{Frame}
 use Rattle.frame.specs.Frames.{most_slots, blank_frame, pushed}

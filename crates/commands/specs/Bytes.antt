@@ -7,7 +7,7 @@
 --     byte_slot byte j        bit j of a byte that is sent; 1 past its eighth
 --     bytes_slot bytes k j    bit j of byte k of those that are sent; 1 past the last
 use Rattle.std.specs.Prelude.{ℕ, ◌+◌, ◌/◌, Bool, true, List, ltb, eqb, length, get_or}
-use Rattle.basic_laws.specs.Choice.{if◌then◌else◌}
+use Rattle.std.specs.Prelude.{if◌then◌else◌}
 use Rattle.basic_laws.specs.Bits.{bit_at}
 use Rattle.commands.specs.declared.Shifted.{Shifted}
 use Rattle.commands.specs.declared.Shifted.TheVariants.{Partial, Whole, Beyond}

@@ -2,7 +2,7 @@
 -- another make their number: `shifted-on`, and all eight `eight-in`.
 use Rattle.std.specs.Prelude.{ℕ, suc, ◌+◌, ◌*◌, ◌/◌, ◌^◌, ◌≡◌, refl, Bool, true, false, [], ◌∷◌, ltb, eqb}
 use Rattle.std.proofs.Common.{sym, ap, ◌∙◌, pow-suc, add-mul, mul_assoc, arith, pow-add, eqb-true}
-use Rattle.basic_laws.specs.Choice.{if◌then◌else◌}
+use Rattle.std.specs.Prelude.{if◌then◌else◌}
 use Rattle.basic_laws.specs.Bits.{bit_number, number_of}
 use Rattle.commands.specs.declared.Shifted.{Shifted}
 use Rattle.commands.specs.declared.Shifted.TheVariants.{Partial, Whole, Beyond}

@@ -1,7 +1,7 @@
 -- The line is short, is the word and then the number, and is what a call leaves at the front of its buffer.
 use Rattle.std.specs.Prelude.{ℕ, ◌<◌, ◌≤◌, ◌≡◌, Bool, true, false, List, [], ◌∷◌, ◌++◌, eqb, length, take}
 use Rattle.std.proofs.Common.{ap, ◌∙◌, arith, lit≤, length-append}
-use Rattle.basic_laws.specs.Choice.{if◌then◌else◌}
+use Rattle.std.specs.Prelude.{if◌then◌else◌}
 use Rattle.basic_laws.specs.LaidLaws.{laid-read}
 use Rattle.text.specs.Ascii.{ascii}
 use Rattle.text.specs.Decimal.{decimal}

@@ -9,7 +9,7 @@
 use Rattle.std.specs.Prelude.{ℕ, ◌/◌, Bool, List}
 use Rattle.std.specs.Bool.{beq}
 use Rattle.std.specs.Int.Bits.{bit_xor}
-use Rattle.basic_laws.specs.Choice.{if◌then◌else◌}
+use Rattle.std.specs.Prelude.{if◌then◌else◌}
 use Rattle.basic_laws.specs.Fold.{fold}
 use Rattle.basic_laws.specs.Bits.{odd, bytes_bits}
 

@@ -8,7 +8,7 @@ use Rattle.std.proofs.Common.{sym, ap, ◌∙◌, append-nil, add-one, arith, li
 use Rattle.std.specs.Bool.{beq}
 use Rattle.std.specs.Int.Bits.{bit_xor}
 use Rattle.std.proofs.lemmas.Nat.{xor_lt}
-use Rattle.basic_laws.specs.Choice.{if◌then◌else◌}
+use Rattle.std.specs.Prelude.{if◌then◌else◌}
 use Rattle.basic_laws.specs.Fold.{fold}
 use Rattle.basic_laws.specs.FoldLaws.{fold-append}
 use Rattle.basic_laws.specs.Bits.{odd, bits_of, bytes_bits}

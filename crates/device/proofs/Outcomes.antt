@@ -9,7 +9,7 @@ use Rattle.std.proofs.Math.Path.{refl}
 use Rattle.std.proofs.Math.Bool.{true, false}
 use Rattle.std.proofs.Common.{ltb-true}
 use Rattle.std.proofs.Math.Dec.{ltb}
-use Rattle.basic_laws.specs.Choice.{if◌then◌else◌}
+use Rattle.std.specs.Prelude.{if◌then◌else◌}
 use Rattle.commands.specs.Bytes.{shift_in}
 use Rattle.commands.specs.BytesLaws.{shifted-cases}
 use Rattle.commands.specs.Commands.{convert, write_scratchpad, read_scratchpad, copy_scratchpad, recall_eeprom, read_power}

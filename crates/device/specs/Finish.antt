@@ -6,7 +6,7 @@
 --     copy_ended d                13 unless it is copying; else its copy is done
 -- A refusal leaves the device as it was.
 use Rattle.std.specs.Prelude.{ℕ, true, get_or}
-use Rattle.basic_laws.specs.Choice.{if◌then◌else◌}
+use Rattle.std.specs.Prelude.{if◌then◌else◌}
 use Rattle.refusals.specs.Refusals.{accepted, out_of_range, mismatch}
 use Rattle.family.specs.Layout.{high_limit_place, low_limit_place}
 use Rattle.temperature.specs.Alarm.{verdict}

@@ -13,7 +13,7 @@
 --     hear_of d l                 the device after a slot in which the line showed l
 use Rattle.std.specs.Prelude.{ℕ, ◌+◌, Bool, not, ◌&&◌, ltb, eqb, set}
 use Rattle.std.specs.Bool.{beq}
-use Rattle.basic_laws.specs.Choice.{if◌then◌else◌}
+use Rattle.std.specs.Prelude.{if◌then◌else◌}
 use Rattle.basic_laws.specs.Bits.{bit_at}
 use Rattle.commands.specs.Bytes.{shifted}
 use Rattle.commands.specs.Commands.{read_rom, match_rom, skip_rom, search_rom, alarm_search, convert, write_scratchpad}

@@ -5,7 +5,7 @@
 --     scratchpad_slot pad k j     bit j of byte k of the nine; 1 past their end
 --     offer_of d                  what the device offers
 use Rattle.std.specs.Prelude.{ℕ, Bool, true, not, List, [], ◌∷◌, ◌++◌, ltb}
-use Rattle.basic_laws.specs.Choice.{if◌then◌else◌}
+use Rattle.std.specs.Prelude.{if◌then◌else◌}
 use Rattle.basic_laws.specs.Bits.{bit_at}
 use Rattle.commands.specs.Bytes.{bytes_slot}
 use Rattle.crc.specs.Crc.{crc_of}

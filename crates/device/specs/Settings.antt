@@ -6,7 +6,7 @@
 --     settings_count row         how many bytes they are: 2, or 3 with a configuration
 --     setting_byte row k byte    the byte as it is stored as setting k: the third, 2, is the configuration
 use Rattle.std.specs.Prelude.{ℕ, List, eqb, get_or, set}
-use Rattle.basic_laws.specs.Choice.{if◌then◌else◌}
+use Rattle.std.specs.Prelude.{if◌then◌else◌}
 use Rattle.family.specs.Configuration.{kept_configuration}
 use Rattle.family.specs.Layout.{high_limit_place, low_limit_place, configuration_place}
 use Rattle.family.specs.declared.Properties.{Properties}

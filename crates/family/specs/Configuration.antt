@@ -16,7 +16,7 @@
 -- The low four bits are a parameter: a property of the family, or the pins of a device.
 use Rattle.std.specs.Prelude.{ℕ, ◌+◌, ◌/◌, ◌%◌, Bool, true, eqb}
 use Rattle.std.specs.Int.Bits.{bit_and}
-use Rattle.basic_laws.specs.Choice.{if◌then◌else◌}
+use Rattle.std.specs.Prelude.{if◌then◌else◌}
 use Rattle.family.specs.declared.Properties.{Properties}
 
 abbrev pub stored_form_b : ℕ → ℕ

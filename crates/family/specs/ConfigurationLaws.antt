@@ -4,7 +4,7 @@ use Rattle.std.specs.Prelude.{ℕ, ◌*◌, ◌/◌, ◌%◌, ◌^◌, ◌≡◌
 use Rattle.std.proofs.Common.{sym, arith, eq-eqb, eqb-true}
 use Rattle.std.specs.Int.Bits.{bit_and}
 use Rattle.std.proofs.lemmas.Nat.Bits.{and_high}
-use Rattle.basic_laws.specs.Choice.{if◌then◌else◌}
+use Rattle.std.specs.Prelude.{if◌then◌else◌}
 use Rattle.family.specs.declared.Properties.{Properties}
 use Rattle.family.specs.Configuration.{stored_form_b, stored_form, kept_configuration, as_kept, in_form}
 use Rattle.family.specs.Families.{with_pins}

@@ -11,7 +11,7 @@
 --     pins_wrong row pins            whether a device cannot have these pins: over 15, where the family has any
 -- The scratchpad at power-up is the scope's, with zeros in the places of the settings that come from EEPROM.
 use Rattle.std.specs.Prelude.{ℕ, Bool, true, false, ◌&&◌, List, [], ◌∷◌, eqb, ltb}
-use Rattle.basic_laws.specs.Choice.{if◌then◌else◌}
+use Rattle.std.specs.Prelude.{if◌then◌else◌}
 use Rattle.family.specs.declared.Properties.{Properties}
 use Rattle.family.specs.declared.Unit.TheVariants.{Sixteenths, HalfDegrees}
 

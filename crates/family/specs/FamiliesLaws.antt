@@ -1,7 +1,7 @@
 -- A test that each row of the table passes is passed by the row of every family: `every-row`. What holds of the rows by
 -- computing is so shown without naming one.
 use Rattle.std.specs.Prelude.{ℕ, ◌≡◌, Bool, true, false, ◌&&◌, eqb}
-use Rattle.basic_laws.specs.Choice.{if◌then◌else◌}
+use Rattle.std.specs.Prelude.{if◌then◌else◌}
 use Rattle.basic_laws.specs.ChoiceLaws.{and_left, and_right}
 use Rattle.basic_laws.specs.Fold.{all}
 use Rattle.family.specs.declared.Properties.{Properties}

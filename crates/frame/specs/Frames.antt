@@ -14,7 +14,7 @@
 --     Held f                 the frame is one that the program can hold
 --     Recorded bs f          the frame shows presence and just the slots bs, and a line can carry it
 use Rattle.std.specs.Prelude.{ℕ, zero, suc, ◌+◌, ◌/◌, ◌≡◌, Bool, true, false, not, ◌&&◌, ◌||◌, List, [], ◌∷◌, ◌++◌, eqb, leb, ltb, length, set, take, drop, get_or, replicate}
-use Rattle.basic_laws.specs.Choice.{if◌then◌else◌}
+use Rattle.std.specs.Prelude.{if◌then◌else◌}
 use Rattle.basic_laws.specs.Fold.{fold, all}
 use Rattle.basic_laws.specs.Bits.{bits_of, number_of, bytes_bits}
 use Rattle.frame.specs.declared.Frame.{Frame}

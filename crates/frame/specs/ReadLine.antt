@@ -8,7 +8,7 @@
 --     line_answer_of x         the fields of the reader's answer, case by case
 --     line_read_at s at        the reader's answer at a place
 use Rattle.std.specs.Prelude.{ℕ, ◌+◌, ◌*◌, Bool, true, false, ◌&&◌, List, [], ◌∷◌, eqb, leb, ltb, length, take, drop}
-use Rattle.basic_laws.specs.Choice.{if◌then◌else◌}
+use Rattle.std.specs.Prelude.{if◌then◌else◌}
 use Rattle.basic_laws.specs.Laid.{laid}
 use Rattle.refusals.specs.Refusals.{accepted, not_hex, malformed}
 use Rattle.text.specs.Digits.{spells, number_in, bytes_of}

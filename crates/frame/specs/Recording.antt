@@ -7,7 +7,7 @@
 --     read_calls n s at       the answers of reads, each at the next place of the one before, until done; n at most
 --     shown_from at fs        the answers that show frames, line after line from a place on, and then done
 use Rattle.std.specs.Prelude.{ℕ, zero, suc, ◌+◌, ◌≡◌, true, List, [], ◌∷◌, ◌++◌, map, length}
-use Rattle.basic_laws.specs.Choice.{if◌then◌else◌}
+use Rattle.std.specs.Prelude.{if◌then◌else◌}
 use Rattle.text.specs.Lines.{lines_of}
 use Rattle.frame.specs.declared.Frame.{Frame}
 use Rattle.frame.specs.declared.frame_lines.LineRead.{LineRead}

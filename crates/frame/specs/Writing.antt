@@ -4,7 +4,7 @@
 --     line_write_answer s at f a refusal, or the place behind the line
 --     line_write_leaves s at f what is left of the slice: the line laid at the place, or all as it was on a refusal
 use Rattle.std.specs.Prelude.{ℕ, Bool, List, [], ◌∷◌, ◌++◌, take}
-use Rattle.basic_laws.specs.Choice.{if◌then◌else◌}
+use Rattle.std.specs.Prelude.{if◌then◌else◌}
 use Rattle.basic_laws.specs.Bits.{bit_number}
 use Rattle.refusals.specs.Refusals.{malformed}
 use Rattle.text.specs.Digits.{hex_digits, hex_of}

@@ -14,7 +14,7 @@
 use Rattle.std.specs.Prelude.{ℕ, ◌^◌, ◌<◌, Bool, true, ◌&&◌, List, [], ◌∷◌, ◌++◌, eqb, get_or}
 use Rattle.std.specs.Int.{w16}
 use Rattle.std.proofs.Common.{SFits}
-use Rattle.basic_laws.specs.Choice.{if◌then◌else◌}
+use Rattle.std.specs.Prelude.{if◌then◌else◌}
 use Rattle.basic_laws.specs.Fold.{fold}
 use Rattle.commands.specs.Commands.{search_rom, alarm_search}
 use Rattle.refusals.specs.Refusals.{accepted}

@@ -7,7 +7,7 @@ use Rattle.std.proofs.Math.Bool.{true, false, not}
 use Rattle.std.proofs.Math.Dec.{ltb}
 use mathlib.Core.List.{List, [], ◌∷◌}
 use Rattle.basic_laws.specs.Fold.{fold}
-use Rattle.basic_laws.specs.Choice.{if◌then◌else◌}
+use Rattle.std.specs.Prelude.{if◌then◌else◌}
 use Rattle.basic_laws.specs.Bits.{bits_of}
 use Rattle.commands.specs.Commands.{read_scratchpad, write_scratchpad, search_rom}
 use Rattle.refusals.specs.Refusals.{accepted, no_room, wire_busy}

@@ -9,7 +9,7 @@
 --     next_answer, next_leaves        what a call answers, and the buffer of the unfinished line after it
 --     lent_answer, lent_leaves        the same for a buffer of any length: refusal 1 where it is too short
 use Rattle.std.specs.Prelude.{ℕ, ◌+◌, min, Bool, false, not, ◌&&◌, List, ◌++◌, eqb, leb, length, take, drop}
-use Rattle.basic_laws.specs.Choice.{if◌then◌else◌}
+use Rattle.std.specs.Prelude.{if◌then◌else◌}
 use Rattle.basic_laws.specs.Laid.{laid}
 use Rattle.refusals.specs.Refusals.{accepted, no_room}
 use Rattle.text.specs.Lines.{Line, first_line, width}

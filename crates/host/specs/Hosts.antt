@@ -7,7 +7,7 @@
 --                                        hand and cs are those to come
 --     HostClaim                          whatever the pieces, it hears what is told of the lines of the whole recording
 use Rattle.std.specs.Prelude.{ℕ, zero, suc, ◌+◌, ◌<◌, ◌≤◌, ◌≡◌, true, false, List, [], ◌∷◌, ◌++◌, eqb, length}
-use Rattle.basic_laws.specs.Choice.{if◌then◌else◌}
+use Rattle.std.specs.Prelude.{if◌then◌else◌}
 use Rattle.text.specs.Lines.{Line}
 use Rattle.pieces.specs.Pieces.{said, together}
 use Rattle.naming.specs.Naming.{line_named}

@@ -8,7 +8,7 @@ use Rattle.std.proofs.Math.Bool.{true}
 use mathlib.Core.List.{List, [], ◌∷◌, ◌++◌, append_assoc, append-nil}
 use Rattle.std.proofs.lemmas.Bool.{eqb-false}
 use Rattle.std.proofs.Math.ListN.{length, take, drop, length-append, length-take}
-use Rattle.basic_laws.specs.Choice.{if◌then◌else◌}
+use Rattle.std.specs.Prelude.{if◌then◌else◌}
 use Rattle.basic_laws.specs.Fold.{all}
 use Rattle.basic_laws.specs.FoldLaws.{all_append, all_take}
 use Rattle.basic_laws.specs.FirstLaws.{at_none, at_there}

@@ -12,7 +12,7 @@
 --     power_in w              line or external
 -- Decimal numbers have one to five digits; zeros in front are taken.
 use Rattle.std.specs.Prelude.{ℕ, ◌&&◌, ◌||◌, List, pos, neg_ℤ, drop}
-use Rattle.basic_laws.specs.Choice.{if◌then◌else◌}
+use Rattle.std.specs.Prelude.{if◌then◌else◌}
 use Rattle.text.specs.Ascii.{ascii}
 use Rattle.text.specs.Decimal.{is_negative}
 use Rattle.text.specs.Numbers.{fixed_read, decimal_read}

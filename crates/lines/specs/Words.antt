@@ -5,7 +5,7 @@
 --     space_at s              how many characters stand before the first space; all where there is none
 --     words_ended c           how many words a character ends: a space ends one
 use Rattle.std.specs.Prelude.{ℕ, List, [], ◌∷◌, eqb, get_or}
-use Rattle.basic_laws.specs.Choice.{if◌then◌else◌}
+use Rattle.std.specs.Prelude.{if◌then◌else◌}
 use Rattle.basic_laws.specs.First.{first_at}
 use Rattle.text.specs.Lines.{space}
 

@@ -8,7 +8,7 @@
 use Rattle.std.specs.Prelude.{ℕ, suc, ◌<◌, ◌≡◌, refl, Bool, true, false, not, cond, List, [], ◌∷◌, map, ltb, get_or}
 use Rattle.std.proofs.Common.{ap, ◌∙◌, arith, add-one, lt-ltb, ltb-false, ltb-true}
 use Rattle.std.specs.Bool.{beq}
-use Rattle.basic_laws.specs.Choice.{if◌then◌else◌}
+use Rattle.std.specs.Prelude.{if◌then◌else◌}
 use Rattle.basic_laws.specs.Bits.{bit_at, bits_of}
 use Rattle.basic_laws.specs.BitsLaws.{bits_at}
 use Rattle.search_laws.specs.Searchers.{Takes, Searchers, participants}

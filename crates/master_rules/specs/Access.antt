@@ -9,7 +9,7 @@
 --                                  configuration
 --     write_at b code s             a write of the settings s, then a read at the code
 use Rattle.std.specs.Prelude.{ℕ, zero, suc, Bool, not, ◌&&◌, List, [], ◌∷◌, eqb, pos, get_or, replicate}
-use Rattle.basic_laws.specs.Choice.{if◌then◌else◌}
+use Rattle.std.specs.Prelude.{if◌then◌else◌}
 use Rattle.basic_laws.specs.Bits.{number_of}
 use Rattle.commands.specs.Commands.{match_rom, read_scratchpad, write_scratchpad}
 use Rattle.refusals.specs.Refusals.{accepted, no_presence, wire_busy, mismatch}

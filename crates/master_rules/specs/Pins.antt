@@ -12,7 +12,7 @@
 --     pinned_of, pins_list_after  what the caller gets: the numbers, and the list
 -- No reset follows the last read, nor the search where no such probe is there.
 use Rattle.std.specs.Prelude.{ℕ, zero, suc, ◌+◌, ◌%◌, Bool, List, [], ◌∷◌, ◌++◌, eqb, ltb, length, get_or, replicate}
-use Rattle.basic_laws.specs.Choice.{if◌then◌else◌}
+use Rattle.std.specs.Prelude.{if◌then◌else◌}
 use Rattle.basic_laws.specs.Each.{those}
 use Rattle.basic_laws.specs.Fold.{fold}
 use Rattle.basic_laws.specs.Laid.{laid}

@@ -11,7 +11,7 @@
 -- The passes are those of the search by slots: at a conflict the first takes 0, each later one departs at the last
 -- conflict not yet taken at 1.
 use Rattle.std.specs.Prelude.{ℕ, ◌+◌, Bool, true, false, not, ◌||◌, List, [], ◌∷◌, map, ltb, length}
-use Rattle.basic_laws.specs.Choice.{if◌then◌else◌}
+use Rattle.std.specs.Prelude.{if◌then◌else◌}
 use Rattle.basic_laws.specs.Fold.{fold}
 use Rattle.basic_laws.specs.Laid.{laid}
 use Rattle.basic_laws.specs.Bits.{bits_of, number_of}

@@ -6,7 +6,7 @@
 --     everybody, flagged     the laws for either command
 --     unstaged d             the device without its stage: code, power, activity, stored bytes, flag and page
 use Rattle.std.specs.Prelude.{ℕ, ◌≡◌, Bool, true, List, map, ltb}
-use Rattle.basic_laws.specs.Choice.{if◌then◌else◌}
+use Rattle.std.specs.Prelude.{if◌then◌else◌}
 use Rattle.basic_laws.specs.Bits.{bits_of}
 use Rattle.commands.specs.Commands.{search_rom, alarm_search}
 use Rattle.search_laws.specs.Codes.{Code}

@@ -3,7 +3,7 @@
 --     mending-cuts           the claim of every text cut anywhere
 use Rattle.std.specs.Prelude.{◌≡◌, ℕ, ◌+◌, ◌<◌, ◌≤◌, Bool, true, false, not, List, [], ◌∷◌, ◌++◌, map, length, replicate, ◌==◌, nat_lt, refl}
 use Rattle.std.proofs.Common.{sym, ap, ◌∙◌, append-nil, arith, eqb-true, lit<, lit≤, length-append}
-use Rattle.basic_laws.specs.Choice.{if◌then◌else◌}
+use Rattle.std.specs.Prelude.{if◌then◌else◌}
 use Rattle.basic_laws.specs.Each.{Each}
 use Rattle.basic_laws.specs.EachLaws.{each_append}
 use Rattle.refusals.specs.Refusals.{accepted, not_hex, malformed}

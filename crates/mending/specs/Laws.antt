@@ -7,7 +7,7 @@ use Rattle.std.proofs.Math.Bool.{and-false}
 use mathlib.Core.List.{append-nil}
 use Rattle.std.proofs.lemmas.Bool.{lt-leb}
 use Rattle.std.proofs.lemmas.List.{length-map}
-use Rattle.basic_laws.specs.Choice.{if◌then◌else◌}
+use Rattle.std.specs.Prelude.{if◌then◌else◌}
 use Rattle.basic_laws.specs.Laid.{laid}
 use Rattle.basic_laws.specs.LaidLaws.{laid_none, laid-read}
 use Rattle.refusals.specs.Refusals.{accepted, no_room}

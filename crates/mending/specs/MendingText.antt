@@ -5,7 +5,7 @@
 --     PieceAnswer, piece_written, piece_reported           of a piece: the answer, the output, the report
 --     TextWithin                                         that what is answered is within the buffers
 use Rattle.std.specs.Prelude.{◌≡◌, ℕ, ◌≤◌, Bool, ◌&&◌, List, [], length, nat_le}
-use Rattle.basic_laws.specs.Choice.{if◌then◌else◌}
+use Rattle.std.specs.Prelude.{if◌then◌else◌}
 use Rattle.basic_laws.specs.Laid.{laid}
 use Rattle.refusals.specs.Refusals.{accepted, no_room}
 use Rattle.text.specs.Lines.{lines_of}

@@ -1,7 +1,7 @@
 -- The line is short, and is the two fields; nothing is laid for a line that was kept.
 use Rattle.std.specs.Prelude.{◌≡◌, ℕ, ◌^◌, ◌<◌, ◌≤◌, Bool, true, false, List, [], length, take, ◌==◌, refl}
 use Rattle.std.proofs.Common.{ap, ◌∙◌, arith, eq-eqb, length-append}
-use Rattle.basic_laws.specs.Choice.{if◌then◌else◌}
+use Rattle.std.specs.Prelude.{if◌then◌else◌}
 use Rattle.basic_laws.specs.LaidLaws.{laid_none, laid-read}
 use Rattle.refusals.specs.Refusals.{accepted}
 use Rattle.text.specs.DecimalLaws.{decimal-length, decimal-most}

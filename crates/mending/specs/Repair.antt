@@ -3,7 +3,7 @@
 use Rattle.std.specs.Prelude.{◌≡◌, ℕ, ◌+◌, ◌<◌, ◌≤◌, Bool, true, false, List, map, length, take, ◌==◌, nat_eq}
 use Rattle.std.proofs.Common.{sym, ap, ◌∙◌, arith, take-take}
 use Rattle.std.proofs.lemmas.List.{length-map}
-use Rattle.basic_laws.specs.Choice.{if◌then◌else◌}
+use Rattle.std.specs.Prelude.{if◌then◌else◌}
 use Rattle.basic_laws.specs.Same.{same}
 use Rattle.mending.specs.declared.Repair.{Repair}
 use Rattle.mending.specs.Mending.{raised, unreturned, unspaced, mended_chars, step_mark, altered_by}

@@ -6,7 +6,7 @@ pub mod answers;
 pub mod texts;
 
 ghost use Rattle.std.specs.Prelude.{◌≡◌, ◌+◌, ◌<◌, ◌≤◌, true, [], map, length, nat_eq};
-ghost use Rattle.basic_laws.specs.Choice.{if◌then◌else◌};
+ghost use Rattle.std.specs.Prelude.{if◌then◌else◌};
 ghost use Rattle.basic_laws.specs.Laid.{laid};
 ghost use Rattle.text.specs.Laying.{lay_answer, lay_leaves};
 ghost use Rattle.mending.specs.Mending.{raised, unreturned, unspaced, longest_mended, reported, line_mended};

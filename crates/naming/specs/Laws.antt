@@ -9,7 +9,7 @@ use native.Mathlib.Omega.{arith}
 use Rattle.std.proofs.Math.Numerals.{add-one}
 use Rattle.std.proofs.Math.ListN.{length, take}
 use Rattle.std.proofs.Math.Seq.{drop-nil, get_or-drop, get_or-take}
-use Rattle.basic_laws.specs.Choice.{if◌then◌else◌}
+use Rattle.std.specs.Prelude.{if◌then◌else◌}
 use Rattle.basic_laws.specs.Bits.{bit_number, bits_of, number_of, bytes_bits}
 use Rattle.basic_laws.specs.BitsLaws.{number_lt, bytes-length}
 use Rattle.commands.specs.Commands.{search_rom, alarm_search}

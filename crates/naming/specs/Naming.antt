@@ -6,7 +6,7 @@
 --     frame_number f          the number of a frame's name; that of OTHER on a refusal
 --     line_named l            what a line is named: the refusal with which it is read, or the name of its frame
 use Rattle.std.specs.Prelude.{ℕ, ◌+◌, ◌*◌, Bool, true, false, not, ◌&&◌, ◌||◌, List, [], ◌∷◌, eqb, pos, take, drop, get_or}
-use Rattle.basic_laws.specs.Choice.{if◌then◌else◌}
+use Rattle.std.specs.Prelude.{if◌then◌else◌}
 use Rattle.basic_laws.specs.Bits.{number_of, bytes_bits}
 use Rattle.refusals.specs.Refusals.{accepted, wrong_crc, bad_triple}
 use Rattle.commands.specs.Commands.{match_rom, search_rom, alarm_search, read_scratchpad}

@@ -8,7 +8,7 @@
 --     printed_name n          the same as a line
 --     printed_line l          what is printed for a line
 use Rattle.std.specs.Prelude.{ℕ, List, [], ◌∷◌, ◌++◌, eqb, length, replicate}
-use Rattle.basic_laws.specs.Choice.{if◌then◌else◌}
+use Rattle.std.specs.Prelude.{if◌then◌else◌}
 use Rattle.basic_laws.specs.Laid.{laid}
 use Rattle.refusals.specs.Refusals.{accepted}
 use Rattle.text.specs.Digits.{hex_digits, code_digits}

@@ -4,7 +4,7 @@
 use Rattle.std.specs.Prelude.{ℕ, ◌+◌, ◌*◌, ◌/◌, ◌%◌, ◌^◌, ◌<◌, ◌≤◌, ◌≡◌, refl, Bool, true, false, not, List, [], ◌∷◌, ◌++◌, ◌↔◌, eqb, length, get_or, take}
 use Rattle.std.proofs.Common.{sym, ap, ◌∙◌, arith, eqb-true, eq-eqb, take-suc, take_all}
 use Rattle.std.proofs.lemmas.Bool.{eqb-false}
-use Rattle.basic_laws.specs.Choice.{if◌then◌else◌}
+use Rattle.std.specs.Prelude.{if◌then◌else◌}
 use Rattle.basic_laws.specs.Bits.{bits_of, number_of, bytes_bits}
 use Rattle.basic_laws.specs.BitsLaws.{bits-append, bits-block, bits-length, number-bits, bytes-length}
 use Rattle.basic_laws.specs.BytesLaws.{bytes_same}

@@ -11,7 +11,7 @@ use Rattle.std.specs.Bool.{beq}
 use Rattle.std.proofs.lemmas.Bool.{eqb-false}
 use Rattle.std.specs.Int.Bits.{bit_xor}
 use Rattle.std.proofs.lemmas.Nat.{xor_lt}
-use Rattle.basic_laws.specs.Choice.{if◌then◌else◌}
+use Rattle.std.specs.Prelude.{if◌then◌else◌}
 use Rattle.basic_laws.specs.Bits.{odd, bits_of, bytes_bits}
 use Rattle.basic_laws.specs.Sums.{ones}
 use Rattle.basic_laws.proofs.SumsLaws.{ones-zeros}

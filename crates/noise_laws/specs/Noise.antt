@@ -8,7 +8,7 @@
 --                          eight neighbours
 use Rattle.std.specs.Prelude.{ℕ, ◌+◌, ◌<◌, ◌≤◌, ◌≡◌, Bool, false, List, [], ◌∷◌, get_or}
 use Rattle.std.specs.Bool.{beq}
-use Rattle.basic_laws.specs.Choice.{if◌then◌else◌}
+use Rattle.std.specs.Prelude.{if◌then◌else◌}
 
 unfoldable pub differences : List Bool → List Bool → ℕ
 differences [] m = 0

@@ -11,7 +11,7 @@
 --     packed_into t b      the lent bytes once a bench is packed into them: its table from byte 0 on, all others as they
 --                         were; on a refusal all of them
 use Rattle.std.specs.Prelude.{ℕ, zero, suc, Bool, ◌&&◌, List, [], ◌∷◌, ◌++◌, eqb, ltb, length, take, drop, replicate}
-use Rattle.basic_laws.specs.Choice.{if◌then◌else◌}
+use Rattle.std.specs.Prelude.{if◌then◌else◌}
 use Rattle.basic_laws.specs.Laid.{laid}
 use Rattle.basic_laws.specs.Same.{same}
 use Rattle.refusals.specs.Refusals.{accepted, no_room, not_a_table}

@@ -7,7 +7,7 @@
 --     unseen n                   the answer to looking at a device where bytes hold no bench: the refusal n and a
 --                                vacant place
 use Rattle.std.specs.Prelude.{ℕ, List, ◌≡◌, eqb}
-use Rattle.basic_laws.specs.Choice.{if◌then◌else◌}
+use Rattle.std.specs.Prelude.{if◌then◌else◌}
 use Rattle.refusals.specs.Refusals.{accepted}
 use Rattle.bench.specs.Bench.{vacant}
 use Rattle.bench.specs.declared.Bench.{Bench}

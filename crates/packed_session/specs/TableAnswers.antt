@@ -9,7 +9,7 @@
 --                                         what is lent; refusal 1 without its room
 --     poke_refusal t place                 1 for a place behind what is lent
 use Rattle.std.specs.Prelude.{ℕ, zero, suc, false, List, [], ◌∷◌, ◌++◌, ltb, pos, length, take, drop, replicate}
-use Rattle.basic_laws.specs.Choice.{if◌then◌else◌}
+use Rattle.std.specs.Prelude.{if◌then◌else◌}
 use Rattle.basic_laws.specs.Laid.{laid}
 use Rattle.refusals.specs.Refusals.{accepted, no_room}
 use Rattle.text.specs.Digits.{hex_of}

@@ -11,7 +11,7 @@
 --     AfterLine t l t'       the claim of a line of the bench: where t held a bench, t' holds the one that the line
 --                            leaves of it; `TableAfter` of any line
 use Rattle.std.specs.Prelude.{ℕ, List, ◌≡◌, leb, length, set}
-use Rattle.basic_laws.specs.Choice.{if◌then◌else◌}
+use Rattle.std.specs.Prelude.{if◌then◌else◌}
 use Rattle.basic_laws.specs.Laid.{laid}
 use Rattle.refusals.specs.Refusals.{accepted, no_room}
 use Rattle.text.specs.Lines.{Line}

@@ -4,7 +4,7 @@
 --     of_table ws             POKE PLACE BYTE; TABLE alone
 --     table_request_of s       what a line, without its feed, asks for; a line over 80 characters is `Other`
 use Rattle.std.specs.Prelude.{ℕ, ◌&&◌, List, eqb, leb, length}
-use Rattle.basic_laws.specs.Choice.{if◌then◌else◌}
+use Rattle.std.specs.Prelude.{if◌then◌else◌}
 use Rattle.basic_laws.specs.Same.{same}
 use Rattle.text.specs.Ascii.{ascii}
 use Rattle.text.specs.Numbers.{decimal_read}

@@ -2,7 +2,7 @@
 -- its input is cut; and what a call has said stands at the front of its buffer.
 use Rattle.std.specs.Prelude.{ℕ, ◌+◌, ◌≤◌, ◌≡◌, refl, List, length, take, drop}
 use Rattle.std.proofs.Common.{sym, ap, ◌∙◌, arith, le-leb, length-append, length-drop}
-use Rattle.basic_laws.specs.Choice.{if◌then◌else◌}
+use Rattle.std.specs.Prelude.{if◌then◌else◌}
 use Rattle.basic_laws.specs.Laid.{laid}
 use Rattle.basic_laws.specs.LaidLaws.{laid-front}
 use Rattle.text.specs.Lines.{Line, lines_of}

@@ -5,7 +5,7 @@
 --     spoken_of t s l q       the answer to the line l that asks the request q of the store s
 --     told_of t s l out       what the call for a line answers, and the store after it
 use Rattle.std.specs.Prelude.{ℕ, List, leb, length}
-use Rattle.basic_laws.specs.Choice.{if◌then◌else◌}
+use Rattle.std.specs.Prelude.{if◌then◌else◌}
 use Rattle.text.specs.Lines.{Line}
 use Rattle.bench_requests.specs.declared.Request.TheVariants.{Read as ReadAt}
 use Rattle.bench_answers.specs.Said.{of_access}

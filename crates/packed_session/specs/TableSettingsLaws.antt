@@ -3,7 +3,7 @@
 --     told-parts         an answer is what its two parts are
 use Rattle.std.specs.Prelude.{ℕ, Bool, true, false, not, ◌≡◌, eqb}
 use Rattle.std.proofs.Common.{ap, ◌∙◌}
-use Rattle.basic_laws.specs.Choice.{if◌then◌else◌}
+use Rattle.std.specs.Prelude.{if◌then◌else◌}
 use Rattle.refusals.specs.Refusals.{accepted}
 use Rattle.text.specs.declared.laying.Written.{Written}
 use Rattle.bench.specs.declared.Bench.{Bench}

@@ -5,7 +5,7 @@
 --     reads_left n k w        how many reads may follow one of k bytes, of n that might; none where k is 0 or its answer
 --                            was not written
 use Rattle.std.specs.Prelude.{ℕ, ◌-◌, Bool, List, eqb, length, take, drop}
-use Rattle.basic_laws.specs.Choice.{if◌then◌else◌}
+use Rattle.std.specs.Prelude.{if◌then◌else◌}
 use Rattle.pieces.specs.declared.Carried.{Carried}
 
 abbrev pub most_carried : ℕ

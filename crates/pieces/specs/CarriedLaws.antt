@@ -2,7 +2,7 @@
 use Rattle.std.specs.Prelude.{ℕ, ◌+◌, ◌-◌, ◌<◌, ◌≤◌, min, ◌≡◌, refl, Bool, true, false, List, ◌++◌, eqb, leb, length, take}
 use Rattle.std.proofs.Common.{sym, ap, ◌∙◌, arith, leb-true, leb-false, take_all, take-add, length-take-le}
 use Rattle.std.proofs.Math.Seq.{take-length}
-use Rattle.basic_laws.specs.Choice.{if◌then◌else◌}
+use Rattle.std.specs.Prelude.{if◌then◌else◌}
 use Rattle.basic_laws.specs.LaidLaws.{laid-read}
 use Rattle.text.specs.declared.laying.Written.{Written}
 use Rattle.text.specs.Laying.{lay_answer, lay_leaves}

@@ -6,7 +6,7 @@
 --     holds-answer                                 the answer of a reading is that of what it holds
 use Rattle.std.specs.Prelude.{ℕ, ◌+◌, ◌<◌, ◌≤◌, Bool, true, false, List, [], ◌∷◌, ◌++◌, ◌≢◌, ◌≡◌, refl, eqb, ltb, length, take, replicate}
 use Rattle.std.proofs.Common.{sym, ap, ◌∙◌, arith, lt-ltb, le-ltb, eq-eqb, ne_eqb, lit≤, length-append}
-use Rattle.basic_laws.specs.Choice.{if◌then◌else◌}
+use Rattle.std.specs.Prelude.{if◌then◌else◌}
 use Rattle.basic_laws.specs.Fold.{fold}
 use Rattle.basic_laws.specs.Laid.{laid}
 use Rattle.basic_laws.specs.LaidLaws.{laid-read, laid-front}

@@ -3,7 +3,7 @@
 --                              list, their pins, how many they are, and the bench
 --     counted_pin n q p         a count of those that have the pin number p, with one more that has q
 use Rattle.std.specs.Prelude.{ℕ, ◌+◌, ◌≤◌, List, ◌≡◌, eqb, length, replicate}
-use Rattle.basic_laws.specs.Choice.{if◌then◌else◌}
+use Rattle.std.specs.Prelude.{if◌then◌else◌}
 use Rattle.basic_laws.specs.Laid.{laid}
 use Rattle.master_rules.specs.Pins.{PinsFound}
 use Rattle.pins.specs.declared.Reading.{Reading}

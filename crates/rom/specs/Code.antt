@@ -8,7 +8,7 @@
 --     sound c          the scope's "sound": not refused
 -- The code 0 has a right CRC and is refused for its family.
 use Rattle.std.specs.Prelude.{ℕ, ◌/◌, ◌%◌, ◌^◌, Bool, not, List, eqb}
-use Rattle.basic_laws.specs.Choice.{if◌then◌else◌}
+use Rattle.std.specs.Prelude.{if◌then◌else◌}
 use Rattle.basic_laws.specs.Bits.{bits_of}
 use Rattle.refusals.specs.Refusals.{accepted, wrong_crc, wrong_kind}
 use Rattle.family.specs.Families.{properties_of}

@@ -10,7 +10,7 @@
 --     fine_of reading remaining perDegree          of half degrees that fraction of their whole degrees, where the
 --                                                 counts are right; else none
 use Rattle.std.specs.Prelude.{ℕ, ◌-◌, ◌*◌, Bool, true, ◌&&◌, leb, ltb, pos, ◌+ℤ◌, ◌-ℤ◌, ◌*ℤ◌}
-use Rattle.basic_laws.specs.Choice.{if◌then◌else◌}
+use Rattle.std.specs.Prelude.{if◌then◌else◌}
 use Rattle.family.specs.declared.Unit.{Unit}
 use Rattle.family.specs.declared.Unit.TheVariants.{Sixteenths as inSixteenths, HalfDegrees as inHalfDegrees}
 use Rattle.basic_laws.specs.Complement.{bits8}

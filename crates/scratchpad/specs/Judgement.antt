@@ -10,7 +10,7 @@
 -- Other bytes are not judged: a family without a configuration may have anything in byte 4, and a limit may be any
 -- byte.
 use Rattle.std.specs.Prelude.{ℕ, Bool, not, ◌&&◌, List, eqb, pos, get_or, take}
-use Rattle.basic_laws.specs.Choice.{if◌then◌else◌}
+use Rattle.std.specs.Prelude.{if◌then◌else◌}
 use Rattle.basic_laws.specs.Fold.{all}
 use Rattle.refusals.specs.Refusals.{accepted, wrong_crc, all_zero, wrong_kind, out_of_range, wrong_counts}
 use Rattle.family.specs.Configuration.{in_form}

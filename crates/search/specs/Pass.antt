@@ -11,7 +11,7 @@ use Rattle.std.proofs.Common.{sym, ap, ◌∙◌, true≢false, arith, pow-suc, 
 use Rattle.std.proofs.Math.Bool.{true, false}
 use Rattle.std.proofs.lemmas.Bool.{false≢true}
 use Rattle.std.proofs.Math.Option.{none, some}
-use Rattle.basic_laws.specs.Choice.{if◌then◌else◌}
+use Rattle.std.specs.Prelude.{if◌then◌else◌}
 use Rattle.basic_laws.specs.Fold.{fold}
 use Rattle.basic_laws.specs.FoldLaws.{fold-append}
 use Rattle.basic_laws.specs.Bits.{odd, bit_number, bits_of}

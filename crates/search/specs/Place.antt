@@ -3,7 +3,7 @@
 --     placed b w        on the bench b two reads and the slot of the bit taken; where both reads show 1 nobody answers,
 --                       and the reads are all
 use Rattle.std.specs.Prelude.{Bool, true, false, ◌&&◌}
-use Rattle.basic_laws.specs.Choice.{if◌then◌else◌}
+use Rattle.std.specs.Prelude.{if◌then◌else◌}
 use Rattle.bench.specs.Slot.{slotted}
 use Rattle.bench.specs.declared.Bench.{Bench}
 use Rattle.search.specs.declared.place.Placed.{Placed}

@@ -9,7 +9,7 @@
 --     Before c d           at the first bit in which they differ c has 0 and d has 1
 use Rattle.std.specs.Prelude.{◌≡◌, Bool, true, false, not, List, [], ◌∷◌, ◌++◌, ℕ, length}
 use Rattle.std.specs.Bool.{beq}
-use Rattle.basic_laws.specs.Choice.{if◌then◌else◌}
+use Rattle.std.specs.Prelude.{if◌then◌else◌}
 use Rattle.basic_laws.specs.Fold.{all}
 use Rattle.basic_laws.specs.Each.{Each}
 

@@ -8,7 +8,7 @@
 -- departs past its end.
 use Rattle.std.specs.Prelude.{Bool, true, List, [], ◌∷◌, ◌++◌, ℕ, suc, ltb, eqb, take}
 use Rattle.std.proofs.Math.Option.{Option, none, some}
-use Rattle.basic_laws.specs.Choice.{if◌then◌else◌}
+use Rattle.std.specs.Prelude.{if◌then◌else◌}
 use Rattle.basic_laws.specs.Bits.{bit_at}
 use Rattle.search_laws.specs.Codes.{Code}
 use Rattle.search_laws.specs.Pass.{Triple, Plan, on_some, took_zero}

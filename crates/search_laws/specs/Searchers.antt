@@ -10,7 +10,7 @@
 --     participants Z ds      the codes of those devices that take part
 use Rattle.std.specs.Prelude.{◌≡◌, refl, Bool, true, false, not, ◌&&◌, cond, List, [], ◌∷◌, map, ℕ, suc, ◌<◌, get_or}
 use Rattle.std.specs.Bool.{beq}
-use Rattle.basic_laws.specs.Choice.{if◌then◌else◌}
+use Rattle.std.specs.Prelude.{if◌then◌else◌}
 use Rattle.basic_laws.specs.Fold.{all}
 use Rattle.search_laws.specs.Codes.{Code}
 use Rattle.search_laws.specs.Wire.{Bus}

@@ -1,6 +1,6 @@
 -- Who takes part, as those of the devices that pass a test.
 use Rattle.std.specs.Prelude.{◌≡◌, refl, Bool, true, false, List, [], ◌∷◌, map, ℕ}
-use Rattle.basic_laws.specs.Choice.{if◌then◌else◌}
+use Rattle.std.specs.Prelude.{if◌then◌else◌}
 use Rattle.basic_laws.specs.Each.{those}
 use Rattle.search_laws.specs.Searchers.{Model, Searchers, participants}
 

@@ -6,7 +6,7 @@
 use Rattle.std.specs.Prelude.{◌≡◌, refl, Bool, true, false, not, cond, List, [], ◌∷◌, ◌++◌, ℕ, suc, ◌<◌, eqb, ltb, length, get_or}
 use Rattle.std.specs.Bool.{beq}
 use Rattle.std.proofs.Common.{lt-ltb}
-use Rattle.basic_laws.specs.Choice.{if◌then◌else◌}
+use Rattle.std.specs.Prelude.{if◌then◌else◌}
 use Rattle.basic_laws.specs.Bits.{bits_of, number_of}
 use Rattle.search_laws.specs.Codes.{Code}
 use Rattle.search_laws.specs.Searchers.{Model, Takes, Searchers}

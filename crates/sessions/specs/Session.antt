@@ -23,7 +23,7 @@
 --     run_at s line held         the run of a program: its state, and the line that stands at the front of a buffer
 --     Holding line held         so many characters of a line in a buffer of 81
 use Rattle.std.specs.Prelude.{ℕ, ◌≤◌, ◌≡◌, Bool, true, false, List, [], ◌∷◌, ◌++◌, ltb, length, take}
-use Rattle.basic_laws.specs.Choice.{if◌then◌else◌}
+use Rattle.std.specs.Prelude.{if◌then◌else◌}
 use Rattle.text.specs.Lines.{Line, lines_of}
 use Rattle.pieces.specs.Pieces.{together}
 use Rattle.sessions.specs.Gathering.{most_held}

@@ -10,7 +10,7 @@
 --                                         settings altered as asked, and the version raised by one
 use Rattle.std.specs.Prelude.{ℕ, ◌+◌, true, false, not, eqb, ltb}
 use Rattle.std.specs.Int.Bits.{bit_and}
-use Rattle.basic_laws.specs.Choice.{if◌then◌else◌}
+use Rattle.std.specs.Prelude.{if◌then◌else◌}
 use Rattle.refusals.specs.Refusals.{accepted, duplicate, bench_full, not_found, stale_version, versions_spent}
 use Rattle.rom.specs.Code.{code_refusal}
 use Rattle.device.specs.declared.Settings.{Settings}

@@ -10,7 +10,7 @@ use Rattle.std.specs.Prelude.{ℕ, ◌+◌, ◌<◌, Bool, true, false, not, [],
 use Rattle.std.proofs.Common.{sym, ap, ◌∙◌, arith, add-one, eqb-true, ltb-true, eq-eqb, ne_eqb, lit<, length-take, get_or-take, take-suc-set}
 use Rattle.std.proofs.lemmas.Bool.{eqb-false}
 use Rattle.std.proofs.Math.Seq.{take-set-lt, map-set_same}
-use Rattle.basic_laws.specs.Choice.{if◌then◌else◌}
+use Rattle.std.specs.Prelude.{if◌then◌else◌}
 use Rattle.basic_laws.specs.Each.{Each}
 use Rattle.basic_laws.specs.First.{first_with}
 use Rattle.basic_laws.specs.FirstLaws.{first-cases, first-none, first-append, first-mapped}

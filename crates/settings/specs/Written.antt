@@ -1,7 +1,7 @@
 -- Settings of a store written to a device (document 02, E6): 5, 7 or 12 as a read of the store gives them; else a write
 -- at the code, with its own refusals.
 use Rattle.std.specs.Prelude.{ℕ, not, eqb}
-use Rattle.basic_laws.specs.Choice.{if◌then◌else◌}
+use Rattle.std.specs.Prelude.{if◌then◌else◌}
 use Rattle.refusals.specs.Refusals.{accepted}
 use Rattle.bench.specs.declared.Bench.{Bench}
 use Rattle.master_rules.specs.Access.{refused_at, write_at}

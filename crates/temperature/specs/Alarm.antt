@@ -6,7 +6,7 @@
 --     verdict reading high low    whether a reading is at or past a limit, the two limits given as their bytes
 use Rattle.std.specs.Prelude.{ℕ, Bool, ◌||◌}
 use Rattle.std.specs.Int.Signed.{le_z}
-use Rattle.basic_laws.specs.Choice.{if◌then◌else◌}
+use Rattle.std.specs.Prelude.{if◌then◌else◌}
 use Rattle.refusals.specs.Refusals.{accepted, out_of_range}
 use Rattle.basic_laws.specs.Complement.{signed8, bits8}
 use Rattle.temperature.specs.declared.LimitByte.{LimitByte}

@@ -11,7 +11,7 @@
 --     whole_of r            the whole degree at or below a reading: -1 for half a degree below zero
 use Rattle.std.specs.Prelude.{ℕ, Bool, pos, ◌+ℤ◌, ◌*ℤ◌}
 use Rattle.std.specs.Int.Signed.{le_z, lt_z}
-use Rattle.basic_laws.specs.Choice.{if◌then◌else◌}
+use Rattle.std.specs.Prelude.{if◌then◌else◌}
 use Rattle.refusals.specs.Refusals.{accepted, out_of_range}
 use Rattle.basic_laws.specs.Rounding.{floor_div}
 use Rattle.temperature.specs.declared.Converted.{Converted}

@@ -8,7 +8,7 @@
 --                            zero
 use Rattle.std.specs.Prelude.{ℕ, zero, suc, ◌/◌, Bool, not, ◌&&◌, ◌||◌, List, ◌++◌, eqb, leb, ltb, ℤ, pos, nat_abs, length, get_or}
 use Rattle.std.specs.Int.Signed.{lt_z}
-use Rattle.basic_laws.specs.Choice.{if◌then◌else◌}
+use Rattle.std.specs.Prelude.{if◌then◌else◌}
 use Rattle.text.specs.Ascii.{ascii}
 use Rattle.text.specs.Digits.{digits, number_in, spells}
 

@@ -11,7 +11,7 @@
 --     hex_of bs               the two hexadecimal digits of each byte, in turn
 --     bytes_of cs             the bytes that pairs of digits stand for; a last digit without a partner is passed over
 use Rattle.std.specs.Prelude.{ℕ, zero, suc, ◌+◌, ◌-◌, ◌*◌, ◌/◌, ◌%◌, Bool, ◌&&◌, List, [], ◌∷◌, ◌++◌, ltb, leb}
-use Rattle.basic_laws.specs.Choice.{if◌then◌else◌}
+use Rattle.std.specs.Prelude.{if◌then◌else◌}
 use Rattle.basic_laws.specs.Fold.{fold, all}
 
 abbrev pub digit_of : ℕ → ℕ

@@ -5,7 +5,7 @@
 --     decode_answer, decode_leaves out cs  the same for the bytes that digits stand for, laid at the front; any other
 --                                        character is refused with 2
 use Rattle.std.specs.Prelude.{ℕ, ◌+◌, Bool, List, leb, length}
-use Rattle.basic_laws.specs.Choice.{if◌then◌else◌}
+use Rattle.std.specs.Prelude.{if◌then◌else◌}
 use Rattle.basic_laws.specs.Laid.{laid}
 use Rattle.refusals.specs.Refusals.{accepted, no_room, not_hex}
 use Rattle.text.specs.declared.laying.Written.{Written}

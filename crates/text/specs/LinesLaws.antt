@@ -23,7 +23,7 @@ use borrow.Author.Tests.{eqb-true, lt-ltb, le-ltb, leb-true, leb-false, ltb-true
 use Rattle.std.proofs.Math.Dec.{leb, leb-suc-suc}
 use Rattle.std.proofs.Math.ListN.{length, drop, length-drop, drop_of_length-le}
 use Rattle.std.proofs.Math.Seq.{take_all}
-use Rattle.basic_laws.specs.Choice.{if◌then◌else◌}
+use Rattle.std.specs.Prelude.{if◌then◌else◌}
 use Rattle.basic_laws.specs.Fold.{all}
 use Rattle.basic_laws.specs.ChoiceLaws.{and_left, and_right}
 use Rattle.basic_laws.specs.First.{first_at}

@@ -4,7 +4,7 @@
 --     decimal_read most bound cs      one to `most` decimal digits of a number up to a bound; zeros in front are taken
 --     plain_read bound cs             a number in plain decimal of any size, or the bound where it is greater
 use Rattle.std.specs.Prelude.{ℕ, min, true, false, ◌&&◌, List, eqb, leb, length}
-use Rattle.basic_laws.specs.Choice.{if◌then◌else◌}
+use Rattle.std.specs.Prelude.{if◌then◌else◌}
 use Rattle.text.specs.declared.NumberRead.{NumberRead}
 use Rattle.text.specs.Decimal.{decimal_in, plain_decimal}
 use Rattle.text.specs.Digits.{spells, number_in}

@@ -10,7 +10,7 @@
 --     line_answer out at x        the place behind the line x, or refusal 1
 --     line_leaves out at x        the buffer with the line, or as it was
 use Rattle.std.specs.Prelude.{ℕ, ◌+◌, ◌≤◌, ◌≡◌, Bool, List, [], ◌∷◌, ◌++◌, length}
-use Rattle.basic_laws.specs.Choice.{if◌then◌else◌}
+use Rattle.std.specs.Prelude.{if◌then◌else◌}
 use Rattle.basic_laws.specs.Laid.{laid}
 use Rattle.refusals.specs.Refusals.{accepted, no_room}
 use Rattle.text.specs.Ascii.{ascii}

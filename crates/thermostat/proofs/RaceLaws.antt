@@ -12,7 +12,7 @@ use Rattle.std.proofs.Math.Bool.{and-true, or-false, or_assoc}
 use mathlib.Core.List.{List, [], ◌∷◌, ◌++◌}
 use Rattle.std.proofs.Math.Path.{refl, ap, ap₂, subst⁻¹}
 use Rattle.std.proofs.Common.{sym, ◌∙◌, lit<}
-use Rattle.basic_laws.specs.Choice.{if◌then◌else◌}
+use Rattle.std.specs.Prelude.{if◌then◌else◌}
 use Rattle.basic_laws.specs.ChoiceLaws.{choice-then, choice-else, and_left, and_right}
 use Rattle.basic_laws.specs.Bits.{bit_at, bits_of, number_of}
 use Rattle.basic_laws.specs.BitsLaws.{bits-number}

@@ -10,7 +10,7 @@
 --                           the flags, and the upper three bits of the byte s that was read; changed_bits, these bits
 --     status_changed p s a   the second call
 use Rattle.std.specs.Prelude.{ℕ, Bool, true, List, [], ◌∷◌}
-use Rattle.basic_laws.specs.Choice.{if◌then◌else◌}
+use Rattle.std.specs.Prelude.{if◌then◌else◌}
 use Rattle.basic_laws.specs.Bits.{bit_at, number_of}
 use Rattle.refusals.specs.Refusals.{accepted, no_presence}
 use Rattle.search_laws.specs.Reads.{after_bits, bits_shown, after_reads}

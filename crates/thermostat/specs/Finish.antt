@@ -10,7 +10,7 @@
 --                           measured t. A refusal leaves it as it was
 use Rattle.std.specs.Prelude.{ℕ, Bool, true, false, not, ◌||◌}
 use Rattle.std.specs.Int.Signed.{le_z, lt_z}
-use Rattle.basic_laws.specs.Choice.{if◌then◌else◌}
+use Rattle.std.specs.Prelude.{if◌then◌else◌}
 use Rattle.refusals.specs.Refusals.{accepted, out_of_range, mismatch}
 use Rattle.temperature.specs.Alarm.{limit_of, limit_byte_of}
 use Rattle.temperature.specs.Range.{whole_in_range}

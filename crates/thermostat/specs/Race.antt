@@ -14,7 +14,7 @@
 --                         asked, and the limits as they were, or in thermostat mode all of these as they were
 --     RaceClaim           it holds of every probe, every change and every interleaving: law `race`
 use Rattle.std.specs.Prelude.{ℕ, Bool, false, ◌&&◌, ◌||◌, List, [], ◌∷◌, ◌++◌, map, ◌≡◌, eqb, drop}
-use Rattle.basic_laws.specs.Choice.{if◌then◌else◌}
+use Rattle.std.specs.Prelude.{if◌then◌else◌}
 use Rattle.basic_laws.specs.Bits.{bits_of, number_of}
 use Rattle.refusals.specs.Refusals.{accepted}
 use Rattle.search_laws.specs.Reads.{read_slots}

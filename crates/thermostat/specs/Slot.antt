@@ -11,7 +11,7 @@
 --     probe_slotted p m           one slot in which the master offers m; reset_done p, a reset, with presence outside
 --                                thermostat mode. Neither is ever refused
 use Rattle.std.specs.Prelude.{ℕ, ◌+◌, Bool, true, false, not, ◌&&◌, ltb, eqb}
-use Rattle.basic_laws.specs.Choice.{if◌then◌else◌}
+use Rattle.std.specs.Prelude.{if◌then◌else◌}
 use Rattle.commands.specs.Bytes.{shifted, byte_slot}
 use Rattle.commands.specs.declared.Shifted.{Shifted}
 use Rattle.commands.specs.declared.Shifted.TheVariants.{Partial, Whole, Beyond}

@@ -5,7 +5,7 @@
 --                              refusal 1 and the probe as it was where less than a line's room is lent
 --     probe_leaves p l out      the lent bytes after it: the text from byte 0 on, or as they were
 use Rattle.std.specs.Prelude.{ℕ, List, leb, length}
-use Rattle.basic_laws.specs.Choice.{if◌then◌else◌}
+use Rattle.std.specs.Prelude.{if◌then◌else◌}
 use Rattle.basic_laws.specs.Laid.{laid}
 use Rattle.refusals.specs.Refusals.{accepted, no_room}
 use Rattle.text.specs.Lines.{Line}

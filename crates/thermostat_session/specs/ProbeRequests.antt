@@ -7,7 +7,7 @@
 --     of_probe ws             the calls on the probe, by the words of a line
 --     probe_request_of s       what a line, without its feed, asks for; a line over 80 characters is `Bad`
 use Rattle.std.specs.Prelude.{ℕ, Bool, ◌&&◌, List, eqb, leb, length}
-use Rattle.basic_laws.specs.Choice.{if◌then◌else◌}
+use Rattle.std.specs.Prelude.{if◌then◌else◌}
 use Rattle.refusals.specs.Refusals.{accepted}
 use Rattle.text.specs.Ascii.{ascii}
 use Rattle.text.specs.declared.NumberRead.{NumberRead}

@@ -2,7 +2,7 @@
 -- its input is cut; and what a call has said stands at the front of its buffer.
 use Rattle.std.specs.Prelude.{ℕ, ◌≤◌, ◌≡◌, List, length, take}
 use Rattle.std.proofs.Common.{ap, arith, le-leb}
-use Rattle.basic_laws.specs.Choice.{if◌then◌else◌}
+use Rattle.std.specs.Prelude.{if◌then◌else◌}
 use Rattle.basic_laws.specs.LaidLaws.{laid-front}
 use Rattle.text.specs.Lines.{Line, lines_of}
 use Rattle.pieces.specs.Pieces.{together}

@@ -6,7 +6,7 @@ use mathlib.Core.List.{List, [], ◌∷◌, map, Permᴰ}
 use Rattle.std.proofs.Common.{sym, ◌∙◌, arith, eq-eqb, ne_eqb}
 use Rattle.std.proofs.Math.Path.{ap}
 use Rattle.std.specs.Int.Signed.{le_z}
-use Rattle.basic_laws.specs.Choice.{if◌then◌else◌}
+use Rattle.std.specs.Prelude.{if◌then◌else◌}
 use Rattle.basic_laws.specs.Each.{Each, those}
 use Rattle.basic_laws.specs.EachLaws.{each-implies, each_at, those-same}
 use Rattle.commands.specs.Commands.{alarm_search}

@@ -9,7 +9,7 @@
 --     WhyPromise b code r      the first as what a call promises: of every history that leads to the bench given
 use Rattle.std.specs.Prelude.{ℕ, ◌≤◌, Bool, true, false, ◌||◌, ◌≡◌, eqb}
 use mathlib.Core.List.{List, [], ◌∷◌, Permᴰ}
-use Rattle.basic_laws.specs.Choice.{if◌then◌else◌}
+use Rattle.std.specs.Prelude.{if◌then◌else◌}
 use Rattle.basic_laws.specs.Each.{Each, those}
 use Rattle.commands.specs.Commands.{alarm_search}
 use Rattle.refusals.specs.Refusals.{accepted}

@@ -14,7 +14,7 @@
 --                            that code, or that there is none
 use Rattle.std.specs.Prelude.{ℕ, Bool, true, false, not, ◌&&◌, List, eqb, pos, get_or}
 use Rattle.std.specs.Int.Signed.{le_z}
-use Rattle.basic_laws.specs.Choice.{if◌then◌else◌}
+use Rattle.std.specs.Prelude.{if◌then◌else◌}
 use Rattle.refusals.specs.Refusals.{accepted}
 use Rattle.family.specs.Layout.{high_limit_place, low_limit_place}
 use Rattle.rom.specs.Code.{code_refusal, sound}

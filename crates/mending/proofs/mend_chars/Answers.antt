@@ -1,7 +1,7 @@
 -- The characters, raised, stand at the front of the array; each call finds where the next step ends them.
 use Rattle.std.proofs.Common.{◌≡◌, ◌≤◌, Bool, List, ℕ, map, length, take, replicate, sym, ap, ◌∙◌, arith, length-take-le}
 use lib.ListN.{length-map}
-use Rattle.basic_laws.specs.Choice.{if◌then◌else◌}
+use Rattle.std.specs.Prelude.{if◌then◌else◌}
 use Rattle.basic_laws.specs.Laid.{laid}
 use Rattle.basic_laws.specs.LaidLaws.{laid-length, laid-read}
 use Rattle.mending.specs.Mending.{raised, longest_mended}

@@ -1,6 +1,6 @@
 -- The characters, mended, are read; they are dropped or written by what the reader says.
 use Rattle.std.proofs.Common.{◌≡◌, ℕ, ◌+◌, ◌<◌, true, eqb, List, [], ◌∷◌, ◌++◌, length, take, set, sym, refl, ap, ◌∙◌, add-one, arith, length-set, length-take-le, take-suc-set}
-use Rattle.basic_laws.specs.Choice.{if◌then◌else◌}
+use Rattle.std.specs.Prelude.{if◌then◌else◌}
 use Rattle.text.specs.Lines.{Line, line_feed}
 use Rattle.text.specs.Laying.{lay_answer, lay_leaves}
 use Rattle.frame.specs.declared.frame_lines.LineRead.{LineRead}
