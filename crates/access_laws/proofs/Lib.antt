@@ -1,2 +1,5 @@
 pub mod PinningLaws
 pub mod WriteLaws
+pub mod FinishedLaws
+pub mod NeverLaws
+pub mod ReadLaws

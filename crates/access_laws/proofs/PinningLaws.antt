@@ -58,7 +58,7 @@ use Rattle.history_laws.proofs.Theorem.{demand-3}
 use Rattle.access_laws.specs.Bytewise.{Readable, readable-after, readable-slot, readable-reset}
 use Rattle.access_laws.specs.Lasting.{lasts_after}
 use Rattle.access_laws.specs.Pinning.{pins_at_place, pins_at, read_on, LeastShared, PinsClaim, PinsPromise}
-use Rattle.access_laws.specs.ReadLaws.{pad-sound, read-answered}
+use Rattle.access_laws.proofs.ReadLaws.{pad-sound, read-answered}
 use Rattle.access_laws.specs.Shown.{answered_with}
 use Rattle.access_laws.specs.SearchLaws.{search-kept}
 use Rattle.access_laws.specs.ShownLaws.{code_at, read_kept}

@@ -49,8 +49,8 @@ use Rattle.history_laws.specs.Kept.{written_keeps}
 use Rattle.access_laws.specs.Bytewise.{Readable, readable-after, readable-slot, readable-reset}
 use Rattle.access_laws.specs.Course.{Hears, hears-end, hears-then}
 use Rattle.access_laws.specs.Laws.{Ends, heard-runs, heard-live-all, calls-rule, settings-run, admitted-free}
-use Rattle.access_laws.specs.NeverLaws.{admitted-code, admitted-sound, read-admitted, write-admitted}
-use Rattle.access_laws.specs.ReadLaws.{absent-refused, has, admitted, present, pad-sound, read-answered}
+use Rattle.access_laws.proofs.NeverLaws.{admitted-code, admitted-sound, read-admitted, write-admitted}
+use Rattle.access_laws.proofs.ReadLaws.{absent-refused, has, admitted, present, pad-sound, read-answered}
 use Rattle.access_laws.specs.Reply.{IsQuiet}
 use Rattle.access_laws.specs.Shown.{answered_with}
 use Rattle.access_laws.specs.ShownLaws.{differs_at, others-differ, read_kept}

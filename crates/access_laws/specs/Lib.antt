@@ -9,9 +9,6 @@ pub mod Taken
 pub mod ShownLaws
 pub mod Lasting
 pub mod Bytewise
-pub mod ReadLaws
-pub mod NeverLaws
-pub mod FinishedLaws
 pub mod SearchLaws
 pub mod Pinning
 pub mod Names

@@ -15,7 +15,8 @@ use Rattle.bench.specs.declared.Bench.{Bench}
 use Rattle.bench.specs.Bench.{live, vacant}
 use Rattle.bench.specs.Slot.{heard, restarted}
 use Rattle.bench.specs.Calls.{conversion_finished, copy_finished, power_cycled}
-use Rattle.bench.proofs.Laws.{heard-live, restarted-live, OneChanged, conversion-cases, copy-cases, cycle-cases}
+use Rattle.bench.specs.Laws.{OneChanged}
+use Rattle.bench.proofs.Laws.{heard-live, restarted-live, conversion-cases, copy-cases, cycle-cases}
 use Rattle.bench.specs.Everywhere.{Invariant}
 
 pub sound-invariant : Invariant Sound

@@ -7,7 +7,7 @@
 --     OneChanged b code f after    the device with the code, and it alone, has become f of what it was
 --     ..-refused                   a refused call changes nothing
 --     place_found, place-nowhere   the place of a code is where a device has it; nowhere if none has
-use Rattle.std.specs.Prelude.{ℕ, ◌+◌, ◌<◌, ◌≡◌, ◌≢◌, Bool, true, false, not, ◌&&◌, map, eqb, ltb, length, get_or, set, drop}
+use Rattle.std.specs.Prelude.{ℕ, ◌+◌, ◌<◌, ◌≡◌, ◌≢◌, Bool, true, false, not, ◌&&◌, map, eqb, ltb, length, get_or, drop}
 use Rattle.std.proofs.Math.Path.{refl}
 use Rattle.std.proofs.Common.{ap, ◌∙◌, arith, add-one, eqb-true, ltb-true, ne_eqb, length-set, length-take, take-suc-set, drop-set-lt, get_or-take}
 use Rattle.std.proofs.lemmas.Bool.{eqb-false}
@@ -46,6 +46,7 @@ use Rattle.bench.specs.Calls.{changed, refused, with_new, put_last, is_there, ad
 use Rattle.bench.specs.Calls.{conversion_finished_at, conversion_finished, copy_finished_at, copy_finished}
 use Rattle.bench.specs.Calls.{power_cycled_at, power_cycled}
 use Rattle.bench.specs.Laws.{Added}
+use Rattle.bench.specs.Laws.{OneChanged}
 
 -- ## A slot and a reset
 
@@ -206,17 +207,6 @@ added-refused b new long = added-cases b new (λ c. c.refusal ≢ accepted
     → c.bench ≡ b) long (λ n r e. refl) (λ after a e. absurd (e refl))
 
 -- ## One device
-
-pub record OneChanged (b : Bench) (code : ℕ) (f : Device → Device) (after : Bench) : Type 0 where
-  pub place : ℕ
-  pub place_is : place_of b code ≡ At place
-  pub device-is : get_or (live b) place vacant ≡ device_at b place
-  pub within : place < length (live b)
-  pub code-there : (get_or (live b) place vacant).code ≡ code
-  pub live-is : live after ≡ set (live b) place (f (get_or (live b) place vacant))
-  pub count-is : after.count ≡ b.count
-  pub places-are : length after.devices ≡ length b.devices
-  pub rest-is : drop b.count after.devices ≡ drop b.count b.devices
 
 module _ (b : Bench) (code i : ℕ) (e : place_of b code ≡ At i) where
   at_count : i < b.count

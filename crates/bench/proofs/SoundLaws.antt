@@ -25,7 +25,8 @@ use Rattle.bench.proofs.Everywhere.{sound-invariant, heard-each, restarted-each,
 use Rattle.bench.proofs.Everywhere.{cycle-each}
 use Rattle.bench.proofs.Laws.{slot_cases, reset-cases, heard-live, heard-count, heard-places, restarted-live}
 use Rattle.bench.specs.Laws.{Added}
-use Rattle.bench.proofs.Laws.{restarted-count, restarted-places, added-cases, OneChanged, conversion-cases}
+use Rattle.bench.specs.Laws.{OneChanged}
+use Rattle.bench.proofs.Laws.{restarted-count, restarted-places, added-cases, conversion-cases}
 use Rattle.bench.proofs.Laws.{copy-cases, cycle-cases}
 use Rattle.bench.specs.Sound.{codes_of, BenchSound}
 

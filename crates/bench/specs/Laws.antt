@@ -15,7 +15,11 @@ use Rattle.device.specs.Power.{joined}
 use Rattle.device.specs.declared.Joining.{Joining}
 use Rattle.bench.specs.declared.Bench.{Bench}
 use Rattle.device.specs.Record.{family_row}
-use Rattle.bench.specs.Bench.{live}
+use Rattle.bench.specs.Bench.{live, place_of, vacant}
+use Rattle.bench.specs.Calls.{device_at}
+use Rattle.bench.specs.declared.Place.TheVariants.{At}
+use Rattle.device.specs.declared.Device.{Device}
+use Rattle.std.specs.Prelude.{ℕ, get_or, set}
 
 -- ## Adding
 
@@ -28,3 +32,16 @@ pub record Added (b : Bench) (new : Joining) (after : Bench) : Type 0 where
   pub count-is : after.count ≡ b.count + 1
   pub places-are : length after.devices ≡ length b.devices
   pub rest-is : drop (b.count + 1) after.devices ≡ drop (b.count + 1) b.devices
+
+-- ## One device
+
+pub record OneChanged (b : Bench) (code : ℕ) (f : Device → Device) (after : Bench) : Type 0 where
+  pub place : ℕ
+  pub place_is : place_of b code ≡ At place
+  pub device-is : get_or (live b) place vacant ≡ device_at b place
+  pub within : place < length (live b)
+  pub code-there : (get_or (live b) place vacant).code ≡ code
+  pub live-is : live after ≡ set (live b) place (f (get_or (live b) place vacant))
+  pub count-is : after.count ≡ b.count
+  pub places-are : length after.devices ≡ length b.devices
+  pub rest-is : drop b.count after.devices ≡ drop b.count b.devices

@@ -2,7 +2,7 @@
 -- registers. Step by step: the bit that leaves the sum's register is the sum of the two that leave, so the taps go into
 -- both registers, into one, or into none; where they go in twice they cancel.
 --     crc-bit-sum                 one bit
---     crc-sum, crc-sum-zero       two strings, from any two registers, and from zero
+--     crc-sum                     two strings, from any two registers
 --     crc-merge                   the bits of a number go in as zeros do, from the register with the number added
 --     crc-own, crc-message        feeding the register its own value brings it to zero: a message followed by its CRC
 use Rattle.std.specs.Prelude.{ℕ, zero, suc, ◌/◌, ◌^◌, ◌<◌, ◌≡◌, refl, Bool, true, false, List, [], ◌∷◌, ◌++◌, length}
@@ -70,9 +70,6 @@ crc-sum r s (a ∷ l) (b ∷ m) h =
     ∙ ap (λ (n : ℕ). crc_bits n (sum l m)) (crc-bit-sum r s a b)
     ∙ crc-sum (crc_bit r a) (crc_bit s b) l m k
     ∙ rw (crc-more r a l, crc-more s b m)
-
-pub crc-sum-zero : (a b : List Bool) → length a ≡ length b → crc_bits 0 (sum a b) ≡ bit_xor (crc_bits 0 a) (crc_bits 0 b)
-crc-sum-zero a b h = crc-sum 0 0 a b h
 
 -- ## A register fed with its own value
 

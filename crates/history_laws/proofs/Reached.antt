@@ -20,7 +20,8 @@ use Rattle.device.specs.declared.Joining.{Joining}
 use Rattle.device.specs.declared.Page.{Page}
 use Rattle.bench.specs.Bench.{live, vacant, place_of}
 use Rattle.bench.specs.Calls.{refused}
-use Rattle.bench.proofs.Laws.{heard-live, restarted-live, slot_cases, reset-cases, added-cases, OneChanged}
+use Rattle.bench.specs.Laws.{OneChanged}
+use Rattle.bench.proofs.Laws.{heard-live, restarted-live, slot_cases, reset-cases, added-cases}
 use Rattle.bench.proofs.Laws.{conversion-cases, copy-cases, cycle-cases}
 use Rattle.bench.specs.Slot.{line_bit, slotted, reset_done}
 use Rattle.bench.specs.Sound.{codes_of}

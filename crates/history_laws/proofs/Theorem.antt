@@ -41,7 +41,8 @@ use Rattle.master_rules.specs.Buses.{slot_rule}
 use Rattle.master_rules.specs.OnTheBench.{Free, flagged_codes}
 use Rattle.master_rules.proofs.OnTheBench.{same-but-stage, restarted-keeps}
 use Rattle.master_rules.specs.Thermometers.{thermometers, Moving}
-use Rattle.master_rules.proofs.Thermometers.{everybody, everybody-course, flagged, flagged-course}
+use Rattle.master_rules.proofs.Thermometers.{everybody, flagged}
+use Rattle.master_rules.proofs.ThermometersLaws.{everybody-course, flagged-course}
 use Rattle.master_rules.specs.Thermometers.{unstaged, numbers_of}
 use Rattle.master_rules.specs.Course.{Course}
 use Rattle.master_rules.specs.Search.{fewest_places, fewest_bytes, code_length, most_passes, frame_of, lonely_outcome}

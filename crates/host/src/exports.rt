@@ -1,4 +1,4 @@
-// What a host in C or Rust calls. include/skiffleshower.h has the same for C, and says what each does.
+// What a host in C or Rust calls; the crate `host_c` has it under the names that they link.
 ghost use Rattle.std.specs.Prelude.{◌≡◌};
 ghost use Rattle.crc.specs.Crc.{crc_of};
 ghost use Rattle.host.specs.HostNaming.{next_answer, next_leaves};
@@ -9,22 +9,14 @@ use crate::{Answer, MOST_HELD};
 pub type Line = [u8; MOST_HELD];
 
 // The CRC of bytes; 0 of none.
-#[unsafe(no_mangle)]
-pub extern "C" fn skiffle_crc(bytes: &[u8]) -> u8
+pub fn skiffle_crc(bytes: &[u8]) -> u8
     ensures answer { result ≡ crc_of bytes.now }
 {
     crc::crc_of(bytes)
 }
 
 // The next of a recording that comes in pieces.
-#[unsafe(no_mangle)]
-pub extern "C" fn skiffle_next(
-    line: &mut Line,
-    held: usize,
-    bytes: &[u8],
-    at: usize,
-    ended: bool,
-) -> Answer
+pub fn skiffle_next(line: &mut Line, held: usize, bytes: &[u8], at: usize, ended: bool) -> Answer
     ensures answer { result ≡ next_answer line.old held bytes.now at ended }
     ensures written { line.new ≡ next_leaves line.old held bytes.now at }
 {

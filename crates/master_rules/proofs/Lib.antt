@@ -2,3 +2,4 @@ pub mod AccessLaws
 pub mod IssuedLaws
 pub mod OnTheBench
 pub mod Thermometers
+pub mod ThermometersLaws

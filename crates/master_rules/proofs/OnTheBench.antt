@@ -46,8 +46,10 @@ use Rattle.bench.proofs.SoundLaws.{heard-sound, restarted-sound}
 use Rattle.bench.specs.declared.Bench.{Bench}
 use Rattle.master_rules.specs.Course.{Course, search-same, Runs, pass-runs, unheard-runs}
 use Rattle.master_rules.specs.Thermometers.{thermometers, search_bits, alarm_bits, unstaged, Moving, numbers_of}
-use Rattle.master_rules.proofs.Thermometers.{everybody, everybody-keeps, everybody-course, everybody-codes}
-use Rattle.master_rules.proofs.Thermometers.{flagged, flagged-keeps, flagged-course, flagged-codes}
+use Rattle.master_rules.proofs.Thermometers.{everybody}
+use Rattle.master_rules.proofs.ThermometersLaws.{everybody-keeps, everybody-course, everybody-codes}
+use Rattle.master_rules.proofs.Thermometers.{flagged}
+use Rattle.master_rules.proofs.ThermometersLaws.{flagged-keeps, flagged-course, flagged-codes}
 use Rattle.master_rules.specs.Buses.{slot_rule, calls}
 use Rattle.master_rules.specs.OnTheBench.{Free, alarm_search_on, flagged_codes, search_on}
 

@@ -1,5 +1,5 @@
 -- How much noise a CRC can let pass: `noise-noticed`. Each part is proved where its idea is told.
-use Rattle.crc.proofs.SumLaws.{crc-sum-zero}
+use Rattle.crc.proofs.SumZeroLaws.{crc-sum-zero}
 use Rattle.noise_laws.specs.Claims.{NoiseClaim}
 use Rattle.noise_laws.specs.DistanceLaws.{distance}
 use Rattle.noise_laws.specs.HiddenLaws.{tight}

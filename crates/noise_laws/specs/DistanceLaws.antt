@@ -16,7 +16,8 @@ use Rattle.basic_laws.specs.Sums.{sum, ones}
 use Rattle.basic_laws.proofs.SumsLaws.{sum-length, same-if-none, ones-append, ones-zeros, none-anywhere}
 use Rattle.crc.specs.Crc.{taps, crc_bit, crc_bits}
 use Rattle.crc.specs.Laws.{crc-more, crc-append, crc-bit-lt, crc-lt}
-use Rattle.crc.proofs.SumLaws.{crc-sum-zero, crc-merge}
+use Rattle.crc.proofs.SumLaws.{crc-merge}
+use Rattle.crc.proofs.SumZeroLaws.{crc-sum-zero}
 use Rattle.noise_laws.specs.Claims.{Distance}
 use Rattle.noise_laws.specs.DifferencesLaws.{differences-ones, ones-within}
 use Rattle.noise_laws.specs.HoldsLaws.{from_one, quiet}

@@ -10,7 +10,7 @@ use Rattle.basic_laws.specs.Sums.{ones}
 use Rattle.basic_laws.proofs.SumsLaws.{ones-append}
 use Rattle.crc.specs.Crc.{crc_bits}
 use Rattle.crc.specs.Laws.{crc-none, crc-more, crc-append}
-use Rattle.crc.proofs.SumLaws.{crc-sum-zero}
+use Rattle.crc.proofs.SumZeroLaws.{crc-sum-zero}
 use Rattle.noise_laws.specs.Claims.{polynomial_at, first_and_last, Hides, Tight}
 use Rattle.noise_laws.specs.DifferencesLaws.{sum-differs, sum-within}
 

@@ -27,7 +27,8 @@ use Rattle.bench.specs.Slot.{line_bit, heard, slotted, restarted, reset_done}
 use Rattle.bench.specs.declared.Bench.{Bench}
 use Rattle.bench.proofs.Laws.{slot_cases, reset-cases, heard-count, heard-places, heard-rest, restarted-count}
 use Rattle.bench.specs.Laws.{Added}
-use Rattle.bench.proofs.Laws.{restarted-places, restarted-rest, added-cases, OneChanged, conversion-cases}
+use Rattle.bench.specs.Laws.{OneChanged}
+use Rattle.bench.proofs.Laws.{restarted-places, restarted-rest, added-cases, conversion-cases}
 use Rattle.bench.proofs.Laws.{copy-cases, cycle-cases}
 use Rattle.bench.specs.Sound.{codes_of}
 use Rattle.bench.proofs.SoundLaws.{heard-codes, restarted-codes, added-codes, codes-new, one-changed-codes}

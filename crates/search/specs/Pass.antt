@@ -21,8 +21,8 @@ use Rattle.search_laws.specs.Departure.{takes}
 use Rattle.search_laws.specs.Pass.{triple, took_zero, choice, on_some}
 use Rattle.search_laws.specs.PassLaws.{on_some_lem, on_both}
 use Rattle.search_laws.specs.PassLoop.{Walk as PassWalk, walk, walk_on, walk_ends}
-use Rattle.search_laws.proofs.PassLoop.{onward, bit-step, steps, steps-turn}
-use Rattle.search_laws.proofs.PassLoop.{steps-end, steps-over}
+use Rattle.search_laws.specs.PassLoop.{onward, bit-step, steps, steps-turn}
+use Rattle.search_laws.specs.PassLoop.{steps-end, steps-over}
 use Rattle.search_laws.specs.Wire.{slots}
 use Rattle.bench.specs.Slot.{slotted}
 use Rattle.bench.specs.declared.Bench.{Bench}

@@ -38,11 +38,12 @@ use Rattle.search_laws.specs.Pass.{triple, choice}
 use Rattle.search_laws.specs.PassLaws.{on_some_lem}
 use Rattle.search_laws.specs.Departure.{takes}
 use Rattle.search_laws.specs.PassLoop.{Walk as PassWalk, walk, walk_on, walk_ends}
-use Rattle.search_laws.proofs.PassLoop.{onward, bit_step, steps, started_pass}
-use Rattle.search_laws.proofs.PassLoop.{loop_pass}
+use Rattle.search_laws.specs.PassLoop.{onward, bit_step, steps, started_pass}
+use Rattle.search_laws.specs.PassLoop.{loop_pass}
 use Rattle.search_laws.specs.SearchLoop.{Sweep as SearchSweep, sweep}
-use Rattle.search_laws.proofs.SearchLoop.{with_pass, turns, turns-turn, turns-end}
-use Rattle.search_laws.proofs.SearchLoop.{turns-over, turn-pass, loop_search, SameSearch, loop-search}
+use Rattle.search_laws.specs.SearchLoop.{with_pass, turns, turns-turn, turns-end}
+use Rattle.search_laws.specs.SearchLoop.{turns-over, turn-pass, loop_search, SameSearch}
+use Rattle.search_laws.proofs.SearchLoop.{loop-search}
 use Rattle.search_laws.specs.Wire.{Bus, slots}
 use Rattle.bench.specs.Bench.{free}
 use Rattle.bench.specs.Slot.{reset_done}

@@ -2,7 +2,7 @@
 ghost use Rattle.std.specs.Prelude.{◌+◌, ◌*◌, ◌^◌, ◌<◌, ◌&&◌, ◌≡◌};
 ghost use Rattle.basic_laws.specs.Bits.{bit_number, bits_of};
 ghost use Rattle.search_laws.specs.Departure.{takes};
-ghost use Rattle.search_laws.proofs.PassLoop.{started_pass};
+ghost use Rattle.search_laws.specs.PassLoop.{started_pass};
 ghost use Rattle.master_rules.specs.Buses.{calls};
 ghost use Rattle.master_rules.specs.Search.{code_length};
 ghost use Rattle.search.specs.Pass.{one_slot, last_after, one_place, pass_begun, walk_of};

@@ -7,8 +7,8 @@ use Rattle.search_laws.specs.Codes.{Code}
 use Rattle.search_laws.specs.Pass.{found, next}
 use Rattle.search_laws.specs.Wire.{slots, triplets, search_from, wire_search}
 use Rattle.search_laws.specs.Searchers.{wire}
-use Rattle.search_laws.proofs.PassLoop.{bit_step, steps}
-use Rattle.search_laws.proofs.SearchLoop.{turn, turns, loop_search}
+use Rattle.search_laws.specs.PassLoop.{bit_step, steps}
+use Rattle.search_laws.specs.SearchLoop.{turn, turns, loop_search}
 use Rattle.search_laws.specs.Small.{SEARCH_ROM, ALARM_SEARCH, Small, Stage, quiet, chosen, command, searching, co}
 use Rattle.search_laws.specs.Small.{model}
 

@@ -11,7 +11,7 @@ use Rattle.std.proofs.Math.Option.{Option, none, some}
 use mathlib.Core.List.{List, [], ◌∷◌, ◌++◌, map, append-nil}
 use Rattle.basic_laws.specs.Fold.{all}
 use Rattle.search_laws.specs.Codes.{Code, line_of_codes, co_line, follow, nobody}
-use Rattle.search_laws.specs.Pass.{Triple, triple, Plan, choice, pass, found, departed, next}
+use Rattle.search_laws.specs.Pass.{triple, Plan, choice, pass, found, departed, next}
 use Rattle.search_laws.specs.Listing.{in_order}
 use Rattle.search_laws.proofs.ListingLaws.{order-nobody}
 use Rattle.search_laws.specs.Lists.{Lists, end, more}

@@ -6,128 +6,20 @@
 --     started_pass B command n prev D ds  a pass after its reset: the command, and a turn at each of n places
 --     loop_pass B command n prev D ds     a pass: a reset, and the pass after it
 use Rattle.std.specs.Prelude.{◌≡◌, Bool, false, get_or, drop}
-use Rattle.std.proofs.Math.Path.{refl, sym, ap}
-use Rattle.std.proofs.Common.{◌∙◌, pow-suc, add-mul, mul_assoc, mul_comm}
+use Rattle.std.proofs.Math.Path.{refl, sym}
 use Rattle.std.proofs.Math.Bool.{true}
-use Rattle.std.proofs.Math.Option.{Option, none, some, map}
-use mathlib.Core.List.{List, [], ◌∷◌, ◌++◌, append-nil, append_assoc}
-use Prim.Native.Nat.{ℕ, zero, suc, ◌+◌, ◌*◌, ◌-◌, ◌^◌, ◌<◌, ◌≤◌}
+use Rattle.std.proofs.Math.Option.{none}
+use mathlib.Core.List.{List, [], ◌∷◌, append-nil}
+use Prim.Native.Nat.{ℕ, zero, suc, ◌+◌, ◌<◌}
 use native.Mathlib.Omega.{arith}
-use Rattle.std.proofs.Math.Numerals.{add-one}
-use Rattle.std.specs.Prelude.{if◌then◌else◌}
-use Rattle.basic_laws.specs.ChoiceLaws.{choice-then, choice-else}
-use Rattle.basic_laws.specs.Bits.{bit_number, number_of}
+use Rattle.basic_laws.specs.Bits.{number_of}
 use Rattle.search_laws.specs.Codes.{other_bits}
-use Rattle.search_laws.specs.Pass.{Triple, triple, Plan, choice, on_some, found, took_zero}
-use Rattle.search_laws.specs.PassLaws.{on_both, never}
+use Rattle.search_laws.specs.Pass.{triple, Plan, choice, found}
+use Rattle.search_laws.specs.PassLaws.{on_both}
 use Rattle.search_laws.specs.Paths.{first-drop}
-use Rattle.search_laws.specs.Wire.{Bus, Pass, passed, with_triple, slots, triplets, wire_pass}
-use Rattle.search_laws.specs.Issued.{longer-option}
+use Rattle.search_laws.specs.Wire.{Bus, passed, with_triple, slots, triplets, wire_pass}
 use Rattle.search_laws.specs.Departure.{takes, last_from}
-use Rattle.search_laws.specs.PassLoop.{Walk, answers, walk, walk_ends, walk_on}
-
-module _ (B : Bus) (prev D : ℕ) where
-  -- The three slots of a place, or the two reads where nobody answers.
-  abbrev pub onward : ℕ → Walk B.Devices → Walk B.Devices
-  onward j w =
-      let once = B.after true w.devices in
-      let twice = B.after true once in
-      let a = B.line true w.devices in
-      let b = B.line true once in
-      on_some (choice a b (takes prev D j)) (walk_ends w (a ∷ b ∷ []) twice)
-      (λ d. walk_on j w (triple a b d) (B.line d twice) (B.after d twice))
-
-  unfoldable pub bit_step : ℕ → Walk B.Devices → Walk B.Devices
-  bit_step j w = if w.answered then onward j w else w
-
-  -- A turn at which somebody has answered so far.
-  pub bit-step : (j : ℕ) (w : Walk B.Devices) → w.answered ≡ true → bit_step j w ≡ onward j w
-  unfolding bit_step
-  bit-step j w h = sym (choice-then w.answered _ w h)
-
-  unfoldable pub steps : ℕ → ℕ → Walk B.Devices → Walk B.Devices
-  steps zero j w = w
-  steps (suc m) j w = steps m (suc j) (bit_step j w)
-
-  -- ## The turns of a loop over the places below n
-
-  pub steps-turn : (n j : ℕ) (w : Walk B.Devices) → j < n
-      → steps (n - j) j w ≡ steps (n - (j + 1)) (j + 1) (bit_step j w)
-  unfolding steps
-  steps-turn n j w h =
-      let e : n - j ≡ suc (n - (j + 1)) = omega arith in
-      rw (e, add-one j)
-
-  pub steps-end : (n j : ℕ) (w : Walk B.Devices) → n ≤ j → steps (n - j) j w ≡ w
-  unfolding steps
-  steps-end n j w h = let e : n - j ≡ 0 = omega arith in rw e
-
-  pub steps-over : (m j : ℕ) (w : Walk B.Devices) → w.answered ≡ false → steps m j w ≡ w
-  unfolding steps bit_step
-  steps-over zero j w h = refl
-  steps-over (suc m) j w h = ap (steps m (suc j)) (sym (choice-else w.answered _ w h)) ∙ steps-over m (suc j) w h
-
--- A pass on devices that its reset has restarted.
-abbrev pub started_pass : (B : Bus) → List Bool → ℕ → ℕ → ℕ → B.Devices → Walk B.Devices
-started_pass B command n prev D ds =
-    let s = slots B command ds in
-    steps B prev D n 0 (walk true 0 n s.lines s.devices)
-
-abbrev pub loop_pass : (B : Bus) → List Bool → ℕ → ℕ → ℕ → B.Devices → Walk B.Devices
-loop_pass B command n prev D ds = started_pass B command n prev D (B.reset ds)
-
--- The walk s is the pass r over n bits.
-pub record SamePass {D : Type 0} (n : ℕ) (r : Pass D) (s : Walk D) : Type 0 where
-  pub answered-is : s.answered ≡ answers r.triples
-  pub lines_are : s.lines ≡ r.lines
-  pub devices-are : s.devices ≡ r.devices
-  pub code_is : (ts : List Triple) → r.triples ≡ some ts → s.code ≡ number_of (found ts)
-  pub last-is : (ts : List Triple) → r.triples ≡ some ts → s.last ≡ last_from 0 n ts
-
--- A loop that has come from w at place j to s has made the slots of r.
-record Made {D : Type 0} (j : ℕ) (w : Walk D) (r : Pass D) (s : Walk D) : Type 0 where
-  pub answered-is : s.answered ≡ answers r.triples
-  pub lines_are : s.lines ≡ w.lines ++ r.lines
-  pub devices-are : s.devices ≡ r.devices
-  pub code_is : (ts : List Triple) → r.triples ≡ some ts → s.code ≡ w.code + number_of (found ts) * 2 ^ j
-  pub last-is : (ts : List Triple) → r.triples ≡ some ts → s.last ≡ last_from j w.last ts
-
-answers-map : (t : Triple) (o : Option (List Triple)) → answers o ≡ answers (map (λ ts. t ∷ ts) o)
-answers-map t none = refl
-answers-map t (some ts) = refl
-
-code-more : (b c j : ℕ) → b * 2 ^ j + c * 2 ^ suc j ≡ (b + 2 * c) * 2 ^ j
-code-more b c j =
-    let e : c * 2 ^ suc j ≡ 2 * c * 2 ^ j = ap (λ (k : ℕ). c * k) (pow-suc 2 j) ∙ sym (mul_assoc c (2 ^ j) 2)
-    ∙ mul_comm (c * 2 ^ j) 2
-    ∙ sym (mul_assoc 2 c (2 ^ j)) in
-    rw (e, add-mul b (2 * c) (2 ^ j))
-
-made_none : {D : Type 0} (j : ℕ) (w : Walk D) (l : List Bool) (ds : D) → Made j w (passed none l ds) (walk_ends w l ds)
-made_none j w l ds = record {
-  answered-is = refl;
-  lines_are = refl;
-  devices-are = refl;
-  code_is = λ ts e. absurd (never e);
-  last-is = λ ts e. absurd (never e);
-}
-
-module _ {D : Type 0} (j : ℕ) (w : Walk D) (t : Triple) (l : Bool) (ds : D) (r : Pass D) (s : Walk D) where
-  made_more : Made (suc j) (walk_on j w t l ds) r s → Made j w (with_triple t l r) s
-  unfolding found number_of last_from
-  made_more m = record {
-    answered-is = m.answered-is ∙ answers-map t r.triples;
-    lines_are = m.lines_are ∙ append_assoc w.lines (t.bit ∷ t.co_bit ∷ l ∷ []) r.lines;
-    devices-are = m.devices-are;
-    code_is = λ ts e.
-        let k = longer-option t r.triples ts e in
-        let c = m.code_is k.others k.others-is in
-        let p = code-more (bit_number t.sent) (number_of (found k.others)) j in
-        rw k.is (omega arith);
-    last-is = λ ts e.
-        let k = longer-option t r.triples ts e in
-        rw k.is (m.last-is k.others k.others-is);
-  }
+use Rattle.search_laws.specs.PassLoop.{Made, SamePass, Walk, bit-step, loop_pass, made_more, made_none, steps, steps-over, walk, walk_ends, walk_on}
 
 rest-drop : (j : ℕ) (plan : Plan) → other_bits (drop j plan) ≡ drop (suc j) plan
 rest-drop zero [] = refl

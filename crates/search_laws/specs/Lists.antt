@@ -3,16 +3,11 @@
 --     Lists n S plan cs      the passes over S from a plan on find cs, one code each, and the last leaves no plan
 -- By induction on the codes' length: the passes over those that send 0 first, then the departure at this bit, then
 -- those that send 1.
-use Rattle.std.specs.Prelude.{◌≡◌, Bool, ◌&&◌, ℕ, zero, suc}
-use Rattle.std.proofs.Math.Path.{refl}
-use Rattle.std.proofs.Common.{◌∙◌, true≢false}
-use Rattle.std.proofs.Math.Bool.{true, false, and-false}
+use Rattle.std.specs.Prelude.{◌≡◌, ℕ}
 use Rattle.std.proofs.Math.Option.{Option, none, some}
-use mathlib.Core.List.{List, [], ◌∷◌, ◌++◌, map, append-nil}
-use Rattle.basic_laws.specs.Fold.{all}
-use Rattle.search_laws.specs.Codes.{Code, line_of_codes, co_line, follow, nobody}
-use Rattle.search_laws.specs.Pass.{Triple, triple, Plan, choice, pass, found, departed, next}
-use Rattle.search_laws.specs.Listing.{in_order}
+use mathlib.Core.List.{List, [], ◌∷◌}
+use Rattle.search_laws.specs.Codes.{Code}
+use Rattle.search_laws.specs.Pass.{Triple, Plan, pass, found, next}
 
 pub data Lists (n : ℕ) (S : List Code) : Option Plan → List Code → Type 0 where
   end : Lists n S none []

@@ -45,7 +45,8 @@ use Rattle.bench.specs.declared.Bench.{Bench}
 use Rattle.bench.specs.declared.Place.{Place}
 use Rattle.bench.specs.declared.Place.TheVariants.{At, Nowhere}
 use Rattle.bench.proofs.Laws.{heard-live, slot_cases}
-use Rattle.bench.proofs.Laws.{reset-cases, place-live, place_found, device-live, added-cases, OneChanged}
+use Rattle.bench.specs.Laws.{OneChanged}
+use Rattle.bench.proofs.Laws.{reset-cases, place-live, place_found, device-live, added-cases}
 use Rattle.bench.proofs.Laws.{conversion-cases, copy-cases, cycle-cases}
 use Rattle.bench.specs.Sound.{BenchSound}
 use Rattle.bench.proofs.SoundLaws.{place_is}
@@ -63,7 +64,8 @@ use Rattle.access_laws.specs.SearchLaws.{search-kept, alarm-kept}
 use Rattle.access_laws.specs.ShownLaws.{read_kept}
 use Rattle.access_laws.proofs.WriteLaws.{map_at, write-answer}
 use Rattle.access_laws.specs.Written.{with_asked, Writes}
-use Rattle.settings_laws.specs.Shared.{settings_of, kept_by, Holds, SparesStage, SparesOnBench}
+use Rattle.settings_laws.specs.Shared.{Holds, SparesStage, SparesOnBench}
+use Rattle.settings_laws.specs.HeldLaws.{HoldsAlone, Held}
 
 -- ## One device among others
 
@@ -71,14 +73,6 @@ map-set : {A B : Type 0} (f : A → B) (l : List A) (i : ℕ) (x : A) → map f 
 map-set f [] i x = refl
 map-set f (y ∷ l) zero x = refl
 map-set f (y ∷ l) (suc i) x = let e = map-set f l i x in rw e
-
-abbrev HoldsAlone : Settings → Device → Type 0
-HoldsAlone s d = settings_of d ≡ kept_by d s
-
-pub record Held (ds : List Device) (i code : ℕ) (s : Settings) : Type 0 where
-  pub within : i < length ds
-  pub has : (get_or ds i vacant).code ≡ code
-  pub alone : HoldsAlone s (get_or ds i vacant)
 
 module _ (i code : ℕ) (s : Settings) where
   -- of a bench, both ways

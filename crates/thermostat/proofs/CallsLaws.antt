@@ -26,7 +26,8 @@ use Rattle.thermostat.specs.declared.ProbeStage.TheVariants.{Quiet}
 use Rattle.thermostat.specs.declared.Thermostat.{Thermostat}
 use Rattle.thermostat.specs.Calls.{alone, byte_sent, status_read, changed_bits, changed_status, status_changed}
 use Rattle.thermostat.specs.Race.{after_events, lines_shown, offering, read_events, write_events, status_seen}
-use Rattle.thermostat.proofs.RaceLaws.{listening, by_parts, reset-unheard, ones-for-flags}
+use Rattle.thermostat.specs.RaceLaws.{listening}
+use Rattle.thermostat.proofs.RaceLaws.{by_parts, reset-unheard, ones-for-flags}
 use Rattle.thermostat.specs.declared.rules.Asked.{Asked}
 use Rattle.thermostat.specs.declared.rules.Changed.{Changed}
 use Rattle.thermostat.specs.declared.rules.StatusRead.{StatusRead}

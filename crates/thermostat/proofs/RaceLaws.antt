@@ -41,19 +41,9 @@ use Rattle.thermostat.specs.Race.{Event, reset, slot, finish, happens, after_eve
 use Rattle.thermostat.specs.Race.{read_events, write_events, status_seen, set_at, both_flags, set_in, kept_as_asked}
 use Rattle.thermostat.specs.Race.{Raced, RaceClaim}
 use Rattle.thermostat.specs.declared.rules.Asked.{Asked}
+use Rattle.thermostat.specs.RaceLaws.{listening}
 
 -- ## A probe outside thermostat mode, by its parts
-
-abbrev pub listening : Kept → ProbeStage → ℕ → Flags → Bool → Bool → Thermostat
-listening k s t f o c = record {
-  kept = k;
-  stage = s;
-  temperature = t;
-  flags = f;
-  output = o;
-  converting = c;
-  thermostat = false;
-}
 
 abbrev still : Kept → ProbeStage → Thermostat
 still k s = listening k s 0 (record { high = false; low = false }) false false

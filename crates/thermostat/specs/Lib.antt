@@ -8,3 +8,4 @@ pub mod Calls
 pub mod Race
 pub mod RaceCases
 pub mod Replies
+pub mod RaceLaws

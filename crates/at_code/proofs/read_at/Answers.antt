@@ -1,6 +1,6 @@
 -- Refused by `admit`, or read. What a read comes to after every history is the claim of `access_laws`.
 use Rattle.master_rules.specs.Access.{read_at}
-use Rattle.access_laws.specs.ReadLaws.{read-promised}
+use Rattle.access_laws.proofs.ReadLaws.{read-promised}
 use borrow.Author.Tests.{eq-eqb, ne_eqb}
 use Rattle.at_code.proofs.read_at.Goals as goal
 

@@ -31,7 +31,7 @@ use Rattle.history_laws.specs.History.{Code64, after}
 use Rattle.history_laws.specs.Kept.{written_keeps}
 use Rattle.access_laws.specs.Bytewise.{Readable, readable-after, readable-slot, readable-reset}
 use Rattle.access_laws.specs.Laws.{admitted-free}
-use Rattle.access_laws.specs.ReadLaws.{absent-refused, read-answered}
+use Rattle.access_laws.proofs.ReadLaws.{absent-refused, read-answered}
 use Rattle.access_laws.specs.Shown.{damage, NeverDamaged}
 
 -- ## The tests before anything is sent

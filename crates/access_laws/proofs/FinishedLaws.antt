@@ -22,14 +22,15 @@ use Rattle.bench.specs.Bench.{live, vacant, place_of, free}
 use Rattle.bench.specs.Calls.{device_at, conversion_finished}
 use Rattle.bench.specs.declared.Bench.{Bench}
 use Rattle.bench.specs.declared.Place.TheVariants.{At}
-use Rattle.bench.proofs.Laws.{OneChanged, device-live, conversion-cases}
+use Rattle.bench.specs.Laws.{OneChanged}
+use Rattle.bench.proofs.Laws.{device-live, conversion-cases}
 use Rattle.bench.specs.Sound.{BenchSound}
 use Rattle.bench.proofs.SoundLaws.{place_is}
 use Rattle.master_rules.specs.Access.{read_at}
 use Rattle.history_laws.proofs.Corollaries.{bench-is-sound}
 use Rattle.history_laws.specs.History.{Call, finish_conversion, Typed, apply, step, start, ledger, after}
 use Rattle.access_laws.specs.Bytewise.{Readable, readable-after}
-use Rattle.access_laws.specs.ReadLaws.{read-answered}
+use Rattle.access_laws.proofs.ReadLaws.{read-answered}
 use Rattle.access_laws.specs.Shown.{FineIsCount}
 
 -- s sixteenths as a fine reading
