@@ -1,3 +1,4 @@
+pub mod Chains
 pub mod Everywhere
 pub mod Laws
 pub mod SoundLaws

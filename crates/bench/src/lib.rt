@@ -6,7 +6,7 @@
 pub mod settling;
 pub mod wire;
 
-ghost use Rattle.std.specs.Prelude.{◌<◌, ◌≤◌, ◌&&◌, ◌++◌, ◌≡◌, take, drop};
+ghost use Rattle.std.specs.Prelude.{◌<◌, ◌&&◌, ◌≡◌};
 ghost use Rattle.refusals.specs.Refusals.{not_a_table};
 ghost use Rattle.device.specs.Offer.{offer_of};
 ghost use Rattle.bench.specs.Bench.{vacant, empty_bench, place_of, free};
@@ -97,20 +97,11 @@ pub fn new() -> Bench
 fn find(bench: Bench, code: u64) -> Place
     ensures answer { result ≡ place_of bench code }
 {
-    let devices = bench.devices;
-    let count = bench.count as usize;
-    let mut i: usize = 0;
-    while i < 32 {
-        if i < count {
-            let d = devices[i];
-            let own = d.code;
-            if own == code {
-                return Place::At(i);
-            }
-        }
-        i += 1;
+    let taken = wire::places(bench.count);
+    match bench.devices[..taken].iter().position(|d| d.code == code) {
+        Some(i) => Place::At(i),
+        None => Place::Nowhere,
     }
-    Place::Nowhere
 }
 
 // Whether no line-powered device is busy, so that a reset or a slot can pass.
@@ -139,27 +130,20 @@ pub fn slot(bench: Bench, bit: bool) -> Slotted
     let mut next = bench.devices;
     let taken = wire::places(bench.count);
     let mut line = bit;
-    let mut i: usize = 0;
-    while i < taken {
-        let d = next[i];
-        if device::holds_wire(d) {
+    for d in &next[..taken] {
+        if device::holds_wire(*d) {
             return Slotted {
                 bench,
                 refusal: refusals::WIRE_BUSY,
                 line: false,
             };
         }
-        line = line_with(line, d);
-        i += 1;
+        line = line_with(line, *d);
     }
-    let mut j: usize = 0;
-    while j < taken {
-        let d = next[j];
-        let stage = d.stage;
-        if !stages::is_still(stage) {
-            next[j] = hearing::hear(d, line);
+    for d in next[..taken].iter_mut() {
+        if !stages::is_still(d.stage) {
+            *d = hearing::hear(*d, line);
         }
-        j += 1;
     }
     Slotted {
         bench: Bench {
@@ -353,56 +337,27 @@ pub fn count_of(bench: Bench) -> u8
     bench.count
 }
 
-// Whether no device from a place on has this code.
-fn is_absent(devices: Devices, count: usize, from: usize, code: u64) -> bool
-    requires { count ≤ 32 }
-    ensures answer { result ≡ absent code (drop from (take count devices)) }
+// Whether no device has this code.
+fn is_absent(devices: &[Device], code: u64) -> bool
+    ensures answer { result ≡ absent code devices.now }
 {
-    let mut i = from;
-    while i < count {
-        let d = devices[i];
-        let own = d.code;
-        if own == code {
-            return false;
-        }
-        i += 1;
-    }
-    true
+    devices.iter().all(|d| d.code != code)
 }
 
 // Whether each code is sound, and no two are the same.
-fn codes_fit(devices: Devices, count: usize) -> bool
-    requires { count ≤ 32 }
-    ensures answer { result ≡ codes_fit (take count devices) }
+fn codes_fit(devices: &[Device]) -> bool
+    ensures answer { result ≡ codes_fit devices.now }
 {
-    let mut i: usize = 0;
-    while i < count {
-        let d = devices[i];
-        let code = d.code;
-        let refusal = rom::refusal_of(code);
+    for (i, d) in devices.iter().enumerate() {
+        let refusal = rom::refusal_of(d.code);
         if refusal != refusals::ACCEPTED {
             return false;
         }
-        if !is_absent(devices, count, i + 1, code) {
+        if !is_absent(&devices[i + 1..], d.code) {
             return false;
         }
-        i += 1;
     }
     true
-}
-
-// The first records of a table, in the first places of another.
-fn over(places: Devices, devices: Devices, count: usize) -> Devices
-    requires { count ≤ 32 }
-    ensures answer { result ≡ take count devices ++ drop count places }
-{
-    let mut next = places;
-    let mut i: usize = 0;
-    while i < count {
-        next[i] = devices[i];
-        i += 1;
-    }
-    next
 }
 
 fn no_bench() -> Made
@@ -423,16 +378,15 @@ pub fn of_records(devices: Devices, count: u8) -> Made
     if wire::PLACES < taken {
         return no_bench();
     }
-    let fit = codes_fit(devices, taken);
-    if !fit {
+    if !codes_fit(&devices[..taken]) {
         return no_bench();
     }
-    let empty = new();
-    let places = empty.devices;
+    let mut places = new().devices;
+    places[..taken].copy_from_slice(&devices[..taken]);
     Made {
         refusal: refusals::ACCEPTED,
         bench: Bench {
-            devices: over(places, devices, taken),
+            devices: places,
             count,
         },
     }

@@ -12,8 +12,7 @@ use device::{Device, Phase, rom_commands, stages};
 fn settled(d: Device, place: u8, bit: bool) -> Device
     ensures answer { result ≡ settled_of place bit d }
 {
-    let stage = d.stage;
-    if stages::is_quiet(stage) {
+    if stages::is_quiet(d.stage) {
         return d;
     }
     device::with_stage(
@@ -27,15 +26,10 @@ pub fn settle_all(devices: Devices, count: u8, place: u8, bit: bool) -> Devices
     ensures answer { result ≡ map_front (settled_of place bit) count devices }
 {
     let mut next = devices;
-    let taken = wire::places(count);
-    let mut i: usize = 0;
-    while i < taken {
-        let d = next[i];
-        let stage = d.stage;
-        if !stages::is_quiet(stage) {
-            next[i] = settled(d, place, bit);
+    for d in next[..wire::places(count)].iter_mut() {
+        if !stages::is_quiet(d.stage) {
+            *d = settled(*d, place, bit);
         }
-        i += 1;
     }
     next
 }

@@ -14,25 +14,16 @@ pub type Devices = [Device; 32];
 pub fn places(count: u8) -> usize
     ensures answer { result ≡ min count 32 }
 {
-    let taken = count as usize;
-    if taken < PLACES { taken } else { PLACES }
+    (count as usize).min(PLACES)
 }
 
 // Whether no line-powered device is busy, so that a reset or a slot can pass.
 pub fn is_free(devices: Devices, count: u8) -> bool
     ensures answer { result ≡ free_wire (take count devices) }
 {
-    let taken = count as usize;
-    let mut i: usize = 0;
-    while i < PLACES {
-        if i < taken {
-            if device::holds_wire(devices[i]) {
-                return false;
-            }
-        }
-        i += 1;
-    }
-    true
+    devices[..places(count)]
+        .iter()
+        .all(|d| !device::holds_wire(*d))
 }
 
 // Every device listens for a ROM command.
@@ -40,14 +31,8 @@ pub fn restart_all(devices: Devices, count: u8) -> Devices
     ensures answer { result ≡ all_restarted count devices }
 {
     let mut next = devices;
-    let taken = count as usize;
-    let mut i: usize = 0;
-    while i < PLACES {
-        if i < taken {
-            let d = next[i];
-            next[i] = power_and_finishes::reset(d);
-        }
-        i += 1;
+    for d in next[..places(count)].iter_mut() {
+        *d = power_and_finishes::reset(*d);
     }
     next
 }

@@ -1,29 +1,20 @@
-use Prim.Native.Nat.{◌≤◌}
-use mathlib.Core.Path.{◌≡◌, ◌∙◌}
-use native.Mathlib.Omega.{arith}
-use lib.ListN.{length}
-use Rattle.basic_laws.specs.FrontLaws.{upto-none, upto-more, upto_skip, upto-end}
-use borrow.Author.Rules.{rules}
+use Rattle.std.proofs.Common.{arith, rules, ◌≡◌, length}
+use Rattle.basic_laws.specs.FrontLaws.{front-none, front-more}
+use Rattle.device.specs.Power.{reset_of}
+use Rattle.bench.proofs.Chains.{front_rejoined}
 use Rattle.bench.proofs.wire.restart_all.Goals as goal
-use Rattle.bench.proofs.wire.restart_all.Goals.{then-i-taken, else-i-taken}
 
-pub loop-i-init : goal.loop-i-init
-loop-i-init c =
-    (omega arith, upto-none _ _ _)
+pub loop-d-init : goal.loop-d-init
+loop-d-init c =
+    front-none _ _
 
-pub loop-i-preserved : goal.loop-i-preserved
-loop-i-preserved c = (
-  omega arith,
-  elim c.if-i-taken.branch [
-    | then-i-taken w ↦ w.next-is ∙ rw (w.reset.ensures.answer, c.loop-i.invariant.1) (upto-more _ _ _ _ _ w.if-i-taken.true)
-    | else-i-taken w ↦ w.next-is ∙ c.loop-i.invariant.1 ∙ upto_skip _ _ _ _ w.if-i-taken.false
-  ],
-)
+pub loop-d-preserved : goal.loop-d-preserved
+loop-d-preserved c =
+    rw (c.reset.ensures.answer, c.loop-d.invariant) (front-more _ _ _ _)
 
 pub returns : goal.returns
 returns c =
     record {
       answer = let long : length c.args.devices ≡ 32 = search rules in
-          let h : length c.args.devices ≤ c.loop-i.i = omega arith in
-          c.loop-i.invariant.1 ∙ upto-end _ _ _ _ h;
+          front_rejoined reset_of _ 32 _ _ _ _ long c.places.ensures.answer c.loop-d.invariant (omega arith);
     }
