@@ -37,12 +37,10 @@ fn send(bench: Bench, number: u64, count: u8) -> Bench
 {
     let mut b = bench;
     let mut left = number;
-    let mut i: u8 = 0;
-    while i < count {
+    for _ in 0..count {
         let r = bench::slot(b, left % 2 == 1);
         b = r.bench;
-        left = left / 2;
-        i += 1;
+        left /= 2;
     }
     b
 }
@@ -77,12 +75,10 @@ fn read_byte(bench: Bench) -> ByteRead
 {
     let mut b = bench;
     let mut byte: u8 = 0;
-    let mut i: u8 = 0;
-    while i < 8 {
+    for _ in 0..8u8 {
         let r = bench::slot(b, true);
         b = r.bench;
         byte = commands::push(byte, r.line);
-        i += 1;
     }
     ByteRead { byte, bench: b }
 }
@@ -92,12 +88,10 @@ fn read_reply(bench: Bench) -> Reply
 {
     let mut b = bench;
     let mut pad = [0; 9];
-    let mut i: usize = 0;
-    while i < 9 {
+    for place in pad.iter_mut() {
         let r = read_byte(b);
-        pad[i] = r.byte;
+        *place = r.byte;
         b = r.bench;
-        i += 1;
     }
     Reply { pad, bench: b }
 }
