@@ -124,14 +124,13 @@ fn sweep_wire(
         bench,
     };
     let mut s = turn(none, restarted, command, list, recording);
-    let mut i: u8 = 1;
-    while i < MOST_PASSES {
-        if s.going {
-            let last = s.bench;
-            let r = bench::reset(last);
-            s = turn(s, r.bench, command, list, recording);
+    for _ in 1..MOST_PASSES {
+        if !s.going {
+            return s;
         }
-        i += 1;
+        let last = s.bench;
+        let r = bench::reset(last);
+        s = turn(s, r.bench, command, list, recording);
     }
     s
 }

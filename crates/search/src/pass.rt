@@ -129,13 +129,11 @@ fn begin_pass(bench: Bench, command: u8) -> Walk
     let mut b = bench;
     let mut frame = frame::blank(true);
     let mut left = command;
-    let mut i: u8 = 0;
-    while i < 8 {
+    for _ in 0..8u8 {
         let s = show(frame, b, left % 2 == 1);
         frame = s.frame;
         b = s.bench;
-        left = left / 2;
-        i += 1;
+        left /= 2;
     }
     Walk {
         answered: true,
@@ -152,12 +150,11 @@ pub fn pass(bench: Bench, command: u8, previous: u64, departure: u8) -> Walk
     ensures answer { result ≡ walk_of (started_pass calls (bits_of 8 command) code_length previous departure bench) }
 {
     let mut w = begin_pass(bench, command);
-    let mut place: u8 = 0;
-    while place < CODE_BITS {
-        if w.answered {
-            w = take_bit(w, place, previous, departure);
+    for place in 0..CODE_BITS {
+        if !w.answered {
+            return w;
         }
-        place += 1;
+        w = take_bit(w, place, previous, departure);
     }
     w
 }

@@ -59,18 +59,14 @@ fn survey_with(s: Survey, d: Device, place: u8) -> Survey
 fn look_over(devices: Devices, count: u8, place: u8) -> Survey
     ensures answer { result ≡ fold (surveyed_with place) survey_start (take count devices) }
 {
-    let taken = wire::places(count);
-    let mut s = Survey {
+    let none = Survey {
         fits: true,
         ones: true,
         zeros: true,
     };
-    let mut i: usize = 0;
-    while i < taken {
-        s = survey_with(s, devices[i], place);
-        i += 1;
-    }
-    s
+    devices[..wire::places(count)]
+        .iter()
+        .fold(none, |s, d| survey_with(s, *d, place))
 }
 
 // The bit to take where the two reads showed a bit and its complement, not both 1.

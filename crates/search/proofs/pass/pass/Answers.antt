@@ -1,36 +1,34 @@
-use mathlib.Core.Path.{◌∙◌, refl}
-use native.Mathlib.Omega.{arith}
-use Rattle.search.specs.Pass.{begun-walk, walking_start, walking-turn, walking-over, walking-end}
+use Rattle.std.proofs.Common.{◌≡◌, ◌∙◌, refl, ap, sym, false}
+use Rattle.std.proofs.lemmas.Bool.{not-true, not-false}
+use Rattle.search_laws.specs.PassLoop.{steps-over}
+use Rattle.master_rules.specs.Buses.{calls}
+use Rattle.search.specs.Pass.{walk_of, begun-walk, walking_start, walking-turn, walking-end}
+use Rattle.search.specs.declared.pass.Walk.{Walk}
 use Rattle.search.proofs.pass.pass.Goals as goal
-use Rattle.search.proofs.pass.pass.Goals.{then-w, else-w}
 
 pub loop-place-init : goal.loop-place-init
 loop-place-init c =
-    (omega arith, λ v₀ e z. rw e (walking_start _ _ v₀ z))
+    rw (c.begin_pass-w.ensures.answer, begun-walk c.args.command c.args.bench) (walking_start _ _ _ refl)
+
+-- where nobody answered, the places that are left change nothing
+pub returns-then-not-w : goal.returns-then-not-w
+returns-then-not-w c =
+    record {
+      answer = let k = c.loop-place.invariant in
+          let silent : k.walked.answered ≡ false =
+          sym (ap (λ (u : Walk). u.answered) k.is) ∙ not-true c.loop-place.w.answered c.if-not-w.true in
+          k.is ∙ ap walk_of (sym (steps-over calls c.args.previous c.args.departure _ c.loop-place.place k.walked silent) ∙ k.comes);
+    }
 
 pub take_bit-w-requires : goal.take_bit-w-requires
 take_bit-w-requires c =
-    let k = c.loop-place.invariant.1 _ (c.begin_pass-w.ensures.answer
-    ∙ begun-walk c.args.command c.args.bench) refl in
-    (c.loop-place-test.true, k.small)
+    (c.loop-place-test.true, c.loop-place.invariant.small)
 
 pub loop-place-preserved : goal.loop-place-preserved
 loop-place-preserved c =
-    let a = c.args in (
-      omega arith,
-      λ v₀ e z.
-          let k = c.loop-place.invariant.1 v₀ e z in
-          elim c.if-w.branch [
-            | then-w t ↦ rw (t.w-is, t.take_bit-w.ensures.answer) (walking-turn a.previous a.departure v₀ c.loop-place.place c.loop-place.w
-                c.loop-place-test.true t.if-w.true k)
-            | else-w t ↦ rw t.w-is (walking-over a.previous a.departure v₀ c.loop-place.place c.loop-place.w t.if-w.false k)
-          ],
-    )
+    rw c.take_bit-w.ensures.answer (walking-turn c.args.previous c.args.departure _ c.loop-place.place c.loop-place.w
+    c.loop-place-test.true (not-false c.loop-place.w.answered c.if-not-w.false) c.loop-place.invariant)
 
 pub returns : goal.returns
 returns c =
-    record {
-      answer = let k = c.loop-place.invariant.1 _ (c.begin_pass-w.ensures.answer
-          ∙ begun-walk c.args.command c.args.bench) refl in
-          walking-end _ _ _ _ _ c.loop-place-test.false k;
-    }
+    record { answer = walking-end _ _ _ _ _ c.loop-place-test.false c.loop-place.invariant }
