@@ -9,7 +9,7 @@ ghost use Rattle.master_rules.specs.Pins.{pins_searched, pins_outcome, pinned_of
 ghost use Rattle.commands.specs.Commands.{search_rom};
 ghost use Rattle.master_rules.specs.Search.{search_outcome};
 ghost use Rattle.access_laws.specs.Pinning.{PinsPromise};
-ghost use Rattle.pins.specs.Reading.{Holds, counted_pin};
+ghost use Rattle.pins.specs.Reading.{Holds};
 
 use bench::Bench;
 use master_rules::{Pinned, SharedPin};
@@ -76,49 +76,28 @@ fn read_all(bench: Bench, codes: &[u64], list: &mut [u64]) -> Reading
         pins: [0; 32],
         bench,
     };
-    let mut i: usize = 0;
-    while i < codes.len() {
-        r = read_one(r, codes[i], list);
-        i += 1;
+    for &code in codes {
+        r = read_one(r, code, list);
     }
     r
-}
-
-// One more where a probe has the pin number.
-fn count_pin(have: usize, there: u8, pin: u8) -> usize
-    requires { have < 18446744073709551615 }
-    ensures { result ≡ counted_pin have there pin }
-{
-    if there == pin {
-        return have + 1;
-    }
-    have
 }
 
 // How many probes have a pin number.
 fn have_pin(pins: &[u8], pin: u8) -> usize
     ensures { result ≡ have_pin pins.now pin }
 {
-    let mut have: usize = 0;
-    let mut i: usize = 0;
-    while i < pins.len() {
-        have = count_pin(have, pins[i], pin);
-        i += 1;
-    }
-    have
+    pins.iter().filter(|there| **there == pin).count()
 }
 
 // The lowest pin number that two probes have.
 fn shared_pin(pins: &[u8]) -> SharedPin
     ensures { result ≡ shared_pin pins.now }
 {
-    let mut pin: u8 = 0;
-    while pin < PIN_NUMBERS {
+    for pin in 0..PIN_NUMBERS {
         let have = have_pin(pins, pin);
         if 1 < have {
             return SharedPin::Pin(pin);
         }
-        pin += 1;
     }
     SharedPin::NoPin
 }

@@ -1,35 +1,24 @@
-use mathlib.Core.Path.{refl}
-use native.Mathlib.Omega.{arith}
-use lib.Seq.{take_all}
+use Rattle.std.proofs.Common.{arith, rules, refl, take_all}
 use Rattle.basic_laws.specs.Fold.{fold}
 use Rattle.basic_laws.specs.FoldLaws.{fold_step}
 use Rattle.master_rules.specs.Pins.{pins_step, nobody_read}
 use Rattle.pins.specs.ReadingLaws.{holds-none}
-use borrow.Author.Rules.{rules}
 use Rattle.pins.proofs.read_all.Goals as goal
 
-pub loop-i-init : goal.loop-i-init
+pub loop-code-init : goal.loop-code-init
 unfolding fold
-loop-i-init c =
-    let a = c.args in
-    (omega arith, c.requires.0, omega arith, refl, c.requires.1, holds-none a.list.now a.bench c.requires.1)
+loop-code-init c =
+    record { few = omega arith; as_long = refl; holds = holds-none c.args.list.now c.args.bench c.requires.1 }
 
-pub loop-i-preserved : goal.loop-i-preserved
-loop-i-preserved c =
+pub loop-code-preserved : goal.loop-code-preserved
+loop-code-preserved c =
     let a = c.args in
-    let inv = c.loop-i.invariant in
+    let inv = c.loop-code.invariant in
     let ended = c.read_one-r.ensures in
-    let next = fold_step pins_step (nobody_read a.bench) c.loop-i.i a.codes.now 0 (search rules) in (
-      search rules,
-      inv.1,
-      omega (arith, ended.0, inv.2),
-      search rules,
-      inv.4,
-      rw (← next) (ended.1 a.list.now _ inv.5),
-    )
+    let next = fold_step pins_step (nobody_read a.bench) c.loop-code.code-index a.codes.now 0 c.loop-code-test.true in
+    record { few = omega (arith, ended.0); as_long = search rules; holds = rw (← next) (ended.1 a.list.now _ inv.holds) }
 
 pub returns : goal.returns
 returns c =
-    let a = c.args in
-    let whole = take_all c.loop-i.i a.codes.now (search rules) in
-    rw whole at c.loop-i.invariant.5
+    let whole = take_all c.loop-code.code-index c.args.codes.now c.loop-code-test.false in
+    rw whole at c.loop-code.invariant.holds

@@ -1,26 +1,25 @@
 use mathlib.Core.Path.{refl, sym, ◌∙◌}
-use native.Mathlib.Omega.{arith}
 use Rattle.pins.specs.ReadingLaws.{shared-here, shared-on, shared-none}
 use borrow.Author.Rules.{rules}
 use Rattle.pins.proofs.shared_pin.Goals as goal
 
 pub loop-pin-init : goal.loop-pin-init
 loop-pin-init c =
-    (omega arith, refl)
+    refl
 
 pub returns-then-have-gt1 : goal.returns-then-have-gt1
 returns-then-have-gt1 c =
     let a = c.args in
     let two = rw c.have_pin-have.ensures at c.if-have-gt1.true in
-    shared-here a.pins.now 16 c.loop-pin.pin (search rules) two ∙ c.loop-pin.invariant.1
+    shared-here a.pins.now 16 c.loop-pin.pin (search rules) two ∙ c.loop-pin.invariant
 
 pub loop-pin-preserved : goal.loop-pin-preserved
 loop-pin-preserved c =
     let a = c.args in
     let few = rw c.have_pin-have.ensures at c.if-have-gt1.false in
-    (search rules, sym (shared-on a.pins.now 16 c.loop-pin.pin (search rules) few) ∙ c.loop-pin.invariant.1)
+    sym (shared-on a.pins.now 16 c.loop-pin.pin (search rules) few) ∙ c.loop-pin.invariant
 
 pub returns : goal.returns
 returns c =
     let a = c.args in
-    shared-none a.pins.now 16 c.loop-pin.pin (search rules) ∙ c.loop-pin.invariant.1
+    shared-none a.pins.now 16 c.loop-pin.pin (search rules) ∙ c.loop-pin.invariant
