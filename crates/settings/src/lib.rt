@@ -114,20 +114,11 @@ pub fn new() -> Store
 fn find(store: Store, code: u64) -> Kept
     ensures { result ≡ kept_at store code }
 {
-    let entries = store.entries;
-    let count = store.count as usize;
-    let mut i: usize = 0;
-    while i < 32 {
-        if i < count {
-            let e = entries[i];
-            let own = e.code;
-            if own == code {
-                return Kept::At(i);
-            }
-        }
-        i += 1;
+    let taken = (store.count as usize).min(32);
+    match store.entries[..taken].iter().position(|e| e.code == code) {
+        Some(i) => Kept::At(i),
+        None => Kept::Nowhere,
     }
-    Kept::Nowhere
 }
 
 fn entry_at(store: Store, place: usize) -> Entry

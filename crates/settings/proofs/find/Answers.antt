@@ -1,47 +1,29 @@
-use Prim.Native.Nat.{◌≤◌, ◌<◌}
-use mathlib.Core.Path.{◌≡◌, ◌∙◌, sym, refl}
-use native.Mathlib.Omega.{arith}
-use borrow.Author.Tests.{eq-eqb, ne_eqb}
-use lib.ListN.{length, length-take, take}
-use Rattle.basic_laws.specs.FirstLaws.{first-hit, first-miss, first-skip, first-end}
+use Rattle.std.proofs.Common.{rules, tests, ◌≡◌, ◌∙◌, sym, ap, length, take, eqb}
+use Rattle.std.specs.Prelude.{position}
+use Rattle.std.proofs.lemmas.Iterator.{YieldsList-from_slice}
+use Rattle.std.proofs.lemmas.Iterator.Search.{position_from_yields_List}
+use Rattle.bench.specs.Taken.{taken-most}
+use Rattle.bench.proofs.Chains.{first-found, first-missed}
 use Rattle.settings.specs.Store.{kept_at}
 use Rattle.settings.specs.declared.Kept.TheVariants.{At, Nowhere}
-use borrow.Author.Rules.{rules}
 use Rattle.settings.proofs.find.Goals as goal
-use Rattle.settings.proofs.find.Goals.{then-i-count+else-own-code, else-i-count}
-use Rattle.settings.proofs.find.Goals.{Start}
+use Rattle.settings.proofs.find.Goals.{After-position}
 
-long : (c : Start) → length c.args.store.entries ≡ 32
-long c =
-    search rules
+-- std's word for the answer
+found : (c : After-position) → c.position.result ≡ position (λ e. eqb e.code c.args.code) (take c.args.store.count c.args.store.entries)
+found c =
+    let a = c.args in
+    let long : length a.store.entries ≡ 32 = search rules in
+    let front : take c.min-taken.result a.store.entries ≡ take a.store.count a.store.entries =
+    rw c.min-taken.ensures (taken-most a.store.count 32 a.store.entries long) in
+    position_from_yields_List (λ e. eqb e.code a.code) _ _ c.position.result c.position.ensures.ran
+    (YieldsList-from_slice (take c.min-taken.result a.store.entries) (cc)) (λ x b q k. search (rules, tests))
+    ∙ ap (position (λ e. eqb e.code a.code)) front
 
-pub loop-i-init : goal.loop-i-init
-loop-i-init c =
-    (omega arith, refl)
-
-pub returns-then-own-code : goal.returns-then-own-code
+pub returns-in-Some : goal.returns-in-Some
 unfolding kept_at
-returns-then-own-code c =
-    let l = long (goal.at.returns-then-own-code c).Start in
-    let h : c.loop-i.i < length c.args.store.entries = omega arith in
-    sym (first-hit _ At Nowhere _ _ _ _ c.if-i-count.true h (eq-eqb _ _ c.if-own-code.true))
-    ∙ c.loop-i.invariant.1
+returns-in-Some c = first-found _ At Nowhere _ _ (sym c.in-Some.is ∙ found (goal.at.returns-in-Some c).After-position)
 
-pub loop-i-preserved : goal.loop-i-preserved
-loop-i-preserved c =
-    let l = long (goal.at.loop-i-preserved c).Start in
-    let h : c.loop-i.i < length c.args.store.entries = omega arith in (
-      omega arith,
-      elim c.if-i-count.branch [
-        | then-i-count+else-own-code w ↦ sym (first-miss _ At Nowhere _ _ _ _ w.if-i-count.true h (ne_eqb _ _ w.if-own-code.false)) ∙ c.loop-i.invariant.1
-        | else-i-count w ↦ sym (first-skip _ At Nowhere _ _ _ w.if-i-count.false) ∙ c.loop-i.invariant.1
-      ],
-    )
-
-pub returns : goal.returns
+pub returns-in-None : goal.returns-in-None
 unfolding kept_at
-returns c =
-    let l = long (goal.at.returns c).Start in
-    let h : length (take c.args.store.count c.args.store.entries) ≤ c.loop-i.i =
-    simp length-take (omega arith) in
-    sym (first-end _ At Nowhere _ c.args.store.count c.args.store.entries h) ∙ c.loop-i.invariant.1
+returns-in-None c = first-missed _ At Nowhere _ (sym c.in-None.is ∙ found (goal.at.returns-in-None c).After-position)
