@@ -1,5 +1,7 @@
 -- The scratchpad's judgement decides.
+use Rattle.std.proofs.Common.{◌≡◌, arith}
 use borrow.Author.Tests.{eq-eqb, ne_eqb}
+use Rattle.naming.specs.Naming.{raw_of}
 use Rattle.naming.proofs.name_judged.Goals as goal
 
 pub returns-then-refusal-ne-ACCEPTED : goal.returns-then-refusal-ne-ACCEPTED
@@ -8,4 +10,5 @@ returns-then-refusal-ne-ACCEPTED c =
 
 pub returns : goal.returns
 returns c =
-    simp (eq-eqb _ _ c.if-refusal-ne-ACCEPTED.false, c.raw_of.ensures)
+    let raw : c.from_le_bytes.result ≡ raw_of c.args.pad = omega (arith, c.from_le_bytes.ensures) in
+    simp (eq-eqb _ _ c.if-refusal-ne-ACCEPTED.false, raw)
