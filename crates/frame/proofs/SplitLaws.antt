@@ -2,14 +2,18 @@
 -- character tells whether it has a feed.
 --     split-fed              a first part that ends in a feed is the first line and its feed
 --     split-open             any other is all that is left, and there is no feed in it
+--     split-plain            no character of a part but its last is a feed
 use Rattle.std.specs.Prelude.{ℕ, zero, suc, ◌+◌, ◌-◌, ◌<◌, ◌≤◌, min, ◌≡◌, Bool, true, false, List, [], ◌∷◌, ◌++◌, ◌==◌, eqb, ltb, length, take, drop, get_or}
 use Rattle.std.proofs.Common.{refl, sym, ap, ◌∙◌, arith, eqb-true, eq-eqb, ltb-true, ltb-false, length-drop, drop_at, drop-drop, drop_of_length-le, drop-cons, get_or-drop}
 use Rattle.std.proofs.lemmas.Bool.{false≢true}
-use Rattle.std.proofs.lemmas.List.{get_or_append_left, take-append-le}
+use Rattle.std.proofs.lemmas.List.{get_or_append_left, take-append-le, take-take}
 use Rattle.std.specs.List.{IsFirstMatchOrLen}
 use Rattle.std.specs.Cmp.Lexicographic.{pointwise, same_text}
 use Rattle.basic_laws.specs.First.{first_at}
-use Rattle.text.specs.Lines.{line_feed, feed_at}
+use Rattle.basic_laws.specs.FirstLaws.{at_none}
+use Rattle.basic_laws.specs.Fold.{all}
+use Rattle.basic_laws.specs.FoldLaws.{all_take}
+use Rattle.text.specs.Lines.{line_feed, not_feed, feed_at}
 
 first-place : (v : ℕ) (w : List ℕ) (i : ℕ) → IsFirstMatchOrLen (λ c. c == v) w i → first_at v w ≡ min i (length w)
 unfolding first_at
@@ -80,6 +84,18 @@ module _ (s : List ℕ) (at : ℕ) (part left : List ℕ) (p : Parted s at part 
           by-test : (t : Bool) → ltb (length part - 1) p.place ≡ t → length chars ≡ p.place
           by-test true e = absurd (none (ltb-true (length part - 1) p.place e))
           by-test false e = let f = ltb-false (length part - 1) p.place e in omega arith
+
+  -- no character before the last is a feed
+  pub split-plain : all not_feed (take (length part - 1) part) ≡ true
+  split-plain =
+      let k = length part - 1 in
+      let w = drop at s in
+      let feed = split-feed in
+      let n = p.long in
+      let before : k ≤ feed_at w = omega arith in
+      let front : take k (take (feed_at w) w) ≡ take k part =
+      take-take k (feed_at w) w before ∙ ap (take k) p.cut ∙ take-append-le k part left (omega arith) in
+      ap (all not_feed) (sym front) ∙ all_take not_feed k (take (feed_at w) w) (at_none line_feed w)
 
   pub split-open : pointwise eqb (drop (length part - 1) part) (line_feed ∷ []) ≡ false
       → length s ≤ at + feed_at (drop at s)

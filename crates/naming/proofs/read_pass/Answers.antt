@@ -70,9 +70,3 @@ loop-place-preserved c =
         c.loop-place.invariant.number,
       );
     }
-
-pub returns : goal.returns
-returns c =
-    let e : c.loop-place.place ≡ 0 = omega arith in
-    let t = rw e at c.loop-place.invariant.allowed in
-    rw (t, c.loop-place.invariant.number, e)
