@@ -242,7 +242,8 @@ last-plain (c ∷ d ∷ t) few e = absurd (omega arith)
 
 -- no character of a line but its last is a feed: the last tells whether the line has one
 module _ (l : List ℕ) (plain : all not_feed (take (length l - 1) l) ≡ true) where
-  pub ends-in-feed : pointwise eqb (drop (length l - 1) l) (line_feed ∷ []) ≡ true → l ≡ take (length l - 1) l ++ (line_feed ∷ [])
+  pub ends-in-feed : pointwise eqb (drop (length l - 1) l) (line_feed ∷ []) ≡ true
+      → l ≡ take (length l - 1) l ++ (line_feed ∷ [])
   ends-in-feed h = sym (take-append-drop (length l - 1) l)
       ∙ ap (λ (t : List ℕ). take (length l - 1) l ++ t) (same_text (drop (length l - 1) l) (line_feed ∷ []) (sym h))
 

@@ -21,7 +21,8 @@ first-place v [] i few h = omega arith
 first-place v (c ∷ w) zero few h = let e : (c == v) ≡ true = h.1 (omega arith) 0 in rw e
 first-place v (c ∷ w) (suc i) few h =
     let e : (c == v) ≡ false = h.0 0 0 (omega arith) (omega arith) in
-    let f = first-place v w i (omega arith) (λ k d lo hi. h.0 (suc k) d (omega arith) (omega arith), λ k d. h.1 (omega arith) d) in
+    let f = first-place v w i (omega arith)
+    (λ k d lo hi. h.0 (suc k) d (omega arith) (omega arith), λ k d. h.1 (omega arith) d) in
     rw e (ap suc f)
 
 same-parts : (cs ds : List ℕ) (t u : Bool) → cs ≡ ds → t ≡ u
@@ -37,8 +38,8 @@ pub record Split (s : List ℕ) (at : ℕ) (part left : List ℕ) : Type 0 where
   pub first : IsFirstMatchOrLen (λ c. c == line_feed) (drop at s) place
 
 -- as a call of `next` tells it
-pub split : {F : Type 0} {g : Mut F (Bor ℕ × Unit {0}) Bool} {f f' : F} {s w part left : List ℕ} {at : ℕ} → w ≡ drop at s
-    → (w ≡ part ++ left) × ((i : ℕ) × (length part ≡ min (i + 1) (length w))
+pub split : {F : Type 0} {g : Mut F (Bor ℕ × Unit {0}) Bool} {f f' : F} {s w part left : List ℕ} {at : ℕ}
+    → w ≡ drop at s → (w ≡ part ++ left) × ((i : ℕ) × (length part ≡ min (i + 1) (length w))
     × ((p : ℕ → Bool) → ComputesKey g p f → ComputesKey g p f' × IsFirstMatchOrLen p w i)) × (0 < length w)
     → ComputesKey g (λ c. c == line_feed) f → Split s at part left
 split whole step tests = record {
@@ -81,8 +82,8 @@ module _ (s : List ℕ) (at : ℕ) (part left : List ℕ) (p : Split s at part l
   split-bytes = by-test (ltb (feed_at (drop at s)) (length (drop at s))) refl
     where
       by-test : (t : Bool) → ltb (feed_at (drop at s)) (length (drop at s)) ≡ t
-          → (if t then take (feed_at (drop at s)) (drop at s) ++ (line_feed ∷ []) else take (feed_at (drop at s)) (drop at s))
-          ≡ part
+          → (if t then take (feed_at (drop at s)) (drop at s) ++ (line_feed ∷ [])
+          else take (feed_at (drop at s)) (drop at s)) ≡ part
       by-test true e =
           let w = drop at s in
           let f = feed-place in
@@ -121,12 +122,15 @@ module _ (s : List ℕ) (at : ℕ) (part left : List ℕ) (p : Split s at part l
         λ i d lo hi. rw (same_at i d (omega arith)) at (p.first.0 i d lo hi),
         λ h d. rw (same_at p.place d h) at (p.first.1 (omega arith) d),
       ) in
-      let chars : take (feed_at w) w ≡ take (feed_at part) part = rw (feed-place, in-part) (front p.place (omega arith)) in
+      let chars : take (feed_at w) w ≡ take (feed_at part) part =
+      rw (feed-place, in-part) (front p.place (omega arith)) in
       let fed : ltb (feed_at w) (length w) ≡ ltb (feed_at part) (length part) =
       rw (feed-place, in-part) (by-test (ltb p.place (length w)) refl) in
-      same-parts (take (feed_at w) w) (take (feed_at part) part) (ltb (feed_at w) (length w)) (ltb (feed_at part) (length part)) chars fed
+      same-parts (take (feed_at w) w) (take (feed_at part) part) (ltb (feed_at w) (length w))
+      (ltb (feed_at part) (length part)) chars fed
     where
-      by-test : (t : Bool) → ltb p.place (length (drop at s)) ≡ t → ltb p.place (length (drop at s)) ≡ ltb p.place (length part)
+      by-test : (t : Bool) → ltb p.place (length (drop at s)) ≡ t
+          → ltb p.place (length (drop at s)) ≡ ltb p.place (length part)
       by-test true e =
           let h = ltb-true p.place (length (drop at s)) e in
           let l = p.long in
@@ -136,7 +140,8 @@ module _ (s : List ℕ) (at : ℕ) (part left : List ℕ) (p : Split s at part l
           let l = p.long in
           e ∙ sym (le-ltb p.place (length part) (omega arith))
 
-module _ (s t : List ℕ) (at : ℕ) (part left part' left' : List ℕ) (p : Split s at part left) (q : Split t at part' left') where
+module _ (s t : List ℕ) (at : ℕ) (part left part' left' : List ℕ) (p : Split s at part left)
+    (q : Split t at part' left') where
   pub split-same : part ≡ part' → same_line (first_line (drop at s)) (first_line (drop at t)) ≡ true
   split-same e =
       let lines : first_line (drop at s) ≡ first_line (drop at t) =
@@ -148,5 +153,6 @@ module _ (s t : List ℕ) (at : ℕ) (part left part' left' : List ℕ) (p : Spl
     where
       by-test : (b : Bool) → same_line (first_line (drop at s)) (first_line (drop at t)) ≡ b → b ≡ false
       by-test true e = absurd (h (sym (split-bytes s at part left p)
-          ∙ ap line_bytes (same-line-equal (first_line (drop at s)) (first_line (drop at t)) e) ∙ split-bytes t at part' left' q))
+          ∙ ap line_bytes (same-line-equal (first_line (drop at s)) (first_line (drop at t)) e)
+          ∙ split-bytes t at part' left' q))
       by-test false e = refl

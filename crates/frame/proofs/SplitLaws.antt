@@ -8,6 +8,9 @@ use Rattle.std.proofs.Common.{refl, sym, ap, ◌∙◌, arith, eqb-true, eq-eqb,
 use Rattle.std.proofs.lemmas.Bool.{false≢true}
 use Rattle.std.proofs.lemmas.List.{get_or_append_left, take-append-le, take-take}
 use Rattle.std.specs.List.{IsFirstMatchOrLen}
+use Rattle.std.specs.Fn.{ComputesKey}
+use denote.Param.Members.{Mut}
+use denote.Ref.{Bor}
 use Rattle.std.specs.Cmp.Lexicographic.{pointwise, same_text}
 use Rattle.basic_laws.specs.First.{first_at}
 use Rattle.basic_laws.specs.FirstLaws.{at_none}
@@ -32,14 +35,17 @@ pub record Parted (s : List ℕ) (at : ℕ) (part left : List ℕ) : Type 0 wher
   pub long : length part ≡ min (place + 1) (length (drop at s))
   pub first : IsFirstMatchOrLen (λ c. c == line_feed) (drop at s) place
 
-pub parted : {s w part left : List ℕ} {at : ℕ} → w ≡ drop at s → w ≡ part ++ left → 0 < length w → (i : ℕ)
-    → length part ≡ min (i + 1) (length w) → IsFirstMatchOrLen (λ c. c == line_feed) w i → Parted s at part left
-parted whole cut some i long first = record {
-  cut = sym whole ∙ cut;
-  some = rw whole at some;
-  place = i;
-  long = rw whole at long;
-  first = rw whole at first;
+-- as a call of `next` tells it
+pub parted : {F : Type 0} {g : Mut F (Bor ℕ × Unit {0}) Bool} {f f' : F} {s w part left : List ℕ} {at : ℕ}
+    → w ≡ drop at s → (w ≡ part ++ left) × ((i : ℕ) × (length part ≡ min (i + 1) (length w))
+    × ((p : ℕ → Bool) → ComputesKey g p f → ComputesKey g p f' × IsFirstMatchOrLen p w i)) × (0 < length w)
+    → ComputesKey g (λ c. c == line_feed) f → Parted s at part left
+parted whole step tests = record {
+  cut = sym whole ∙ step.0;
+  some = rw whole at step.2;
+  place = step.1.0;
+  long = rw whole at step.1.1;
+  first = rw whole at (step.1.2 (λ c. c == line_feed) tests).1;
 }
 
 module _ (s : List ℕ) (at : ℕ) (part left : List ℕ) (p : Parted s at part left) where
@@ -107,9 +113,11 @@ module _ (s : List ℕ) (at : ℕ) (part left : List ℕ) (p : Parted s at part 
           let size : length part ≡ suc p.place = omega arith in
           let place : length part - 1 ≡ p.place = omega arith in
           let feed : get_or part p.place 0 ≡ line_feed =
-          sym (last-there p.place (omega arith)) ∙ eqb-true (get_or (drop at s) p.place 0) line_feed (p.first.1 within 0) in
+          sym (last-there p.place (omega arith))
+          ∙ eqb-true (get_or (drop at s) p.place 0) line_feed (p.first.1 within 0) in
           let tail : drop p.place part ≡ get_or part p.place 0 ∷ [] =
-          drop-cons part p.place 0 (omega arith) ∙ ap (λ (t : List ℕ). get_or part p.place 0 ∷ t) (drop_of_length-le part {i = suc p.place} (omega arith)) in
+          drop-cons part p.place 0 (omega arith)
+          ∙ ap (λ (t : List ℕ). get_or part p.place 0 ∷ t) (drop_of_length-le part {i = suc p.place} (omega arith)) in
           absurd (false≢true (sym h ∙ rw (place, tail, feed)))
       by-test false e =
           let past = ltb-false p.place (length (drop at s)) e in

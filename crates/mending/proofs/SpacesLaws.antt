@@ -19,7 +19,8 @@ trailing s zero h = refl
 trailing s (suc i) h =
     let x = get_or s i 0 in
     let more : take (suc i) s ≡ take i s ++ (x ∷ []) = rw (add-one i) at (take_more s i 0 (omega arith)) in
-    let back : reverse (take (suc i) s) ≡ x ∷ reverse (take i s) = ap reverse more ∙ reverse-append (take i s) (x ∷ []) in
+    let back : reverse (take (suc i) s) ≡ x ∷ reverse (take i s) =
+    ap reverse more ∙ reverse-append (take i s) (x ∷ []) in
     rw back (by-test (is_space x) refl (trailing s i (omega arith)))
   where
     by-test : (t : Bool) → is_space (get_or s i 0) ≡ t

@@ -13,10 +13,13 @@ use Rattle.comparing.proofs.compare.Goals.{in-None, in-Some+then-ne}
 pub loop-line-preserved : goal.loop-line-preserved
 loop-line-preserved c =
     let steps = c.in-Some.ensures.steps in
-    let p : Split c.args.reference.now c.loop-line.at c.in-Some.line.now (split_inclusive_rest (zip_first c.next.new.self)) =
+    let p : Split c.args.reference.now c.loop-line.at c.in-Some.line.now
+    (split_inclusive_rest (zip_first c.next.new.self)) =
     split c.loop-line.invariant.left steps.0 (always_returns_same _ _ _ (λ a r f k. (search rules, search rules))) in
-    let q = split c.loop-line.invariant.left_other steps.1 (always_returns_same _ _ _ (λ a r f k. (search rules, search rules))) in
-    let equal : c.in-Some.line.now ≡ c.in-Some.other_line.now = same_text _ _ (sym (not-false _ (sym c.ne.ensures ∙ c.if-ne.false))) in
+    let q = split c.loop-line.invariant.left_other steps.1
+    (always_returns_same _ _ _ (λ a r f k. (search rules, search rules))) in
+    let equal : c.in-Some.line.now ≡ c.in-Some.other_line.now =
+    same_text _ _ (sym (not-false _ (sym c.ne.ensures ∙ c.if-ne.false))) in
     record {
       callable = c.loop-line.invariant.callable;
       finite = search rules;
@@ -45,8 +48,10 @@ returns-then-at-reference c =
                       omega arith
                 ])
             | in-Some+then-ne w ↦ let steps = w.in-Some.ensures.steps in
-                let p = split c.loop-line.invariant.left steps.0 (always_returns_same _ _ _ (λ a r f k. (search rules, search rules))) in
-                let q = split c.loop-line.invariant.left_other steps.1 (always_returns_same _ _ _ (λ a r f k. (search rules, search rules))) in
+                let p = split c.loop-line.invariant.left steps.0
+                (always_returns_same _ _ _ (λ a r f k. (search rules, search rules))) in
+                let q = split c.loop-line.invariant.left_other steps.1
+                (always_returns_same _ _ _ (λ a r f k. (search rules, search rules))) in
                 walk-differs r o at c.loop-line.shared walked c.if-at-reference.true (split-before _ _ _ _ q)
                 (split-other _ _ _ _ _ _ _ p q (other_text _ _ (sym (not-true _ (sym w.ne.ensures ∙ w.if-ne.true)))))
           ]);
@@ -56,8 +61,8 @@ pub returns-then-at-other : goal.returns-then-at-other
 returns-then-at-other c =
     record {
       answer = c.behind_shared-then-at-other.ensures
-          ∙ walk-ended c.args.reference.now c.args.other.now c.loop-line.at c.loop-line.shared c.loop-line.invariant.walked
-          c.if-at-reference.false c.if-at-other.true;
+          ∙ walk-ended c.args.reference.now c.args.other.now c.loop-line.at c.loop-line.shared
+          c.loop-line.invariant.walked c.if-at-reference.false c.if-at-other.true;
     }
 
 pub returns : goal.returns

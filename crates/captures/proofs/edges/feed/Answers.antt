@@ -1,19 +1,17 @@
-use Rattle.std.proofs.Common.{[], ◌≡◌, ◌==◌, refl, sym, ap, ◌∙◌, rules}
+use Rattle.std.proofs.Common.{[], ◌≡◌, refl, sym, ap, ◌∙◌, rules}
 use Rattle.std.proofs.lemmas.List.{nil_from_length}
 use Rattle.std.proofs.lemmas.Fn.{always_returns_same}
 use Rattle.std.specs.Slice.Iter.{split_inclusive_rest}
 use Rattle.basic_laws.specs.Fold.{fold}
 use Rattle.basic_laws.specs.FoldLaws.{fold-append}
-use Rattle.text.specs.Lines.{line_feed}
 use Rattle.frame.proofs.SplitLaws.{parted, split-plain}
 use Rattle.captures.specs.Edges.{Reading, on_byte, answers_of}
 use Rattle.captures.proofs.edges.feed.Goals as goal
 
 pub feed_line-held-requires : goal.feed_line-held-requires
 feed_line-held-requires c =
-    let steps = c.in-Some.ensures.steps in
-    let first = steps.1.2 (λ x. x == line_feed) (always_returns_same _ _ _ (λ a r q k. (search rules, search rules))) in
-    split-plain (split_inclusive_rest c.loop-line.line-iterator) 0 _ _ (parted refl steps.0 steps.2 steps.1.0 steps.1.1 first.1)
+    split-plain (split_inclusive_rest c.loop-line.line-iterator) 0 _ _ (parted refl c.in-Some.ensures.steps
+    (always_returns_same _ _ _ (λ a r f k. (search rules, search rules))))
 
 pub loop-line-preserved : goal.loop-line-preserved
 loop-line-preserved c =

@@ -15,7 +15,6 @@ loop-byte-preserved c =
     let room : most_told * length report ≤ length a.out.now = omega arith in
     let byte = c.type_inv.report c.loop-byte.byte-index in
     let small : get_or report c.loop-byte.byte-index 0 < 256 = omega arith in
-    noting-more a.before report a.out.now room c.loop-byte.byte-index c.loop-byte.number c.loop-byte.written c.loop-byte.out
-    c.loop-byte.invariant c.loop-byte-test.true
-    ((c.loop-byte.number + 1) % 2 ^ 64) refl small c.lay_notice-written.result
+    noting-more a.before report a.out.now room c.loop-byte.byte-index c.loop-byte.number c.loop-byte.written
+    c.loop-byte.out c.loop-byte.invariant c.loop-byte-test.true ((c.loop-byte.number + 1) % 2 ^ 64) refl small c.lay_notice-written.result
     c.lay_notice-written.new.out c.lay_notice-written.ensures.answer c.lay_notice-written.ensures.written

@@ -1,7 +1,6 @@
-use Rattle.std.proofs.Common.{ℕ, List, true, [], ◌∷◌, ◌≡◌, ◌≤◌, ◌+◌, ◌==◌, length, refl, sym, ap, ◌∙◌, arith, rules, length-drop}
+use Rattle.std.proofs.Common.{ℕ, List, true, [], ◌∷◌, ◌≡◌, ◌≤◌, ◌+◌, length, refl, sym, ap, ◌∙◌, arith, rules, length-drop}
 use Rattle.std.specs.Slice.Iter.{split_inclusive_rest}
 use Rattle.std.proofs.lemmas.Fn.{always_returns_same}
-use Rattle.text.specs.Lines.{line_feed}
 use Rattle.text.specs.Laying.{lay_answer, lay_leaves}
 use Rattle.frame.proofs.SplitLaws.{Parted, parted, split-before, split-left, split-fed, split-open}
 use Rattle.mending.specs.Mending.{line_mended, mended_bytes}
@@ -11,11 +10,11 @@ use Rattle.mending.proofs.texts.mend_whole.Goals as goal
 use Rattle.mending.proofs.texts.mend_whole.Goals.{After-strip_suffix}
 
 -- the part that a turn splits off
-here : (c : After-strip_suffix) → Parted c.args.s.now c.loop-line.at c.in-Some.line.now (split_inclusive_rest c.next.new.self)
+here : (c : After-strip_suffix)
+    → Parted c.args.s.now c.loop-line.at c.in-Some.line.now (split_inclusive_rest c.next.new.self)
 here c =
-    let steps = c.in-Some.ensures.steps in
-    let first = steps.1.2 (λ x. x == line_feed) (always_returns_same _ _ _ (λ a r q k. (search rules, search rules))) in
-    parted c.loop-line.invariant.left steps.0 steps.2 steps.1.0 steps.1.1 first.1
+    parted c.loop-line.invariant.left c.in-Some.ensures.steps
+    (always_returns_same _ _ _ (λ a r f k. (search rules, search rules)))
 
 pub loop-line-preserved : goal.loop-line-preserved
 loop-line-preserved c =
@@ -31,7 +30,8 @@ loop-line-preserved c =
     let answer = mended.ensures.answer
     ∙ ap (λ (cs : List ℕ). line_mended record { chars = cs; fed = true } c.loop-line.out c.loop-line.written) fed.2 in
     let report = ap (λ (m : LineMended). m.report) answer ∙ told in
-    let next : c.loop-line.at + length c.in-Some-strip_suffix.chars.now + 1 ≡ c.loop-line.at + length c.in-Some.line.now =
+    let next : c.loop-line.at + length c.in-Some-strip_suffix.chars.now + 1
+    ≡ c.loop-line.at + length c.in-Some.line.now =
     omega (arith, cases.2) in
     record {
       callable = c.loop-line.invariant.callable;
@@ -39,7 +39,8 @@ loop-line-preserved c =
       left = split-left _ _ _ _ p;
       walk = rw next at (more mended.result.written mended.new.out (ap (λ (m : LineMended). m.written) answer)
           (mended.ensures.written
-          ∙ ap (λ (cs : List ℕ). lay_leaves c.loop-line.out c.loop-line.written (mended_bytes record { chars = cs; fed = true })) fed.2)
+          ∙ ap (λ (cs : List ℕ). lay_leaves c.loop-line.out c.loop-line.written
+          (mended_bytes record { chars = cs; fed = true })) fed.2)
           noted.result noted.new.out
           (noted.ensures.answer ∙ ap (λ (b : ℕ). lay_answer c.loop-line.report c.loop-line.lines (b ∷ [])) report)
           (noted.ensures.written ∙ ap (λ (b : ℕ). lay_leaves c.loop-line.report c.loop-line.lines (b ∷ [])) report));

@@ -1,7 +1,6 @@
-use Rattle.std.proofs.Common.{◌≡◌, ◌==◌, ℕ, List, true, ◌≤◌, ◌+◌, ◌∙◌, length, ap, sym, refl, rules, arith, length-drop}
+use Rattle.std.proofs.Common.{◌≡◌, ℕ, List, true, ◌≤◌, ◌+◌, ◌∙◌, length, ap, sym, refl, rules, arith, length-drop}
 use Rattle.std.specs.Slice.Iter.{split_inclusive_rest}
 use Rattle.std.proofs.lemmas.Fn.{always_returns_same}
-use Rattle.text.specs.Lines.{line_feed}
 use Rattle.text.specs.Laying.{lay_answer, lay_leaves}
 use Rattle.frame.proofs.SplitLaws.{Parted, parted, split-before, split-left, split-fed, split-open}
 use Rattle.pieces.specs.Walk.{here-room, running_more, running-done, running-open}
@@ -11,11 +10,12 @@ use Rattle.naming.proofs.StreamingLaws.{text-short}
 use Rattle.naming.proofs.streaming.print_whole.Goals as goal
 use Rattle.naming.proofs.streaming.print_whole.Goals.{After-strip_suffix}
 
-here : (c : After-strip_suffix) → Parted c.args.s.now c.loop-line.at c.in-Some.line.now (split_inclusive_rest c.next.new.self)
+-- the part that a turn splits off
+here : (c : After-strip_suffix)
+    → Parted c.args.s.now c.loop-line.at c.in-Some.line.now (split_inclusive_rest c.next.new.self)
 here c =
-    let steps = c.in-Some.ensures.steps in
-    let first = steps.1.2 (λ x. x == line_feed) (always_returns_same _ _ _ (λ a r q k. (search rules, search rules))) in
-    parted c.loop-line.invariant.left steps.0 steps.2 steps.1.0 steps.1.1 first.1
+    parted c.loop-line.invariant.left c.in-Some.ensures.steps
+    (always_returns_same _ _ _ (λ a r f k. (search rules, search rules)))
 
 pub loop-line-preserved : goal.loop-line-preserved
 loop-line-preserved c =
@@ -27,7 +27,8 @@ loop-line-preserved c =
     let room = here-room printed_line most_printed text-short _ _ _ _ _ running _ before fed.0 fed.1 c.requires in
     let more = running_more printed_line most_printed text-short _ _ _ _ _ running _ before fed.0 fed.1 room in
     let printed = c.print_line-written in
-    let next : c.loop-line.at + length c.in-Some-strip_suffix.chars.now + 1 ≡ c.loop-line.at + length c.in-Some.line.now =
+    let next : c.loop-line.at + length c.in-Some-strip_suffix.chars.now + 1
+    ≡ c.loop-line.at + length c.in-Some.line.now =
     omega (arith, cases.2) in
     record {
       callable = c.loop-line.invariant.callable;
@@ -35,9 +36,11 @@ loop-line-preserved c =
       left = split-left _ _ _ _ p;
       running = rw next at (more printed.result printed.new.out
           (printed.ensures.answer
-          ∙ ap (λ (cs : List ℕ). lay_answer c.loop-line.out c.loop-line.written (printed_line record { chars = cs; fed = true })) fed.2)
+          ∙ ap (λ (cs : List ℕ). lay_answer c.loop-line.out c.loop-line.written
+          (printed_line record { chars = cs; fed = true })) fed.2)
           (printed.ensures.written
-          ∙ ap (λ (cs : List ℕ). lay_leaves c.loop-line.out c.loop-line.written (printed_line record { chars = cs; fed = true })) fed.2));
+          ∙ ap (λ (cs : List ℕ). lay_leaves c.loop-line.out c.loop-line.written
+          (printed_line record { chars = cs; fed = true })) fed.2));
     }
 
 pub returns-in-None : goal.returns-in-None
@@ -52,5 +55,6 @@ pub returns-in_default : goal.returns-in_default
 returns-in_default c =
     let p = here (goal.at.returns-in_default c).After-strip_suffix in
     let open-end = split-open _ _ _ _ p (search rules) in
-    let e = running-open printed_line most_printed _ _ _ _ _ c.loop-line.invariant.running _ (split-before _ _ _ _ p) refl open-end in
+    let e = running-open printed_line most_printed _ _ _ _ _ c.loop-line.invariant.running _
+    (split-before _ _ _ _ p) refl open-end in
     record { answer = e.0; written = e.1 }

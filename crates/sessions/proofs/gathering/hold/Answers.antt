@@ -7,7 +7,8 @@ use Rattle.sessions.proofs.gathering.hold.Goals as goal
 -- characters copied into a part of a buffer are laid there
 copied : (d : List ℕ) (at k : ℕ) (x : List ℕ) → length x ≡ k → take at d ++ (x ++ drop k (drop at d)) ≡ laid d at x
 unfolding laid
-copied d at k x size = rw (sym size, drop-drop (length x) at d) (sym (append_assoc (take at d) x (drop (at + length x) d)))
+copied d at k x size =
+    rw (sym size, drop-drop (length x) at d) (sym (append_assoc (take at d) x (drop (at + length x) d)))
 
 pub returns-then-line-held-clause-written : goal.returns-then-line-held-clause-written
 returns-then-line-held-clause-written c =
