@@ -41,7 +41,7 @@ fn count_one(count: u8) -> u8
 fn still_spelt(spelt: bool, value: u8) -> bool
     ensures { result ≡ (spelt && ltb value 16) }
 {
-    if spelt { value < 16 } else { false }
+    spelt && value < 16
 }
 
 fn lengthen(line: Partial, c: u8) -> Partial

@@ -146,9 +146,9 @@ fn code_in(bits: &[u8]) -> u64
     requires { length bits.now ≡ 64 }
     ensures { result ≡ code_matched bits.now }
 {
-    u64::from_le_bytes([
-        bits[1], bits[2], bits[3], bits[4], bits[5], bits[6], bits[7], bits[8],
-    ])
+    let mut code = [0; 8];
+    code.copy_from_slice(&bits[1..9]);
+    u64::from_le_bytes(code)
 }
 
 // The scratchpad in bytes 10 to 18.
@@ -156,9 +156,9 @@ fn pad_in(bits: &[u8]) -> NineBytes
     requires { length bits.now ≡ 64 }
     ensures { result ≡ pad_in bits.now }
 {
-    [
-        bits[10], bits[11], bits[12], bits[13], bits[14], bits[15], bits[16], bits[17], bits[18],
-    ]
+    let mut pad = [0; 9];
+    pad.copy_from_slice(&bits[10..19]);
+    pad
 }
 
 // A name with a code, which must be sound.
