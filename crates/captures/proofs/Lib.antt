@@ -1,1 +1,2 @@
 pub mod EdgesLaws
+pub mod FoldedLaws

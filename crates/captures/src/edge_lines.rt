@@ -41,18 +41,17 @@ fn count_one(count: u8) -> u8
 fn still_spelt(spelt: bool, value: u8) -> bool
     ensures { result ≡ (spelt && ltb value 16) }
 {
-    if spelt { value < 16 } else { false }
+    spelt && value < 16
 }
 
 fn lengthen(line: Partial, c: u8) -> Partial
     ensures { result ≡ longer_partial line c }
 {
     let value = text::value(c);
-    let number = 16 * (line.number as u64) + (value as u64);
     Partial {
         count: count_one(line.count),
         spelt: still_spelt(line.spelt, value),
-        number: (number % 4294967296) as u32,
+        number: line.number.wrapping_mul(16).wrapping_add(u32::from(value)),
     }
 }
 
@@ -60,11 +59,5 @@ fn lengthen(line: Partial, c: u8) -> Partial
 pub fn gather(line: Partial, characters: &[u8]) -> Partial
     ensures answer { result ≡ fold longer_partial line characters.now }
 {
-    let mut held = line;
-    let mut i: usize = 0;
-    while i < characters.len() {
-        held = lengthen(held, characters[i]);
-        i += 1;
-    }
-    held
+    characters.iter().fold(line, |held, &c| lengthen(held, c))
 }

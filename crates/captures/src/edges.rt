@@ -1,7 +1,8 @@
 // Captures of a logic analyser, in pieces cut anywhere. Each line is the time of an edge, and each
 // closed frame is written as a line into the lent buffer.
-ghost use Rattle.std.specs.Prelude.{◌≡◌, ◌<◌, ◌≤◌, length, drop};
-ghost use Rattle.basic_laws.specs.Fold.{fold};
+ghost use Rattle.std.specs.Prelude.{◌≡◌, ◌-◌, true, length, take};
+ghost use Rattle.basic_laws.specs.Fold.{fold, all};
+ghost use Rattle.text.specs.Lines.{not_feed};
 ghost use Rattle.frame.specs.Writing.{line_write_leaves};
 ghost use Rattle.captures.specs.Edges.{fresh_reader, refused_with, with_line, on_edge, line_ended, closed_reader};
 ghost use Rattle.captures.specs.Edges.{fed_line_reader, fed_line_leaves, on_byte, answers_of, feed_answer, feed_leaves};
@@ -11,6 +12,7 @@ use crate::edge_lines::Partial;
 use crate::pulses::{Step, Wire};
 use crate::{edge_lines, pulses};
 use frame::frame_lines;
+use text::LINE_FEED;
 
 // What is kept of a capture between two pieces. Only `start` makes one.
 #[derive(Clone, Copy)]
@@ -37,13 +39,6 @@ pub struct Answer {
 struct Turn {
     closes: bool,
     reader: Reader,
-}
-
-// How far a piece is read.
-#[derive(Clone, Copy)]
-struct Progress {
-    reader: Reader,
-    next: usize,
 }
 
 // A reader before the first byte.
@@ -165,32 +160,21 @@ fn take_feed(reader: Reader, out: &mut [u8]) -> Reader
     after
 }
 
-// The characters from a place on up to the next feed, and that feed, or up to the end of the piece.
-fn feed_line(reader: Reader, s: &[u8], at: usize, out: &mut [u8]) -> Progress
-    requires { at < length s.now }
-    ensures answer { fold on_byte record { reader = reader; out = out.old } (drop at s.now)
-        ≡ fold on_byte record { reader = result.reader; out = out.new } (drop result.next s.now) }
-    ensures within { (at < result.next) × (result.next ≤ length s.now) }
+// The characters of a line that a piece has, and its feed if that is among them.
+fn feed_line(reader: Reader, line: &[u8], out: &mut [u8]) -> Reader
+    requires { all not_feed (take (length line.now - 1) line.now) ≡ true }
+    ensures answer { fold on_byte record { reader = reader; out = out.old } line.now
+        ≡ record { reader = result; out = out.new } }
 {
     if reader.refusal != refusals::ACCEPTED {
-        return Progress {
-            reader,
-            next: s.len(),
-        };
+        return reader;
     }
-    let end = text::line_end(s, at);
-    let line = reader.line;
-    let held = with_line(reader, edge_lines::gather(line, &s[at..end]));
-    if end < s.len() {
-        let next = end + 1;
-        return Progress {
-            reader: take_feed(held, out),
-            next,
-        };
-    }
-    Progress {
-        reader: held,
-        next: end,
+    match line.strip_suffix(&[LINE_FEED]) {
+        Some(chars) => {
+            let held = with_line(reader, edge_lines::gather(reader.line, chars));
+            take_feed(held, out)
+        }
+        None => with_line(reader, edge_lines::gather(reader.line, line)),
     }
 }
 
@@ -200,11 +184,8 @@ pub fn feed(reader: Reader, s: &[u8], out: &mut [u8]) -> Answer
     ensures written { out.new ≡ feed_leaves reader out.old s.now }
 {
     let mut held = reader;
-    let mut at: usize = 0;
-    while at < s.len() {
-        let read = feed_line(held, s, at, out);
-        held = read.reader;
-        at = read.next;
+    for line in s.split_inclusive(|&c| c == LINE_FEED) {
+        held = feed_line(held, line, out);
     }
     answer_of(held)
 }

@@ -1,7 +1,7 @@
 // The rule over edges: what the line's lows and highs come to by how long they last, in microseconds.
 ghost use Rattle.std.specs.Prelude.{◌≡◌};
 ghost use Rattle.captures.specs.Bounds.{pulse_of};
-ghost use Rattle.captures.specs.Rule.{untouched, begun, goes, refuses, moves, restarts, takes_slot, after_first_low};
+ghost use Rattle.captures.specs.Rule.{untouched, goes, refuses, moves, restarts, takes_slot, after_first_low};
 ghost use Rattle.captures.specs.Rule.{after_release, after_presence, after_low, after_level, edge_step, ending_at};
 
 use frame::Frame;
@@ -110,19 +110,6 @@ pub fn idle() -> Wire
         stage: PulseStage::Idle,
         last: 0,
         frame: frame::blank(false),
-    }
-}
-
-fn has_begun(stage: PulseStage) -> bool
-    ensures { result ≡ begun stage }
-{
-    match stage {
-        PulseStage::Idle => false,
-        PulseStage::FirstLow => true,
-        PulseStage::Released => true,
-        PulseStage::Presence => true,
-        PulseStage::High => true,
-        PulseStage::Low => true,
     }
 }
 
@@ -258,8 +245,7 @@ pub fn edge(wire: Wire, time: u32) -> Step
 {
     let stage = wire.stage;
     let last = wire.last;
-    let begun = has_begun(stage);
-    if !begun {
+    if matches!(stage, PulseStage::Idle) {
         return after_level(wire, time, 0);
     }
     if time <= last {

@@ -4,10 +4,11 @@
 
 pub mod answers;
 
-ghost use Rattle.std.specs.Prelude.{◌≡◌, ◌+◌, ◌<◌, ◌≤◌, length, drop};
-ghost use Rattle.text.specs.Lines.{same_line, first_line};
+ghost use Rattle.std.specs.Prelude.{◌≡◌, ◌+◌, ◌<◌};
 ghost use Rattle.comparing.specs.Departure.{shared_lines, departure_of, side_number, part_of};
 ghost use Rattle.comparing.specs.Claims.{Parted};
+
+use text::LINE_FEED;
 
 // Which of two recordings a part comes from.
 #[derive(Clone, Copy)]
@@ -27,22 +28,6 @@ pub struct Departure {
     pub line: usize,
 }
 
-// Whether the lines that start at a place are the same in both.
-fn same_line(reference: &[u8], other: &[u8], at: usize) -> bool
-    requires { (at ≤ length reference.now) × (at ≤ length other.now) }
-    ensures { result ≡ same_line (first_line (drop at reference.now))
-        (first_line (drop at other.now)) }
-{
-    let end = text::line_end(reference, at);
-    let other_end = text::line_end(other, at);
-    let fed = end < reference.len();
-    let other_fed = other_end < other.len();
-    if fed != other_fed {
-        return false;
-    }
-    text::same(&reference[at..end], &other[at..other_end])
-}
-
 // A part that begins at a place, behind so many lines that are shared.
 fn behind_shared(side: Side, place: usize, shared: usize) -> Departure
     requires { shared < 18446744073709551615 }
@@ -59,18 +44,19 @@ fn behind_shared(side: Side, place: usize, shared: usize) -> Departure
 pub fn compare(reference: &[u8], other: &[u8]) -> Departure
     ensures answer { result ≡ departure_of reference.now other.now }
 {
-    let mut at: usize = 0;
-    let mut shared: usize = 0;
-    while at < reference.len() {
-        if other.len() <= at {
-            return behind_shared(Side::Reference, at, shared);
+    let lines = reference.split_inclusive(|&c| c == LINE_FEED);
+    let other_lines = other.split_inclusive(|&c| c == LINE_FEED);
+    let mut at = 0;
+    let mut shared = 0;
+    for (line, other_line) in lines.zip(other_lines) {
+        if line != other_line {
+            break;
         }
-        let same = same_line(reference, other, at);
-        if !same {
-            return behind_shared(Side::Reference, at, shared);
-        }
-        at = text::line_behind(reference, at);
+        at += line.len();
         shared += 1;
+    }
+    if at < reference.len() {
+        return behind_shared(Side::Reference, at, shared);
     }
     if at < other.len() {
         return behind_shared(Side::Other, at, shared);

@@ -1,7 +1,6 @@
 // The lines of a recording: each carries a frame, or is refused.
 ghost use Rattle.std.specs.Prelude.{◌≡◌, ◌+◌, ◌*◌, ◌≤◌, length};
 ghost use Rattle.basic_laws.specs.Laid.{laid};
-ghost use Rattle.basic_laws.specs.Bits.{bit_number};
 ghost use Rattle.frame.specs.Frames.{bytes_for, most_slots};
 ghost use Rattle.frame.specs.ReadLine.{line_read_at};
 ghost use Rattle.frame.specs.Writing.{fed_line, line_write_answer, line_write_leaves};
@@ -45,13 +44,6 @@ pub fn read_line_at(s: &[u8], at: usize) -> LineRead
     read_line(&s[at..end], false, end)
 }
 
-// The number that says whether there was presence.
-fn presence_number(presence: bool) -> u64
-    ensures { result ≡ bit_number presence }
-{
-    if presence { 1 } else { 0 }
-}
-
 // The whole line with its feed, where there is room for it: two digits presence, four digits count,
 // the slots' bytes.
 fn put_line(s: &mut [u8], at: usize, f: Frame)
@@ -60,9 +52,8 @@ fn put_line(s: &mut [u8], at: usize, f: Frame)
 {
     let count = f.count;
     let bits = f.bits;
-    let shown = presence_number(f.presence);
     let n = crate::bytes_for(count);
-    laying::lay_hex(s, at, 2, shown);
+    laying::lay_hex(s, at, 2, u64::from(f.presence));
     laying::lay_hex(s, at + 2, 4, count as u64);
     laying::lay_hex_bytes(s, at + 6, &bits[0..n]);
     let end = at + 6 + 2 * n;

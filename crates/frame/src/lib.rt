@@ -4,7 +4,8 @@
 pub mod frame_lines;
 pub mod recording;
 
-ghost use Rattle.std.specs.Prelude.{◌≡◌, ◌<◌};
+ghost use Rattle.std.specs.Prelude.{◌≡◌, ◌<◌, ◌==◌};
+ghost use Rattle.std.specs.List.{list_all};
 ghost use Rattle.frame.specs.Frames.{blank_frame, slot_bit, slots_of, pushed, slots_pushed, clear_from, count_allowed};
 ghost use Rattle.frame.specs.Frames.{lineable, bytes_for, with_bit};
 
@@ -79,21 +80,21 @@ pub fn push(f: Frame, bit: bool) -> Frame
     }
 }
 
+fn all_zero(bytes: &[u8]) -> bool
+    ensures { result ≡ list_all (λ b. b == 0) bytes.now }
+{
+    bytes.iter().all(|&byte| byte == 0)
+}
+
 // Whether no bit is set at or past a place.
 pub fn clear_from(bytes: &[u8], place: u16) -> bool
     ensures answer { result ≡ clear_from place bytes.now }
 {
-    let mut i = (place / 8) as usize;
-    let mut from = place % 8;
-    while i < bytes.len() {
-        let rest = bytes[i] >> from;
-        if rest != 0 {
-            return false;
-        }
-        from = 0;
-        i += 1;
+    let at = (place / 8) as usize;
+    if bytes.len() <= at {
+        return true;
     }
-    true
+    bytes[at] >> (place % 8) == 0 && all_zero(&bytes[at + 1..])
 }
 
 // Whether a frame may have so many slots.

@@ -19,7 +19,7 @@ use Rattle.pieces.specs.declared.Carried.{Carried}
 use Rattle.pieces.specs.Carried.{carried_in, most_carried}
 use Rattle.pieces.specs.Pieces.{say_all, said, whole, rest, said_whole, carried}
 use Rattle.pieces.specs.Cuts.{parts, rest_plain, alone-open}
-use Rattle.pieces.specs.Walk.{Told, Running, running-start, here-room, here-within, running_more, running-done}
+use Rattle.pieces.specs.Walk.{running-start, here-room, here-within, running_more, running-done}
 use Rattle.pieces.specs.Walk.{running-open}
 use Rattle.mending.specs.Mending.{mended_bytes, line_mended, mended_text, report_byte, reports}
 use Rattle.mending.specs.Claims.{most_held_of_mending, report_said}

@@ -2,3 +2,4 @@ pub mod ClaimsLaws
 pub mod Laws
 pub mod RepairLaws
 pub mod RoomLaws
+pub mod SpacesLaws

@@ -71,14 +71,10 @@ pub fn notices(out: &mut [u8], report: &[u8], before: u64) -> Noticed
         };
     }
     let mut number = before;
-    let mut written: usize = 0;
-    let mut i: usize = 0;
-    while i < report.len() {
-        number = std::num::wrapping_add_u64(number, 1);
-        let byte = report[i];
-        let told = lay_notice(out, written, number, byte);
-        written = told.next;
-        i += 1;
+    let mut written = 0;
+    for &byte in report {
+        number = number.wrapping_add(1);
+        written = lay_notice(out, written, number, byte).next;
     }
     Noticed {
         refusal: refusals::ACCEPTED,

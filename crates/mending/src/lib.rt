@@ -61,10 +61,8 @@ fn put_raised(out: &mut [u8], line: &[u8])
     requires { length line.now ≤ length out.old }
     ensures { out.new ≡ laid out.old 0 (map raised line.now) }
 {
-    let mut i: usize = 0;
-    while i < line.len() {
-        out[i] = raise(line[i]);
-        i += 1;
+    for (i, &c) in line.iter().enumerate() {
+        out[i] = raise(c);
     }
 }
 
@@ -72,30 +70,14 @@ fn put_raised(out: &mut [u8], line: &[u8])
 fn before_return(s: &[u8]) -> usize
     ensures { result ≡ length (unreturned s.now) }
 {
-    let size = s.len();
-    if size == 0 {
-        return 0;
-    }
-    let last = s[size - 1];
-    if last == CARRIAGE_RETURN {
-        size - 1
-    } else {
-        size
-    }
+    s.strip_suffix(&[CARRIAGE_RETURN]).unwrap_or(s).len()
 }
 
 // How many characters stand before the spaces at the end.
 fn before_spaces(s: &[u8]) -> usize
     ensures { result ≡ length (unspaced s.now) }
 {
-    let mut end = s.len();
-    while 0 < end {
-        if s[end - 1] != SPACE {
-            return end;
-        }
-        end -= 1;
-    }
-    end
+    s.len() - s.iter().rev().take_while(|&&c| c == SPACE).count()
 }
 
 // The number of a step, where it altered the line.
@@ -113,7 +95,7 @@ fn mend_chars(line: &[u8]) -> Repair
     let mut chars = [0u8; ROOM];
     put_raised(&mut chars, line);
     let size = line.len();
-    let same = text::same(line, &chars[..size]);
+    let same = line == &chars[..size];
     let unreturned = before_return(&chars[..size]);
     let unspaced = before_spaces(&chars[..unreturned]);
     let altered = mark(same, 1) + mark(unreturned == size, 2) + mark(unspaced == unreturned, 4);

@@ -14,7 +14,7 @@ ghost use Rattle.mending.specs.MendingText.{piece_written, piece_reported};
 ghost use Rattle.mending.specs.Laws.{Through};
 
 use pieces::Carried;
-use text::laying;
+use text::{LINE_FEED, laying};
 
 // As much of an unfinished line as tells that it is over-long: one character more than is mended.
 const MOST_HELD: usize = 257;
@@ -55,25 +55,19 @@ fn mend_whole(s: &[u8], out: &mut [u8], report: &mut [u8]) -> LinesMended
     ensures reported { report.new
         ≡ laid report.old 0 (said_whole report_said s.now) }
 {
-    let mut at: usize = 0;
-    let mut written: usize = 0;
-    let mut lines: usize = 0;
-    while at < s.len() {
-        let end = text::line_end(s, at);
-        if s.len() <= end {
-            return LinesMended {
-                written,
-                lines,
-                next: at,
-            };
-        }
-        let line = crate::mend_line(out, written, &s[at..end], true);
-        let laid = line.written;
-        let note = [line.report];
+    let mut at = 0;
+    let mut written = 0;
+    let mut lines = 0;
+    for line in s.split_inclusive(|&c| c == LINE_FEED) {
+        let Some(chars) = line.strip_suffix(&[LINE_FEED]) else {
+            break;
+        };
+        let mended = crate::mend_line(out, written, chars, true);
+        let note = [mended.report];
         let noted = laying::lay(report, lines, &note);
-        written = laid.next;
+        written = mended.written.next;
         lines = noted.next;
-        at = end + 1;
+        at += line.len();
     }
     LinesMended {
         written,

@@ -5,7 +5,7 @@ pub mod printing;
 pub mod streaming;
 
 ghost use Rattle.std.specs.Prelude.{◌≡◌, ◌+◌, ◌*◌, ◌<◌, false, length, get_or};
-ghost use Rattle.basic_laws.specs.Bits.{bytes_bits, bit_number};
+ghost use Rattle.basic_laws.specs.Bits.{bytes_bits};
 ghost use Rattle.naming.specs.Naming.{name_number, named, frame_number, line_named, name_of_read, plain, refused_name};
 ghost use Rattle.naming.specs.Naming.{sends, coded, triple_allowed, pass_read, pass_slots, named_pass, searches};
 ghost use Rattle.naming.specs.Naming.{is_nobody, is_pad, code_matched, pad_in, named_pad, believed};
@@ -116,22 +116,14 @@ fn triple_allowed(bit: bool, complement: bool, taken: bool) -> bool
     }
 }
 
-fn one_or_zero(bit: bool) -> u64
-    ensures { result ≡ bit_number bit }
-{
-    if bit { 1 } else { 0 }
-}
-
 // The triples of a pass, last first, since the last bit of a code is its highest.
 fn read_pass(bits: &[u8]) -> PassRead
     requires { length bits.now ≡ 64 }
     ensures { result ≡ pass_read (pass_slots bits.now) }
 {
     let mut code: u64 = 0;
-    let mut left: usize = 64;
-    while 0 < left {
-        left -= 1;
-        let at = 8 + 3 * left;
+    for place in (0..64).rev() {
+        let at = 8 + 3 * place;
         let bit = bit_at(bits, at);
         let complement = bit_at(bits, at + 1);
         let taken = bit_at(bits, at + 2);
@@ -141,7 +133,7 @@ fn read_pass(bits: &[u8]) -> PassRead
                 code: 0,
             };
         }
-        code = 2 * code + one_or_zero(taken);
+        code = 2 * code + u64::from(taken);
     }
     PassRead {
         allowed: true,
@@ -154,13 +146,9 @@ fn code_in(bits: &[u8]) -> u64
     requires { length bits.now ≡ 64 }
     ensures { result ≡ code_matched bits.now }
 {
-    let mut code: u64 = 0;
-    let mut left: usize = 8;
-    while 0 < left {
-        code = 256 * code + (bits[left] as u64);
-        left -= 1;
-    }
-    code
+    let mut code = [0; 8];
+    code.copy_from_slice(&bits[1..9]);
+    u64::from_le_bytes(code)
 }
 
 // The scratchpad in bytes 10 to 18.
@@ -168,9 +156,9 @@ fn pad_in(bits: &[u8]) -> NineBytes
     requires { length bits.now ≡ 64 }
     ensures { result ≡ pad_in bits.now }
 {
-    [
-        bits[10], bits[11], bits[12], bits[13], bits[14], bits[15], bits[16], bits[17], bits[18],
-    ]
+    let mut pad = [0; 9];
+    pad.copy_from_slice(&bits[10..19]);
+    pad
 }
 
 // A name with a code, which must be sound.
@@ -200,13 +188,6 @@ fn name_pass(name: Name, pass: PassRead) -> Named
     refuse(refusals::BAD_TRIPLE)
 }
 
-// A reading as its two bytes stand.
-fn raw_of(low: u8, high: u8) -> u16
-    ensures { result ≡ low + 256 * high }
-{
-    (low as u16) + 256 * (high as u16)
-}
-
 // A scratchpad that was read at a code, by its judgement.
 fn name_judged(code: u64, pad: NineBytes, judged: Judged) -> Named
     ensures { result ≡ believed code pad judged }
@@ -220,7 +201,7 @@ fn name_judged(code: u64, pad: NineBytes, judged: Judged) -> Named
         refusal: refusals::ACCEPTED,
         name: Name::Pad,
         code,
-        raw: raw_of(pad[family::READING_LOW], pad[family::READING_HIGH]),
+        raw: u16::from_le_bytes([pad[family::READING_LOW], pad[family::READING_HIGH]]),
         reading,
     }
 }

@@ -9,6 +9,7 @@ ghost use Rattle.naming.specs.Streaming.{most_printed, most_held_of_recording};
 
 use crate::printing;
 use pieces::{Fed, Progress};
+use text::LINE_FEED;
 use text::laying::Written;
 
 // As much of an unfinished line as tells that it is over-long: one character more than a line may have.
@@ -23,16 +24,14 @@ fn print_whole(s: &[u8], out: &mut [u8]) -> Progress
     ensures answer { Told printed_line most_printed s.now result }
     ensures written { out.new ≡ laid out.old 0 (said_whole printed_line s.now) }
 {
-    let mut at: usize = 0;
-    let mut written: usize = 0;
-    while at < s.len() {
-        let end = text::line_end(s, at);
-        if s.len() <= end {
-            return Progress { written, next: at };
-        }
-        let printed = printing::print_line(out, written, &s[at..end], true);
-        written = printed.next;
-        at = end + 1;
+    let mut at = 0;
+    let mut written = 0;
+    for line in s.split_inclusive(|&c| c == LINE_FEED) {
+        let Some(chars) = line.strip_suffix(&[LINE_FEED]) else {
+            break;
+        };
+        written = printing::print_line(out, written, chars, true).next;
+        at += line.len();
     }
     Progress { written, next: at }
 }

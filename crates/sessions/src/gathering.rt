@@ -23,17 +23,13 @@ fn hold(line: &mut [u8], held: usize, chars: &[u8]) -> usize
     ensures written { line.new
         ≡ laid line.old held (fitting line.old held chars.now) }
 {
-    let mut to = held;
-    let mut i: usize = 0;
-    while i < chars.len() {
-        if line.len() <= to {
-            return to;
-        }
-        line[to] = chars[i];
-        to += 1;
-        i += 1;
+    if line.len() <= held {
+        return held;
     }
-    to
+    let count = chars.len().min(line.len() - held);
+    let end = held + count;
+    line[held..end].copy_from_slice(&chars[..count]);
+    end
 }
 
 // The line that goes on at a place of a piece, up to and with its feed or to the end of the piece. Past

@@ -20,12 +20,9 @@ fn send(probe: Thermostat, byte: u8) -> Thermostat
 {
     let mut p = probe;
     let mut left = byte;
-    let mut i: u8 = 0;
-    while i < 8 {
-        let r = wire::slot(p, left % 2 == 1);
-        p = r.probe;
-        left = left / 2;
-        i += 1;
+    for _ in 0..8u8 {
+        p = wire::slot(p, left % 2 == 1).probe;
+        left /= 2;
     }
     p
 }
@@ -34,13 +31,11 @@ fn read_byte(probe: Thermostat) -> ByteRead
     ensures answer { result ≡ probe_byte_read probe }
 {
     let mut p = probe;
-    let mut byte: u8 = 0;
-    let mut i: u8 = 0;
-    while i < 8 {
+    let mut byte = 0;
+    for _ in 0..8u8 {
         let r = wire::slot(p, true);
         p = r.probe;
         byte = commands::push(byte, r.line);
-        i += 1;
     }
     ByteRead { byte, probe: p }
 }

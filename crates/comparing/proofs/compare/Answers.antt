@@ -1,63 +1,73 @@
-use mathlib.Core.Path.{sym, ◌∙◌}
-use native.Mathlib.Omega.{arith}
-use Rattle.text.specs.LinesLaws.{line-ends}
-use Rattle.comparing.specs.DepartureLaws.{walk_start, walk-on, walk-differs, walk-other-ended, walk-ended}
-use Rattle.comparing.specs.DepartureLaws.{walk-equal}
+use Rattle.std.proofs.Common.{◌≡◌, ◌+◌, ℕ, length, sym, ap, ◌∙◌, rules, arith, length-drop}
+use mathlib.Core.Logic.{inl, inr}
+use Rattle.std.proofs.lemmas.Bool.{not-true, not-false}
+use Rattle.std.proofs.lemmas.Fn.{always_returns_same}
+use Rattle.std.specs.Iterator.Adapters.{zip_first}
+use Rattle.std.specs.Slice.Iter.{split_inclusive_rest}
+use Rattle.std.specs.Cmp.Lexicographic.{same_text, other_text}
+use Rattle.comparing.specs.DepartureLaws.{walk-on, walk-differs, walk-other-ended, walk-ended, walk-equal}
+use Rattle.comparing.proofs.SplitLaws.{Split, split, split-before, split-left, split-width, split-same, split-other}
 use Rattle.comparing.proofs.compare.Goals as goal
+use Rattle.comparing.proofs.compare.Goals.{in-None, in-Some+then-ne}
 
-pub loop-at-init : goal.loop-at-init
-loop-at-init c =
-    let a = c.args in walk_start a.reference.now a.other.now
-
-pub returns-then-other-at : goal.returns-then-other-at
-returns-then-other-at c =
+pub loop-line-preserved : goal.loop-line-preserved
+loop-line-preserved c =
+    let steps = c.in-Some.ensures.steps in
+    let p : Split c.args.reference.now c.loop-line.at c.in-Some.line.now
+    (split_inclusive_rest (zip_first c.next.new.self)) =
+    split c.loop-line.invariant.left steps.0 (always_returns_same _ _ _ (λ a r f k. (search rules, search rules))) in
+    let q = split c.loop-line.invariant.left_other steps.1
+    (always_returns_same _ _ _ (λ a r f k. (search rules, search rules))) in
+    let equal : c.in-Some.line.now ≡ c.in-Some.other_line.now =
+    same_text _ _ (sym (not-false _ (sym c.ne.ensures ∙ c.if-ne.false))) in
     record {
-      answer = let a = c.args in
-          c.behind_shared.ensures
-          ∙ walk-other-ended a.reference.now a.other.now c.loop-at.at c.loop-at.shared c.loop-at.invariant
-          c.loop-at-test.true c.if-other-at.true;
+      callable = c.loop-line.invariant.callable;
+      finite = search rules;
+      left = split-left _ _ _ _ p;
+      left_other = rw equal (split-left _ _ _ _ q);
+      walked = walk-on _ _ _ _ c.loop-line.invariant.walked (split-before _ _ _ _ p) (split-before _ _ _ _ q)
+          (split-same _ _ _ _ _ _ _ p q equal) _ (ap (λ (n : ℕ). c.loop-line.at + n) (sym (split-width _ _ _ _ p)));
     }
 
-pub returns-then-not-same : goal.returns-then-not-same
-returns-then-not-same c =
+pub returns-then-at-reference : goal.returns-then-at-reference
+returns-then-at-reference c =
+    let r = c.args.reference.now in
+    let o = c.args.other.now in
+    let at = c.loop-line.at in
+    let walked = c.loop-line.invariant.walked in
     record {
-      answer = let a = c.args in
-          c.behind_shared-then-not-same.ensures
-          ∙ walk-differs a.reference.now a.other.now c.loop-at.at c.loop-at.shared c.loop-at.invariant
-          c.loop-at-test.true c.if-other-at.false
-          (sym c.same_line-same.ensures ∙ c.if-not-same.true);
+      answer = c.behind_shared.ensures
+          ∙ (elim c.match-next.branch [
+            | in-None w ↦ walk-other-ended r o at c.loop-line.shared walked c.if-at-reference.true
+                (elim w.in-None.ensures.steps [
+                  | inl h ↦ let none = ap length (sym c.loop-line.invariant.left) ∙ h.1.0 in
+                      let size = length-drop at r in
+                      omega arith
+                  | inr h ↦ let none = ap length (sym c.loop-line.invariant.left_other) ∙ h.1.0 in
+                      let size = length-drop at o in
+                      omega arith
+                ])
+            | in-Some+then-ne w ↦ let steps = w.in-Some.ensures.steps in
+                let p = split c.loop-line.invariant.left steps.0
+                (always_returns_same _ _ _ (λ a r f k. (search rules, search rules))) in
+                let q = split c.loop-line.invariant.left_other steps.1
+                (always_returns_same _ _ _ (λ a r f k. (search rules, search rules))) in
+                walk-differs r o at c.loop-line.shared walked c.if-at-reference.true (split-before _ _ _ _ q)
+                (split-other _ _ _ _ _ _ _ p q (other_text _ _ (sym (not-true _ (sym w.ne.ensures ∙ w.if-ne.true)))))
+          ]);
     }
-
-pub loop-at-smaller : goal.loop-at-smaller
-loop-at-smaller c =
-    let a = c.args in
-    let more = line-ends a.reference.now c.loop-at.at c.loop-at-test.true in
-    let next = c.line_behind-at.ensures.answer in
-    let on = more.0 in
-    let most = more.1 in
-    omega arith
-
-pub loop-at-preserved : goal.loop-at-preserved
-loop-at-preserved c =
-    let a = c.args in
-    walk-on a.reference.now a.other.now c.loop-at.at c.loop-at.shared c.loop-at.invariant
-    c.loop-at-test.true c.if-other-at.false
-    (sym c.same_line-same.ensures ∙ c.if-not-same.false) c.line_behind-at.result
-    c.line_behind-at.ensures.answer
 
 pub returns-then-at-other : goal.returns-then-at-other
 returns-then-at-other c =
     record {
-      answer = let a = c.args in
-          c.behind_shared-then-at-other.ensures
-          ∙ walk-ended a.reference.now a.other.now c.loop-at.at c.loop-at.shared c.loop-at.invariant
-          c.loop-at-test.false c.if-at-other.true;
+      answer = c.behind_shared-then-at-other.ensures
+          ∙ walk-ended c.args.reference.now c.args.other.now c.loop-line.at c.loop-line.shared
+          c.loop-line.invariant.walked c.if-at-reference.false c.if-at-other.true;
     }
 
 pub returns : goal.returns
 returns c =
     record {
-      answer = let a = c.args in
-          walk-equal a.reference.now a.other.now c.loop-at.at c.loop-at.shared c.loop-at.invariant
-          c.loop-at-test.false c.if-at-other.false;
+      answer = walk-equal c.args.reference.now c.args.other.now c.loop-line.at c.loop-line.shared
+          c.loop-line.invariant.walked c.if-at-reference.false c.if-at-other.false;
     }

@@ -1,24 +1,15 @@
-use Rattle.std.proofs.Common.{length, ap, arith, take_all}
-use Rattle.mending.specs.Mending.{unspaced}
-use Rattle.mending.specs.StepLaws.{spaces-on, spaces-stop, spaces-gone}
+use Rattle.std.proofs.Common.{◌∙◌, ap, ℕ, ◌-◌, length, rules, tests}
+use Rattle.std.proofs.lemmas.Iterator.Adapters.{YieldsList-from_rev_slice}
+use Rattle.std.proofs.lemmas.Iterator.Search.{YieldsList-from_take_while}
+use Rattle.std.proofs.lemmas.Iterator.Consumers.{count_from_yields_List}
+use Rattle.mending.specs.Mending.{is_space}
+use Rattle.mending.proofs.SpacesLaws.{unspaced-size}
 use Rattle.mending.proofs.before_spaces.Goals as goal
-
-pub loop-end-init : goal.loop-end-init
-loop-end-init c =
-    let s = c.args.s.now in (omega arith, ap unspaced (take_all (length s) s (omega arith)))
-
-pub returns-then-s-end-ne-SPACE : goal.returns-then-s-end-ne-SPACE
-returns-then-s-end-ne-SPACE c =
-    spaces-stop c.args.s.now c.loop-end.end c.loop-end.invariant.0 c.loop-end.invariant.1
-    c.loop-end-test.true c.if-s-end-ne-SPACE.true
-
-pub loop-end-preserved : goal.loop-end-preserved
-loop-end-preserved c = (
-  omega arith,
-  spaces-on c.args.s.now c.loop-end.end c.loop-end.invariant.0 c.loop-end.invariant.1
-      c.loop-end-test.true c.if-s-end-ne-SPACE.false,
-)
 
 pub returns : goal.returns
 returns c =
-    spaces-gone c.args.s.now c.loop-end.end c.loop-end.invariant.0 c.loop-end.invariant.1 c.loop-end-test.false
+    let s = c.args.s.now in
+    let spaces = count_from_yields_List _ _ c.count.ensures.ran (YieldsList-from_take_while _ is_space
+    (YieldsList-from_rev_slice s (cc)) c.take_while.ensures.closure c.take_while.ensures.done
+    (λ x b q k. search (rules, tests))) in
+    ap (λ (n : ℕ). length s - n) spaces ∙ unspaced-size s

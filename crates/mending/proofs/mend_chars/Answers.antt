@@ -5,6 +5,7 @@ use Rattle.std.specs.Prelude.{if◌then◌else◌}
 use Rattle.basic_laws.specs.Laid.{laid}
 use Rattle.basic_laws.specs.LaidLaws.{laid-length, laid-read}
 use Rattle.mending.specs.Mending.{raised, longest_mended}
+use Rattle.mending.proofs.SpacesLaws.{pointwise-same}
 use Rattle.mending.proofs.RepairLaws.{return-place, repaired}
 use Rattle.mending.proofs.mend_chars.Goals as goal
 use Rattle.mending.proofs.mend_chars.Goals.{After-before_return-unreturned}
@@ -25,8 +26,8 @@ placed c =
     (return-place c.args.line.now c.put_raised.new.out (there c.args.line.now c.put_raised.new.out c.requires c.put_raised.ensures).1
     c.before_return-unreturned.result c.before_return-unreturned.ensures).1
 
-pub slice_bounds-same-end : goal.slice_bounds-same-end
-slice_bounds-same-end c =
+pub slice_bounds-eq-end : goal.slice_bounds-eq-end
+slice_bounds-eq-end c =
     let cs = c.args.line.now in
     let size = (there c.args.line.now c.put_raised.new.out c.requires c.put_raised.ensures).0 in
     let few = c.requires in
@@ -58,5 +59,5 @@ returns c =
     c.before_return-unreturned.result c.before_return-unreturned.ensures c.requires (there c.args.line.now c.put_raised.new.out c.requires c.put_raised.ensures).0
     c.before_spaces-unspaced.result c.before_spaces-unspaced.ensures c.mark.result c.mark-2.result
     c.mark-3.result
-    (c.mark.ensures.0 ∙ ap (λ (t : Bool). if t then 0 else 1) c.same-same.ensures.answer)
+    (c.mark.ensures.0 ∙ ap (λ (t : Bool). if t then 0 else 1) (c.eq-same.ensures ∙ pointwise-same _ _))
     c.mark-2.ensures.0 c.mark-3.ensures.0

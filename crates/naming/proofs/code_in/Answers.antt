@@ -1,36 +1,27 @@
-use lib.Pow.{pow_mono, pow-add}
-use Prim.Native.Nat.{ℕ, ◌+◌, ◌-◌, ◌*◌, ◌^◌, ◌≤◌}
-use mathlib.Core.Path.{◌≡◌, sym, ap, ◌∙◌}
-use native.Mathlib.Omega.{arith}
+use Rattle.std.proofs.Common.{ℕ, List, ◌+◌, ◌-◌, ◌*◌, ◌<◌, lit<, ◌≡◌, take, drop, get_or, ap, ◌∙◌, arith, get_or-drop, get_or-take}
+use Rattle.naming.specs.Naming.{low_first}
 use Rattle.naming.specs.Laws.{code-end, code-before}
 use Rattle.naming.proofs.code_in.Goals as goal
 
-pub loop-left-init : goal.loop-left-init
-loop-left-init c =
-    (omega arith, sym (code-end c.args.bits.now c.requires), omega arith)
-
-pub overflow_mul-code : goal.overflow_mul-code
-overflow_mul-code c =
-    let p : 2 ^ (64 - 8 * c.loop-left.left) ≤ 2 ^ 56 = pow_mono {j = 56} (omega arith) in
-    omega arith
-
-pub overflow_add-code : goal.overflow_add-code
-overflow_add-code c =
-    let p : 2 ^ (64 - 8 * c.loop-left.left) ≤ 2 ^ 56 = pow_mono {j = 56} (omega arith) in
-    omega (arith, c.type_inv.bits c.loop-left.left)
-
-pub loop-left-preserved : goal.loop-left-preserved
-loop-left-preserved c =
-    let n = c.loop-left.left in
-    let e : 64 - 8 * (n - 1) ≡ 64 - 8 * n + 8 = omega arith in
-    let p : 2 ^ (64 - 8 * (n - 1)) ≡ 2 ^ (64 - 8 * n) * 256 = ap (λ (k : ℕ). 2 ^ k) e ∙ pow-add 2 (64 - 8 * n) 8 in (
-      omega arith,
-      rw c.loop-left.invariant.1 (code-before c.args.bits.now c.requires n c.loop-left-test.true
-          c.loop-left.invariant.0),
-      omega (arith, c.type_inv.bits n),
-    )
-
 pub returns : goal.returns
 returns c =
-    let e : c.loop-left.left ≡ 0 = omega arith in
-    c.loop-left.invariant.1 ∙ rw e
+    let bits = c.args.bits.now in
+    let after = c.copy_from_slice.ensures.after in
+    let code = c.copy_from_slice.new.self in
+    let eight = take 8 (drop 1 bits) in
+    let at : (i : ℕ) → i < 8 → get_or code i 0 ≡ get_or bits (1 + i) 0 =
+    λ i h. ap (λ (l : List ℕ). get_or l i 0) after ∙ get_or-take 8 (drop 1 bits) i 0 h ∙ get_or-drop 1 bits i 0 in
+    let each : (i : ℕ) → i < 8
+    → 256 * low_first (drop (1 + i) eight) + get_or code i 0 ≡ low_first (drop (1 + i - 1) eight) =
+    λ i h. ap (λ (n : ℕ). 256 * low_first (drop (1 + i) eight) + n) (at i h)
+    ∙ code-before bits c.requires (1 + i) (omega arith) (omega arith) in
+    let behind = code-end bits c.requires in
+    let b0 = each 0 (lit< tt) in
+    let b1 = each 1 (lit< tt) in
+    let b2 = each 2 (lit< tt) in
+    let b3 = each 3 (lit< tt) in
+    let b4 = each 4 (lit< tt) in
+    let b5 = each 5 (lit< tt) in
+    let b6 = each 6 (lit< tt) in
+    let b7 = each 7 (lit< tt) in
+    omega (arith, c.from_le_bytes.ensures)

@@ -1,50 +1,36 @@
 -- After a refusal nothing is read; else the line gets its characters, and its feed if it has one.
-use Rattle.captures.specs.Edges.{Reading}
-use Rattle.text.specs.Lines.{line_feed}
-use Rattle.basic_laws.specs.FirstLaws.{at-within}
-use lib.ListN.{length, drop, length-drop}
-use Prim.Native.Nat.{◌≤◌}
-use native.Mathlib.Omega.{arith}
-use Rattle.captures.proofs.EdgesLaws.{refused-stays, lengthens, line-fed}
-use mathlib.Core.Path.{sym, ◌∙◌}
+use Rattle.std.proofs.Common.{◌∙◌, ap, sym}
+use Rattle.basic_laws.specs.Fold.{fold}
+use Rattle.captures.specs.Edges.{Reading, on_byte}
+use Rattle.captures.proofs.EdgesLaws.{refused-stays, line-open, line-fed, ends-in-feed, ends-in-none}
 use Rattle.captures.proofs.edges.feed_line.Goals as goal
-use Rattle.captures.proofs.edges.feed_line.Goals.{After-line_end-end}
-
--- the characters end within the piece
-ends-within : (c : After-line_end-end) → c.line_end-end.result
-    ≤ length c.args.s.now
-ends-within c =
-    let s = c.args.s.now in
-    let e = c.line_end-end.ensures.answer in
-    let w = at-within line_feed (drop c.args.at s) in
-    let l = length-drop c.args.at s in
-    let h = c.requires in
-    omega arith
 
 pub returns-then-reader-ne-ACCEPTED : goal.returns-then-reader-ne-ACCEPTED
 returns-then-reader-ne-ACCEPTED c =
-    let a = c.args in
-    let x : Reading = record { reader = a.reader; out = a.out.now } in record { answer = refused-stays x c.if-reader-ne-ACCEPTED.true _ ∙ sym (refused-stays x c.if-reader-ne-ACCEPTED.true _); within = (c.requires, omega arith) }
+    let x : Reading = record { reader = c.args.reader; out = c.args.out.now } in
+    record { answer = refused-stays x c.if-reader-ne-ACCEPTED.true _ }
 
-pub slice_bounds-gather-end : goal.slice_bounds-gather-end
-slice_bounds-gather-end c =
-    ends-within (goal.at.slice_bounds-gather-end c).After-line_end-end
-
-pub returns-then-end-s : goal.returns-then-end-s
-returns-then-end-s c =
-    let there = c.if-end-s.true in
-    let e = c.line_end-end.ensures.answer in record {
-      answer = rw (c.take_feed.ensures.answer, c.take_feed.ensures.written, c.with_line-held.ensures, c.gather.ensures.answer)
-          (line-fed c.args.reader c.args.out.now c.args.s.now c.args.at c.line_end-end.result
-          c.if-reader-ne-ACCEPTED.false c.requires e there);
-      within = (omega arith, omega arith);
+pub returns-in-Some : goal.returns-in-Some
+returns-in-Some c =
+    let l = c.args.line.now in
+    let cases = c.in-Some.ensures.cases in
+    let plain = rw (← cases.1) at c.requires in
+    let parts = rw (← cases.1) at (ends-in-feed l c.requires cases.0) in
+    record {
+      answer = ap (fold on_byte record { reader = c.args.reader; out = c.args.out.now }) parts
+          ∙ line-fed c.args.reader c.args.out.now c.if-reader-ne-ACCEPTED.false _ plain
+          ∙ sym (rw (
+            c.take_feed.ensures.answer,
+            c.take_feed.ensures.written,
+            c.with_line-held.ensures,
+            c.gather.ensures.answer,
+          ));
     }
 
-pub returns : goal.returns
-returns c =
-    let e = c.line_end-end.ensures.answer in record {
-      answer = rw (c.with_line-held.ensures, c.gather.ensures.answer)
-          (lengthens c.args.reader c.args.out.now c.args.s.now c.args.at c.line_end-end.result
-          c.if-reader-ne-ACCEPTED.false c.requires e);
-      within = (omega arith, ends-within (goal.at.returns c).After-line_end-end);
+pub returns-in-None : goal.returns-in-None
+returns-in-None c =
+    let plain = ends-in-none c.args.line.now c.requires c.in-None.ensures.cases in
+    record {
+      answer = line-open c.args.reader c.args.out.now c.if-reader-ne-ACCEPTED.false _ plain
+          ∙ sym (rw (c.with_line.ensures, c.gather-in-None.ensures.answer));
     }

@@ -1,25 +1,31 @@
-use Prim.Native.Nat.{◌+◌, ◌<◌}
-use mathlib.Core.Path.{refl}
-use native.Mathlib.Omega.{arith}
-use lib.ListN.{length, length-set}
-use Rattle.basic_laws.specs.LaidLaws.{laid_none, laid_next}
+use Rattle.std.proofs.Common.{◌≡◌, ◌-◌, ◌+◌, min, ℕ, List, ◌++◌, length, take, drop, sym, ap, ◌∙◌, arith, append_assoc, drop-drop, length-take-le}
+use Rattle.std.proofs.lemmas.List.{take_min}
+use Rattle.basic_laws.specs.Laid.{laid}
+use Rattle.basic_laws.specs.LaidLaws.{laid_none}
 use Rattle.sessions.proofs.gathering.hold.Goals as goal
 
-pub loop-i-init : goal.loop-i-init
-loop-i-init c =
-    (omega arith, omega arith, omega arith, refl, laid_none _ _)
+-- characters copied into a part of a buffer are laid there
+copied : (d : List ℕ) (at k : ℕ) (x : List ℕ) → length x ≡ k → take at d ++ (x ++ drop k (drop at d)) ≡ laid d at x
+unfolding laid
+copied d at k x size =
+    rw (sym size, drop-drop (length x) at d) (sym (append_assoc (take at d) x (drop (at + length x) d)))
 
-pub loop-i-preserved : goal.loop-i-preserved
-loop-i-preserved c =
-    let place = c.loop-i.invariant.1 in
-    let size = c.loop-i.invariant.3 in
-    let room = c.if-line-to.false in
-    let some : c.loop-i.i < length c.args.chars.now = omega arith in
-    let within : c.args.held + c.loop-i.i < length c.args.line.now = omega arith in (
-      omega arith,
-      omega arith,
-      omega arith,
-      simp length-set size,
-      rw (place, c.loop-i.invariant.4) (laid_next _ c.args.held c.args.chars.now c.loop-i.i _ 0 _ refl some
-          within refl),
-    )
+pub returns-then-line-held-clause-written : goal.returns-then-line-held-clause-written
+returns-then-line-held-clause-written c =
+    let none : length c.args.line.now - c.args.held ≡ 0 = omega arith in
+    rw none (laid_none c.args.line.now c.args.held)
+
+pub returns-clause-written : goal.returns-clause-written
+returns-clause-written c =
+    let line = c.args.line.now in
+    let held = c.args.held in
+    let chars = c.args.chars.now in
+    let copy = c.copy_from_slice.new.self in
+    let after = c.copy_from_slice.ensures.after in
+    let count = c.min-count.result in
+    let few : count ≡ min (length line - held) (length chars) = omega arith in
+    let size : length copy ≡ held + count - held =
+    ap length after ∙ length-take-le count chars (omega arith) ∙ omega arith in
+    let fit : take count chars ≡ take (length line - held) chars =
+    ap (λ (n : ℕ). take n chars) few ∙ take_min (length line - held) chars in
+    copied line held (held + count - held) copy size ∙ ap (laid line held) (after ∙ fit)

@@ -12,25 +12,25 @@ use Rattle.thermostat.specs.Calls.{alone}
 use borrow.Author.Rules.{rules}
 use Rattle.thermostat.proofs.master.read_byte.Goals as goal
 
-pub loop-i-init : goal.loop-i-init
+pub loop-init : goal.loop-init
 unfolding slots number_of
-loop-i-init c = search rules
+loop-init c = search rules
 
-pub loop-i-preserved : goal.loop-i-preserved
-loop-i-preserved c =
-    let i = c.loop-i.i in
+pub loop-preserved : goal.loop-preserved
+loop-preserved c =
+    let i = c.loop.counter in
     let p = c.args.probe in
     let left : 8 - i ≡ suc (8 - (i + 1)) = omega arith in
-    let seven : i + (8 - (i + 1)) ≡ 7 = omega arith in (
-      omega arith,
-      rw (c.slot-r.ensures.answer, c.loop-i.invariant.1) (reads_more alone i p),
-      c.push-byte.ensures.answer
+    let seven : i + (8 - (i + 1)) ≡ 7 = omega arith in
+    let before = c.loop.invariant in record {
+      after = rw (c.slot-r.ensures.answer, before.after) (reads_more alone i p);
+      shown = c.push-byte.ensures.answer
           ∙ rw (
             c.slot-r.ensures.answer,
-            c.loop-i.invariant.1,
-            c.loop-i.invariant.2,
+            before.after,
+            before.shown,
             left,
           ) (shifted-on i (8 - (i + 1)) (number_of (bits_shown alone i p))
           (probe_slotted (after_reads alone i p) true).line seven)
-          ∙ ap (λ (n : ℕ). n * 2 ^ (8 - (i + 1))) (shown-more alone i p),
-    )
+          ∙ ap (λ (n : ℕ). n * 2 ^ (8 - (i + 1))) (shown-more alone i p);
+    }
