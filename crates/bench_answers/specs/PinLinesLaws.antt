@@ -5,8 +5,8 @@
 --     says-pins                 the counts and the lines behind them are one answer
 --     codes-front, pins-front   the codes and pins found are the front of the list lent and of the pins answered
 --     says-asked                so that what is said of those is said of what the call came to
-use Rattle.std.specs.Prelude.{ℕ, zero, suc, ◌+◌, ◌*◌, ◌<◌, ◌≤◌, ◌≡◌, Bool, true, false, List, [], ◌∷◌, ◌++◌, ltb, length, take, get_or, replicate}
-use Rattle.std.proofs.Common.{sym, ap, subst, ◌∙◌, append_assoc, append-nil, arith, add-one, lit<, length-append, length-take, take_all}
+use Rattle.std.specs.Prelude.{ℕ, zero, suc, ◌+◌, ◌*◌, ◌<◌, ◌≤◌, ◌≡◌, Bool, true, false, refl, List, [], ◌∷◌, ◌++◌, leb, ltb, min, length, take, get_or, replicate}
+use Rattle.std.proofs.Common.{sym, ap, subst, ◌∙◌, append_assoc, append-nil, arith, add-one, leb-false, leb-true, lit<, length-append, length-take, take_all}
 use Rattle.std.proofs.Math.Dec.{lit≤}
 use Rattle.std.specs.Prelude.{if◌then◌else◌}
 use Rattle.basic_laws.specs.Laid.{laid}
@@ -201,6 +201,16 @@ module _ (b : Bench) (list list' : List ℕ) (r : Pinned) (is : r ≡ pinned_of 
       ++ pin_lines o.found.codes o.found.pins) q.bench) d' s) is
       (rw (codes-front, pins-front) at h)
 
--- a list of 32 places is as good as a longer one
-pub pins-just-enough : (b : Bench) (places : ℕ) → 32 ≤ places → pins_outcome b 32 ≡ pins_outcome b places
-pins-just-enough b places h = enough-places b 32 (lit≤ tt) ∙ sym (enough-places b places h)
+-- more places than 32 are as good as just enough
+pub pins-just-enough : (b : Bench) (places : ℕ) → pins_outcome b (min places 32) ≡ pins_outcome b places
+pins-just-enough b places = by-test (leb 32 places) refl
+  where
+    by-test : (t : Bool) → leb 32 places ≡ t → pins_outcome b (min places 32) ≡ pins_outcome b places
+    by-test true e =
+        let most = leb-true 32 places e in
+        let least : min places 32 ≡ 32 = omega arith in
+        rw least (enough-places b 32 (lit≤ tt) ∙ sym (enough-places b places most))
+    by-test false e =
+        let few = leb-false 32 places e in
+        let all : min places 32 ≡ places = omega arith in
+        rw all refl

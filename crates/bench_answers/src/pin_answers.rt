@@ -1,5 +1,5 @@
 // The call for address pins and its answer: the counts with the shared number, then a line for each probe.
-ghost use Rattle.std.specs.Prelude.{◌≡◌, ◌++◌, ◌≤◌, ◌+◌, ◌*◌, min, length};
+ghost use Rattle.std.specs.Prelude.{◌≡◌, ◌++◌, ◌≤◌, ◌+◌, ◌*◌, length};
 ghost use Rattle.basic_laws.specs.Laid.{laid};
 ghost use Rattle.master_rules.specs.Pins.{pins_outcome};
 ghost use Rattle.master_rules.specs.declared.SharedPin.TheVariants.{NoPin};
@@ -71,10 +71,8 @@ fn put_pins(out: &mut [u8], at: usize, codes: &[u64], pins: &[u8]) -> usize
         × (length (pin_lines codes.now pins.now) ≤ 21 * length codes.now) }
 {
     let mut to = at;
-    let mut i: usize = 0;
-    while i < codes.len() {
-        to = put_pin(out, to, codes[i], pins[i]);
-        i += 1;
+    for (&code, &pin) in codes.iter().zip(pins) {
+        to = put_pin(out, to, code, pin);
     }
     to
 }
@@ -123,10 +121,8 @@ fn lend(bench: Bench, list: &mut [u64], places: usize, out: &mut [u8]) -> Said
     requires { (length list.old ≡ 32) × (room ≤ length out.old) }
     ensures { Says out.old (of_pins (pins_outcome bench places)) out.new result }
 {
-    if places < FEWEST_PLACES {
-        return ask(bench, &mut list[..places], out);
-    }
-    ask(bench, list, out)
+    let lent = places.min(FEWEST_PLACES);
+    ask(bench, &mut list[..lent], out)
 }
 
 fn answer(bench: Bench, places: usize, out: &mut [u8]) -> Said

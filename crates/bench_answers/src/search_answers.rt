@@ -1,5 +1,5 @@
 // A search or an alarm search and its answer: the counts, a line for each code, the lines that it recorded.
-ghost use Rattle.std.specs.Prelude.{◌≡◌, ◌≤◌, ◌+◌, ◌*◌, min, ◌++◌, length};
+ghost use Rattle.std.specs.Prelude.{◌≡◌, ◌≤◌, ◌+◌, ◌*◌, ◌++◌, length};
 ghost use Rattle.basic_laws.specs.Laid.{laid};
 ghost use Rattle.master_rules.specs.Search.{search_outcome, answer_of, list_after, recording_after};
 ghost use Rattle.bench_answers.specs.Answers.{search_line, code_lines};
@@ -22,11 +22,8 @@ fn put_codes(out: &mut [u8], at: usize, codes: &[u64]) -> usize
     ensures written { out.new ≡ laid out.old at (code_lines codes.now) }
 {
     let mut to = at;
-    let mut i: usize = 0;
-    while i < codes.len() {
-        let w = crate::code_line(out, to, codes[i]);
-        to = w.next;
-        i += 1;
+    for &code in codes {
+        to = crate::code_line(out, to, code).next;
     }
     to
 }
@@ -101,12 +98,6 @@ fn found_in(
     )
 }
 
-fn least(a: usize, b: usize) -> usize
-    ensures { result ≡ min a b }
-{
-    if a < b { a } else { b }
-}
-
 // Parts of a list and a recording lent to a search. More than it takes is as good as just enough.
 fn lend(
     bench: Bench,
@@ -121,8 +112,8 @@ fn lend(
     ensures { Says out.old (of_search (search_outcome (command_for alarms) bench places bytes))
         out.new result }
 {
-    let lent_places = least(places, FEWEST_PLACES);
-    let lent_bytes = least(bytes, FEWEST_BYTES);
+    let lent_places = places.min(FEWEST_PLACES);
+    let lent_bytes = bytes.min(FEWEST_BYTES);
     found_in(
         bench,
         alarms,

@@ -2,11 +2,8 @@
 -- which is like no word of a call: so fields are parted by exactly one space.
 --     words_of s              the words of a line, one more than it has spaces; of an empty line, one empty word
 --     word_of ws k            word k, counted from 0; the empty word where there is none
---     space_at s              how many characters stand before the first space; all where there is none
---     words_ended c           how many words a character ends: a space ends one
 use Rattle.std.specs.Prelude.{ℕ, List, [], ◌∷◌, eqb, get_or}
 use Rattle.std.specs.Prelude.{if◌then◌else◌}
-use Rattle.basic_laws.specs.First.{first_at}
 use Rattle.text.specs.Lines.{space}
 
 -- one character more in front of the first word
@@ -20,9 +17,3 @@ words_of (c ∷ s) = if eqb c space then [] ∷ words_of s else lengthened c (wo
 
 abbrev pub word_of : List (List ℕ) → ℕ → List ℕ
 word_of ws k = get_or ws k []
-
-abbrev pub space_at : List ℕ → ℕ
-space_at s = first_at space s
-
-abbrev pub words_ended : ℕ → ℕ
-words_ended c = if eqb c space then 1 else 0

@@ -92,7 +92,7 @@ pub fn count_in(w: &[u8]) -> CountRead
 pub fn both(a: bool, b: bool) -> bool
     ensures answer { result ≡ (a && b) }
 {
-    if a { b } else { false }
+    a && b
 }
 
 // The high limit, the low limit and the configuration.
@@ -103,7 +103,7 @@ pub fn settings_in(high: &[u8], low: &[u8], configuration: &[u8]) -> SettingsRea
     let l = byte_in(low);
     let c = byte_in(configuration);
     SettingsRead {
-        valid: both(both(h.valid, l.valid), c.valid),
+        valid: h.valid && l.valid && c.valid,
         settings: Settings {
             high: h.number as u8,
             low: l.number as u8,

@@ -25,11 +25,7 @@ fn entry_at(t: &[u8], at: usize) -> [u8; 48]
     ensures answer { result ≡ take 48 (drop at t.now) }
 {
     let mut e = [0u8; 48];
-    let mut i: usize = 0;
-    while i < 48 {
-        e[i] = t[at + i];
-        i += 1;
-    }
+    e.copy_from_slice(&t[at..at + 48]);
     e
 }
 
@@ -38,11 +34,7 @@ fn put_entry(t: &mut [u8], at: usize, e: [u8; 48])
     requires { at + 48 ≤ length t.old }
     ensures written { t.new ≡ laid t.old at e }
 {
-    let mut i: usize = 0;
-    while i < 48 {
-        t[at + i] = e[i];
-        i += 1;
-    }
+    t[at..at + 48].copy_from_slice(&e);
 }
 
 // The bytes of the device at a place, or zeros where there is none.
@@ -63,11 +55,8 @@ fn write_entries(devices: Devices, count: u8, t: &mut [u8])
     ensures written { t.new ≡ laid t.old 0 (table_of 32 (take count devices)) }
     ensures typed { Each InTypes (take count devices) }
 {
-    let taken = count as usize;
-    let mut i: usize = 0;
-    while i < 32 {
-        put_entry(t, 48 * i, entry_of(devices, taken, i));
-        i += 1;
+    for place in 0..32 {
+        put_entry(t, 48 * place, entry_of(devices, count as usize, place));
     }
 }
 
@@ -89,18 +78,15 @@ fn read_entries(t: &[u8]) -> Found
     ensures few { result.count ≤ 32 }
 {
     let mut devices = bench::records_of(bench::new());
-    let mut i: usize = 0;
-    while i < 32 {
-        let d = packing::fields(entry_at(t, 48 * i));
-        let code = d.code;
-        if code == 0 {
+    for place in 0..32 {
+        let device = packing::fields(entry_at(t, 48 * place));
+        if device.code == 0 {
             return Found {
                 devices,
-                count: i as u8,
+                count: place as u8,
             };
         }
-        devices[i] = d;
-        i += 1;
+        devices[place] = device;
     }
     Found { devices, count: 32 }
 }

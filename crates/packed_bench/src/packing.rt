@@ -20,16 +20,9 @@ fn eight_at(t: Entry, i: usize) -> [u8; 8]
     requires { i ≤ 40 }
     ensures answer { result ≡ eight_at t i }
 {
-    [
-        t[i],
-        t[i + 1],
-        t[i + 2],
-        t[i + 3],
-        t[i + 4],
-        t[i + 5],
-        t[i + 6],
-        t[i + 7],
-    ]
+    let mut b = [0u8; 8];
+    b.copy_from_slice(&t[i..i + 8]);
+    b
 }
 
 fn case_at(t: Entry, i: usize) -> Case
@@ -45,11 +38,7 @@ fn with_eight(t: Entry, at: usize, b: [u8; 8]) -> Entry
     ensures answer { result ≡ laid t at b }
 {
     let mut e = t;
-    let mut i: usize = 0;
-    while i < 8 {
-        e[at + i] = b[i];
-        i += 1;
-    }
+    e[at..at + 8].copy_from_slice(&b);
     e
 }
 

@@ -25,7 +25,7 @@ pub struct Case(pub u8, pub u8, pub u8, pub u8);
 pub fn truth_byte(t: bool) -> u8
     ensures answer { result ≡ truth_byte t }
 {
-    if t { 1 } else { 0 }
+    u8::from(t)
 }
 
 pub fn power_byte(power: Power) -> u8
@@ -182,43 +182,11 @@ pub fn activity_of(x: Case) -> Activity
 pub fn code_bytes(code: u64) -> CodeBytes
     ensures answer { result ≡ code_bytes code }
 {
-    let c1 = code / 256;
-    let c2 = c1 / 256;
-    let c3 = c2 / 256;
-    let c4 = c3 / 256;
-    let c5 = c4 / 256;
-    let c6 = c5 / 256;
-    let c7 = c6 / 256;
-    [
-        (code % 256) as u8,
-        (c1 % 256) as u8,
-        (c2 % 256) as u8,
-        (c3 % 256) as u8,
-        (c4 % 256) as u8,
-        (c5 % 256) as u8,
-        (c6 % 256) as u8,
-        (c7 % 256) as u8,
-    ]
-}
-
-// A number with one byte put below it.
-fn below(low: u8, high: u64) -> u64
-    requires { high < 72057594037927936 }
-    ensures answer { result ≡ low + 256 * high }
-    ensures fits { result < 256 * high + 256 }
-{
-    low as u64 + 256 * high
+    code.to_le_bytes()
 }
 
 pub fn code_of(b: CodeBytes) -> u64
     ensures answer { result ≡ code_from_bytes (eight_at b 0) }
 {
-    let c7 = below(b[7], 0);
-    let c6 = below(b[6], c7);
-    let c5 = below(b[5], c6);
-    let c4 = below(b[4], c5);
-    let c3 = below(b[3], c4);
-    let c2 = below(b[2], c3);
-    let c1 = below(b[1], c2);
-    below(b[0], c1)
+    u64::from_le_bytes(b)
 }

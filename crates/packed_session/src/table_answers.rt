@@ -109,12 +109,8 @@ fn put_entries(t: &[u8], out: &mut [u8]) -> usize
     ensures written { out.new ≡ laid out.old 0 (table_text 32 t.now) }
 {
     let mut to: usize = 0;
-    let mut i: usize = 0;
-    while i < 32 {
-        let from = 48 * i;
-        let end = from + 48;
-        to = putting::put_bytes(out, to, &t[from..end], LINE_FEED);
-        i += 1;
+    for entry in t[..TABLE_BYTES].chunks_exact(48) {
+        to = putting::put_bytes(out, to, entry, LINE_FEED);
     }
     to
 }

@@ -1,6 +1,6 @@
 -- A part is as long as asked where it is within the whole, and a search is as good with just enough.
 use Prim.Native.Nat.{min}
-use mathlib.Core.Path.{◌≡◌, sym, subst, ◌∙◌}
+use mathlib.Core.Path.{◌≡◌, subst, ◌∙◌}
 use native.Mathlib.Omega.{arith}
 use lib.ListN.{length, take}
 use lib.Seq.{length-take-le}
@@ -10,31 +10,19 @@ use Rattle.bench_answers.specs.Found.{command_for, of_search}
 use Rattle.bench_answers.specs.FoundLaws.{just_enough}
 use Rattle.bench_answers.proofs.search_answers.lend.Goals as goal
 
-pub slice_bounds-found_in-end-2 : goal.slice_bounds-found_in-end-2
-slice_bounds-found_in-end-2 c =
-    let count = c.least-lent_places.ensures in
-    let long = c.requires.0 in
-    sym (length-take-le c.least-lent_places.result c.args.list.now (omega arith))
-
-pub slice_bounds-found_in-end-4 : goal.slice_bounds-found_in-end-4
-slice_bounds-found_in-end-4 c =
-    let count = c.least-lent_bytes.ensures in
-    let long = c.requires.1 in
-    sym (length-take-le c.least-lent_bytes.result c.args.recording.now (omega arith))
-
 pub returns : goal.returns
 returns c =
-    let places = c.least-lent_places.ensures in
-    let bytes = c.least-lent_bytes.ensures in
+    let places = c.min-lent_places.ensures in
+    let bytes = c.min-lent_bytes.ensures in
     let list-long = c.requires.0 in
     let recording-long = c.requires.1 in
-    let codes : length (take c.least-lent_places.result c.args.list.now) ≡ min c.args.places 32 =
-    length-take-le c.least-lent_places.result c.args.list.now (omega arith) ∙ places in
-    let room : length (take c.least-lent_bytes.result c.args.recording.now) ≡ min c.args.bytes 1824 =
-    length-take-le c.least-lent_bytes.result c.args.recording.now (omega arith) ∙ bytes in
+    let codes : length (take c.min-lent_places.result c.args.list.now) ≡ min c.args.places 32 =
+    length-take-le c.min-lent_places.result c.args.list.now (omega arith) ∙ places in
+    let room : length (take c.min-lent_bytes.result c.args.recording.now) ≡ min c.args.bytes 1824 =
+    length-take-le c.min-lent_bytes.result c.args.recording.now (omega arith) ∙ bytes in
     let same : search_outcome (command_for c.args.alarms) c.args.bench
-    (length (take c.least-lent_places.result c.args.list.now))
-    (length (take c.least-lent_bytes.result c.args.recording.now))
+    (length (take c.min-lent_places.result c.args.list.now))
+    (length (take c.min-lent_bytes.result c.args.recording.now))
     ≡ search_outcome (command_for c.args.alarms) c.args.bench c.args.places c.args.bytes =
     rw (codes, room) (just_enough (command_for c.args.alarms) c.args.bench c.args.places
     c.args.bytes) in

@@ -1,36 +1,27 @@
--- The word starts where the passed words end, and ends at the next space. Where there are no more words, the part is
--- empty.
-use native.Mathlib.Omega.{arith}
-use lib.ListN.{drop, length-drop}
-use mathlib.Core.Path.{refl}
+-- The part that stands at the place among those between spaces; the other slice is the empty word.
+use Rattle.std.proofs.Common.{◌≡◌, ◌∙◌, ap, refl, rules, eqb, List, [], ℕ, Option, Some, None}
+use Rattle.std.proofs.lemmas.Iterator.Consumers.{nth_from_yields_List}
+use Rattle.std.proofs.lemmas.Iterator.Splits.{YieldsList-from_slice_split}
+use Rattle.std.proofs.lemmas.Option.{unwrap_or-slice_get}
+use Rattle.std.specs.Option.{unwrap_or, option_map}
+use denote.Ref.{Bor}
 use Rattle.text.specs.Lines.{space}
 use Rattle.lines.specs.Words.{words_of}
-use Rattle.lines.specs.WordsLaws.{word-here, word-past}
-use Rattle.basic_laws.specs.FirstLaws.{at-within}
+use Rattle.lines.specs.WordsLaws.{words-split}
 use Rattle.lines.proofs.words.word.Goals as goal
 
-pub returns-then-words-k : goal.returns-then-words-k
-returns-then-words-k c =
-    record {
-      answer = let none = c.if-words-k.true in
-          word-past (words_of c.args.line.now) c.args.k (rw c.count-words.ensures.answer at none);
-    }
-
-pub slice_bounds-result-end-2 : goal.slice_bounds-result-end-2
-slice_bounds-result-end-2 c =
-    let s = c.start_of-from in
-    let line = c.args.line.now in
-    let from = s.result in
-    let w = at-within space (drop from line) in
-    let e = c.word_end-end.ensures in
-    let l = length-drop from line in
-    let f = s.ensures.0 in
-    omega arith
+-- what stands behind a reference where there is one
+behind : (r : Option (Bor (List ℕ))) (d : Bor (List ℕ)) → (unwrap_or r d).now ≡ unwrap_or (option_map (λ x. x.now) r) d.now
+behind None d = refl
+behind (Some x) d = refl
 
 pub returns : goal.returns
 returns c =
     record {
-      answer = let s = c.start_of-from in
-          word-here c.args.line.now c.args.k s.result c.args.k _ s.ensures.0 s.ensures.1
-          c.word_end-end.ensures _ refl;
+      answer = let line = c.args.line.now in
+          let found = nth_from_yields_List c.nth.result _ c.args.k c.nth.ensures.ran
+          (YieldsList-from_slice_split _ (λ b. eqb b space) line (search rules) (search rules) refl
+          (λ x b q k. search rules)) in
+          rw c.unwrap_or.ensures (behind c.nth.result _ ∙ ap (λ o. unwrap_or o []) (rw (words-split line) at found)
+          ∙ unwrap_or-slice_get (words_of line) c.args.k []);
     }

@@ -1,38 +1,25 @@
-use Prim.Native.Nat.{ℕ}
-use mathlib.Core.Path.{◌≡◌, ◌∙◌, sym, ap, refl}
-use native.Mathlib.Omega.{arith}
-use lib.ListN.{length, take, length-set}
+use Rattle.std.proofs.Common.{ℕ, ◌≡◌, ◌∙◌, sym, ap, arith, length-set, take}
 use Rattle.packed_bench.specs.Packed.{fields_of}
 use Rattle.packed_bench.specs.LoopLaws.{read-turn, read-stop, read-end}
 use Rattle.packed_bench.proofs.entries.read_entries.Goals as goal
 
-pub loop-i-init : goal.loop-i-init
-loop-i-init c =
-    let e = c.records_of-devices.ensures.answer ∙ ap (λ b. b.devices) c.new.ensures.answer in
-    (omega arith, ap length e, refl)
+pub returns-then-device-eq0-clause-answer : goal.returns-then-device-eq0-clause-answer
+returns-then-device-eq0-clause-answer c =
+    let is = c.fields-device.ensures.answer ∙ ap fields_of c.entry_at.ensures.answer in
+    sym (c.loop-place.invariant.1 ∙ read-stop c.args.t.now c.loop-place.devices c.loop-place.place c.fields-device.result is
+    c.loop-place-test.true c.if-device-eq0.true)
 
-pub returns-then-code-eq0 : goal.returns-then-code-eq0
-returns-then-code-eq0 c =
-    let t = c.args.t.now in
-    let is = c.fields-d.ensures.answer ∙ ap fields_of c.entry_at.ensures.answer in
-    let all_of = c.loop-i.invariant.2 ∙ read-stop t c.loop-i.devices c.loop-i.i c.fields-d.result is
-    c.loop-i-test.true c.if-code-eq0.true in
-    record { answer = sym all_of; few = c.loop-i.invariant.0 }
-
-pub loop-i-preserved : goal.loop-i-preserved
-loop-i-preserved c =
-    let t = c.args.t.now in
-    let is = c.fields-d.ensures.answer ∙ ap fields_of c.entry_at.ensures.answer in
-    let h = c.loop-i-test.true in (
-      omega arith,
-      length-set c.loop-i.devices c.loop-i.i c.fields-d.result ∙ c.loop-i.invariant.1,
-      c.loop-i.invariant.2 ∙ read-turn t c.loop-i.devices c.loop-i.i c.fields-d.result is h c.loop-i.invariant.1
-          c.if-code-eq0.false,
+pub loop-place-preserved : goal.loop-place-preserved
+loop-place-preserved c =
+    let is = c.fields-device.ensures.answer ∙ ap fields_of c.entry_at.ensures.answer in (
+      length-set _ _ _ ∙ c.loop-place.invariant.0,
+      c.loop-place.invariant.1 ∙ read-turn c.args.t.now c.loop-place.devices c.loop-place.place c.fields-device.result is
+          c.loop-place-test.true c.loop-place.invariant.0 c.if-device-eq0.false,
     )
 
-pub returns : goal.returns
-returns c =
-    let t = c.args.t.now in
-    let end : c.loop-i.i ≡ 32 = omega arith in
-    let all_of = c.loop-i.invariant.2 ∙ read-end t c.loop-i.devices c.loop-i.i end in
-    record { answer = ap (λ (n : ℕ). take n c.loop-i.devices) (sym end) ∙ sym all_of; few = omega arith }
+pub returns-clause-answer : goal.returns-clause-answer
+returns-clause-answer c =
+    let devices = c.loop-place.devices in
+    let end : c.loop-place.place ≡ 32 = omega arith in
+    ap (λ (n : ℕ). take n devices) (sym end)
+    ∙ sym (c.loop-place.invariant.1 ∙ read-end c.args.t.now devices c.loop-place.place end)

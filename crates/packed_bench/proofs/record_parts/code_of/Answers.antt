@@ -1,19 +1,8 @@
--- Each byte goes below the number of the bytes after it.
-use Rattle.packed_bench.specs.Bytes.{code_from_bytes}
+-- The number that std makes of the bytes is the definition's.
+use Rattle.std.proofs.Common.{◌∙◌}
+use Rattle.packed_bench.specs.BytesLaws.{code-same}
 use Rattle.packed_bench.proofs.record_parts.code_of.Goals as goal
 
 pub returns : goal.returns
-unfolding code_from_bytes
 returns c =
-    record {
-      answer = rw (
-        c.below.ensures.answer,
-        c.below-c1.ensures.answer,
-        c.below-c2.ensures.answer,
-        c.below-c3.ensures.answer,
-        c.below-c4.ensures.answer,
-        c.below-c5.ensures.answer,
-        c.below-c6.ensures.answer,
-        c.below-c7.ensures.answer,
-      );
-    }
+    record { answer = c.from_le_bytes.ensures ∙ code-same c.args.b }
