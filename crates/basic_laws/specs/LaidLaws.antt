@@ -14,6 +14,12 @@ module _ {A : Type 0} (d : List A) (at : ℕ) where
   unfolding laid
   laid_none = sym (rw (add-zero at, append-nil (take at d)) (take-append-drop at d))
 
+  -- as a copy into a part of it leaves it
+  pub laid_part : (x : List A) → take at d ++ (x ++ drop (length x) (drop at d)) ≡ laid d at x
+  unfolding laid
+  laid_part x = ap (λ rest. take at d ++ (x ++ rest)) (drop-drop (length x) at d)
+      ∙ sym (append_assoc (take at d) x (drop (at + length x) d))
+
   pub laid-length : (x : List A) → at + length x ≤ length d → length (laid d at x) ≡ length d
   unfolding laid
   laid-length x h = simp (length-append, length-take, length-drop) (omega arith)

@@ -24,3 +24,5 @@ pub mod XorLaws
 pub mod Rounding
 pub mod Complement
 pub mod ComplementLaws
+pub mod AllLaws
+pub mod PositionLaws

@@ -1,11 +1,13 @@
 -- Two lists compared as a loop compares them, and what follows where they are the same or go alike.
 --     same-equal, same-itself                 the test of sameness is equality
+--     same_told                               `==` of two slices is `same`
 --     alike-within, alike-front, alike-parts  as many as go alike are in both lists, are the same, and the next two are
 --                                             not
 use Prim.Native.Nat.{ℕ, suc, ◌+◌, ◌<◌, ◌≤◌}
 use Rattle.std.proofs.Math.Path.{◌≡◌, refl, ap}
 use Rattle.std.proofs.Common.{sym, ◌∙◌, drop_of_length-le}
 use Rattle.std.specs.Prelude.{Bool, ◌&&◌, eqb, get_or}
+use Rattle.std.proofs.Common.{Decides}
 use Rattle.std.proofs.Math.Bool.{true, false, false≢true}
 use mathlib.Core.List.{List, [], ◌∷◌}
 use native.Mathlib.Omega.{arith}
@@ -56,6 +58,15 @@ pub same-itself : (v : List ℕ) → same v v ≡ true
 unfolding same
 same-itself [] = refl
 same-itself (x ∷ v) = rw (eq-eqb x x refl, same-itself v)
+
+-- as `==` on slices tells it
+pub same_told : (v w : List ℕ) (r : Bool) → Decides r (v ≡ w) → r ≡ same v w
+same_told v w true h = sym (rw (← h.0 refl) (same-itself v))
+same_told v w false h = by-test (same v w) refl
+  where
+    by-test : (t : Bool) → same v w ≡ t → false ≡ same v w
+    by-test true e = h.1 (same-equal v w e) ∙ sym e
+    by-test false e = sym e
 
 -- ## How far two lists go alike
 

@@ -48,13 +48,11 @@ pub fn crc_bits(register: u8, number: u64, count: u8) -> u8
     let table = registers();
     let mut r = register;
     let mut left = number;
-    let mut rest = count;
-    while 8 <= rest {
+    for _ in 0..count / 8 {
         r = crc_byte(&table, r, (left % 256) as u8);
         left = left / 256;
-        rest -= 8;
     }
-    crc_bit_by_bit(r, left, rest)
+    crc_bit_by_bit(r, left, count % 8)
 }
 
 // The same, one bit after another.
@@ -63,11 +61,9 @@ fn crc_bit_by_bit(register: u8, number: u64, count: u8) -> u8
 {
     let mut r = register;
     let mut left = number;
-    let mut i: u8 = 0;
-    while i < count {
+    for _ in 0..count {
         r = crc_bit(r, left % 2 == 1);
         left = left / 2;
-        i += 1;
     }
     r
 }
@@ -78,11 +74,8 @@ pub fn crc_of(bytes: &[u8]) -> u8
 {
     let table = registers();
     let mut r: u8 = 0;
-    let mut i: usize = 0;
-    while i < bytes.len() {
-        let b = bytes[i];
-        r = crc_byte(&table, r, b);
-        i += 1;
+    for &byte in bytes {
+        r = crc_byte(&table, r, byte);
     }
     r
 }
