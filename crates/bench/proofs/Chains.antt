@@ -2,9 +2,11 @@
 --     all-listed                 whether all pass
 --     folded                     a list worked into a value
 --     first-found, first-missed  where the first that passes stands, and where none does
+--     taken_places               the places of a table that are taken
 --     front_rejoined             a table whose taken places were gone over and changed, the others behind them
 use Prim.Native.Nat.{ℕ, suc, ◌+◌, ◌≤◌, min}
-use Rattle.std.specs.Prelude.{◌≡◌, Bool, true, false, ◌&&◌, List, [], ◌∷◌, ◌++◌, length, take, drop, Some, None, position, ltb, cond, not}
+use Rattle.std.specs.Prelude.{◌≡◌, Bool, true, false, not, ◌&&◌, List, [], ◌∷◌, ◌++◌, length, take, drop, ltb, cond}
+use Rattle.std.specs.Prelude.{Some, None, position}
 use Rattle.std.specs.Prelude.{if◌then◌else◌}
 use Rattle.std.specs.List.{list_all, position_or_len, fold as fold_items}
 use Rattle.std.proofs.Common.{refl, ap, sym, ◌∙◌, arith, take-append-drop, add-zero, zero-add}
@@ -13,7 +15,7 @@ use Rattle.basic_laws.specs.First.{first_with}
 use Rattle.basic_laws.specs.Fold.{fold, all}
 use Rattle.basic_laws.specs.Front.{map_front}
 use Rattle.basic_laws.specs.FrontLaws.{front-past, front-taken, front-dropped}
-use Rattle.bench.specs.Taken.{front-most}
+use Rattle.bench.specs.Taken.{taken-most, front-most}
 
 pub all-listed : {A : Type 0} (p : A → Bool) (l : List A) → list_all p l ≡ all p l
 unfolding all
@@ -57,6 +59,10 @@ module _ {A R : Type 0} (p : A → Bool) (f : ℕ → R) (z : R) where
       by-test true j e is = cc
       by-test false j e is = sym is
 
+-- p of the m places of l are taken
+pub taken_places : {A : Type 0} (n m p : ℕ) (l : List A) → length l ≡ m → p ≡ min n m → take p l ≡ take n l
+taken_places n m p l long few = rw few (taken-most n m l long)
+
 module _ {A : Type 0} (f : A → A) where
   rejoined : (n k : ℕ) (l : List A) → length (take n l) ≤ k → map_front f k (take n l) ++ drop n l ≡ map_front f n l
   rejoined n k l h =
@@ -64,7 +70,7 @@ module _ {A : Type 0} (f : A → A) where
       ∙ ap (λ (m : List A). take n (map_front f n l) ++ m) (sym (front-dropped f n l))
       ∙ take-append-drop n (map_front f n l)
 
-  -- p of the m places are taken, and k of them have been gone over
+  -- k of them have been gone over
   pub front_rejoined : (n m p k : ℕ) (l front : List A) → length l ≡ m → p ≡ min n m → front ≡ map_front f k (take p l)
       → length (take p l) ≤ k → front ++ drop p l ≡ map_front f n l
   front_rejoined n m p k l front long few is h =

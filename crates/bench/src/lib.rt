@@ -116,10 +116,7 @@ pub fn is_free(bench: Bench) -> bool
 fn line_with(line: bool, d: Device) -> bool
     ensures answer { result ≡ (line && offer_of d) }
 {
-    if line {
-        return offer::offer(d);
-    }
-    false
+    line && offer::offer(d)
 }
 
 // One slot in which the master offers this bit; 1 to read. Both rounds along the devices stand in one body, for a call

@@ -1,5 +1,5 @@
--- The loop's invariant: so many read slots have been made, and the register holds the number that they showed in as many
--- upper bits. `shifted-on` puts in the next bit.
+-- The loop's invariant: so many read slots have been made, and the register holds the number that they showed in as
+-- many upper bits. `shifted-on` puts in the next bit.
 use Rattle.std.proofs.Common.{◌≡◌, ◌-◌, ◌*◌, ◌^◌}
 use Rattle.basic_laws.specs.Bits.{number_of}
 use Rattle.master_rules.specs.Access.{after_slots}

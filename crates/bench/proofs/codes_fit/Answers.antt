@@ -19,14 +19,18 @@ returns-then-not-is_absent c =
     record {
       answer = let is-sound = ap (λ n. eqb n accepted) (sym c.refusal_of-refusal.ensures.answer)
           ∙ eq-eqb _ _ c.if-refusal-ne-ACCEPTED.false in
-          sym (codes-twice _ _ _ c.loop-i-test.true is-sound (ap (absent _) (sym (part-all c.args.devices.now (c.loop-i.i + 1))) ∙ sym c.is_absent.ensures.answer ∙ c.if-not-is_absent.true)) ∙ c.loop-i.invariant;
+          let again = ap (absent _) (sym (part-all c.args.devices.now (c.loop-i.i + 1)))
+          ∙ sym c.is_absent.ensures.answer ∙ c.if-not-is_absent.true in
+          sym (codes-twice _ _ _ c.loop-i-test.true is-sound again) ∙ c.loop-i.invariant;
     }
 
 pub loop-i-preserved : goal.loop-i-preserved
 loop-i-preserved c =
     let is-sound = ap (λ n. eqb n accepted) (sym c.refusal_of-refusal.ensures.answer)
     ∙ eq-eqb _ _ c.if-refusal-ne-ACCEPTED.false in
-    sym (codes-onward _ _ _ c.loop-i-test.true is-sound (ap (absent _) (sym (part-all c.args.devices.now (c.loop-i.i + 1))) ∙ sym c.is_absent.ensures.answer ∙ c.if-not-is_absent.false)) ∙ c.loop-i.invariant
+    let once = ap (absent _) (sym (part-all c.args.devices.now (c.loop-i.i + 1)))
+    ∙ sym c.is_absent.ensures.answer ∙ c.if-not-is_absent.false in
+    sym (codes-onward _ _ _ c.loop-i-test.true is-sound once) ∙ c.loop-i.invariant
 
 pub returns : goal.returns
 returns c =

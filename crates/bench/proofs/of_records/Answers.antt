@@ -8,5 +8,6 @@ returns c =
       answer = let a = c.args in
           let long : length a.devices ≡ 32 = search rules in
           let fit = sym c.codes_fit.ensures.answer ∙ c.if-not-codes_fit.false in
-          rw (c.copy_from_slice.ensures.after, c.new.ensures.answer) (made-done a.devices a.count long c.if-taken-gt-PLACES.false fit);
+          rw (c.copy_from_slice.ensures.after, c.new.ensures.answer)
+          (made-done a.devices a.count long c.if-taken-gt-PLACES.false fit);
     }

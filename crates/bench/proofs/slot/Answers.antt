@@ -8,19 +8,20 @@ use Rattle.device.specs.Hear.{hear_of}
 use Rattle.device.specs.Offer.{offer_of}
 use Rattle.device.specs.Record.{holds_wire}
 use Rattle.device.specs.StillLaws.{still-stays}
-use Rattle.bench.specs.Taken.{taken-most, front_kept}
+use Rattle.bench.specs.Taken.{front_kept}
 use Rattle.bench.specs.Bench.{free}
 use Rattle.bench.specs.Slot.{line_bit, heard, slotted}
-use Rattle.bench.proofs.Chains.{front_rejoined}
+use Rattle.bench.proofs.Chains.{taken_places, front_rejoined}
 use Rattle.bench.proofs.slot.Goals as goal
 use Rattle.bench.proofs.slot.Goals.{then-not-is_still, else-not-is_still}
 use Rattle.bench.proofs.slot.Goals.{After-places-taken}
 
 -- the places that are gone over are those of the count
-front : (c : After-places-taken) → take c.places-taken.result c.args.bench.devices ≡ take c.args.bench.count c.args.bench.devices
+front : (c : After-places-taken)
+    → take c.places-taken.result c.args.bench.devices ≡ take c.args.bench.count c.args.bench.devices
 front c =
     let long : length c.args.bench.devices ≡ 32 = search rules in
-    rw c.places-taken.ensures.answer (taken-most c.args.bench.count 32 c.args.bench.devices long)
+    taken_places _ 32 _ _ long c.places-taken.ensures.answer
 
 pub loop-d-init : goal.loop-d-init
 unfolding fold
@@ -55,7 +56,8 @@ pub loop-d-2-preserved : goal.loop-d-2-preserved
 loop-d-2-preserved c =
     elim c.if-not-is_still.branch [
       | then-not-is_still w ↦ w.d-items-is ∙ rw (w.hear.ensures.answer, c.loop-d-2.invariant) (front-more _ _ _ _)
-      | else-not-is_still w ↦ w.d-items-is ∙ set-get_or _ _ _ ∙ front_kept _ _ _ _ _ c.loop-d-2.invariant c.loop-d-2-test.true
+      | else-not-is_still w ↦ w.d-items-is ∙ set-get_or _ _ _
+          ∙ front_kept _ _ _ _ _ c.loop-d-2.invariant c.loop-d-2-test.true
           (still-stays _ _ (ap not (sym c.is_still.ensures.answer ∙ w.if-not-is_still.false)))
     ]
 
@@ -70,7 +72,8 @@ returns c =
           let long : length t ≡ 32 = search rules in
           let taken = front (goal.at.returns c).After-places-taken in
           let shown : c.loop-d.line ≡ (a.bit && all offer_of (take n t)) =
-          c.loop-d.invariant.shown ∙ ap (fold (λ b d. b && offer_of d) a.bit) (take_all _ (take p t) c.loop-d-test.false ∙ taken)
+          c.loop-d.invariant.shown
+          ∙ ap (fold (λ b d. b && offer_of d) a.bit) (take_all _ (take p t) c.loop-d-test.false ∙ taken)
           ∙ all-fold offer_of a.bit (take n t) in
           let passed : all (λ d. not (holds_wire d)) (take n t) ≡ true =
           ap (all (λ d. not (holds_wire d))) (sym taken) ∙ sym c.loop-d.invariant.free_on

@@ -1,4 +1,4 @@
-use Rattle.std.proofs.Common.{arith, rules, refl, take_all}
+use Rattle.std.proofs.Common.{arith, rules, refl}
 use Rattle.basic_laws.specs.Fold.{fold}
 use Rattle.basic_laws.specs.FoldLaws.{fold_step}
 use Rattle.master_rules.specs.Pins.{pins_step, nobody_read}
@@ -16,9 +16,8 @@ loop-code-preserved c =
     let inv = c.loop-code.invariant in
     let ended = c.read_one-r.ensures in
     let next = fold_step pins_step (nobody_read a.bench) c.loop-code.code-index a.codes.now 0 c.loop-code-test.true in
-    record { few = omega (arith, ended.0); as_long = search rules; holds = rw (← next) (ended.1 a.list.now _ inv.holds) }
-
-pub returns : goal.returns
-returns c =
-    let whole = take_all c.loop-code.code-index c.args.codes.now c.loop-code-test.false in
-    rw whole at c.loop-code.invariant.holds
+    record {
+      few = omega (arith, ended.0);
+      as_long = search rules;
+      holds = rw (← next) (ended.1 a.list.now _ inv.holds);
+    }

@@ -1,11 +1,7 @@
-use mathlib.Core.Path.{refl, sym, ◌∙◌}
+use mathlib.Core.Path.{sym, ◌∙◌}
 use Rattle.pins.specs.ReadingLaws.{shared-here, shared-on, shared-none}
 use borrow.Author.Rules.{rules}
 use Rattle.pins.proofs.shared_pin.Goals as goal
-
-pub loop-pin-init : goal.loop-pin-init
-loop-pin-init c =
-    refl
 
 pub returns-then-have-gt1 : goal.returns-then-have-gt1
 returns-then-have-gt1 c =

@@ -1,7 +1,6 @@
 -- One law of the definition for each of the ways a search can end.
 use mathlib.Core.Bool.{true, false}
 use mathlib.Core.Path.{◌≡◌, ap, sym, ◌∙◌}
-use native.Mathlib.Omega.{arith}
 use borrow.Author.Tests.{not-true, not-false}
 use Rattle.basic_laws.specs.LaidLaws.{laid_none}
 use Rattle.bench.specs.Slot.{reset_done}
@@ -31,10 +30,6 @@ returns-then-not-r c =
     let gone : (reset_done c.args.bench).presence ≡ false =
     rw (← c.reset-r.ensures.answer) (not-true c.reset-r.result.presence c.if-not-r.true) in rw (nobody-there c.args.command c.args.bench _ _ c.if-list-lt-FEWEST_PLACES.false c.if-recording-lt-FEWEST_BYTES.false
     (sym c.is_free.ensures.answer ∙ c.if-not-is_free.false) gone) (record { answer = c.record_absence.ensures.answer ∙ ap (λ b. answer_of (lonely_outcome b.bench)) c.reset-r.ensures.answer; listed = laid_none _ _; written = c.record_absence.ensures.written })
-
-pub sweep_wire-s-requires : goal.sweep_wire-s-requires
-sweep_wire-s-requires c =
-    (ap (λ b. b.bench) c.reset-r.ensures.answer, omega arith, omega arith)
 
 pub returns : goal.returns
 returns c =

@@ -1,4 +1,4 @@
-use Rattle.std.proofs.Common.{◌≡◌, ◌∙◌, ap, sym, refl, arith, lit<, false, ◌-◌, ◌+◌}
+use Rattle.std.proofs.Common.{◌≡◌, ◌∙◌, ap, sym, refl, lit<, false, ◌-◌, ◌+◌}
 use Rattle.std.proofs.lemmas.Bool.{not-true, not-false}
 use Rattle.search_laws.specs.SearchLoop.{turns-over}
 use Rattle.basic_laws.specs.Bits.{bits_of}
@@ -8,11 +8,6 @@ use Rattle.search.specs.Sweep.{swept_all, no_pass, sweeping-start, sweeping-as, 
 use Rattle.search.specs.declared.Sweep.{Sweep}
 use Rattle.search.proofs.sweep_wire.Goals as goal
 use Rattle.search.proofs.sweep_wire.Goals.{Then-not-s}
-
-pub turn-s-requires : goal.turn-s-requires
-turn-s-requires c =
-    let k = sweeping-start c.args.command c.args.bench c.args.list.now c.args.recording.now in
-    (k.counted, lit< tt, c.requires.1, c.requires.2)
 
 pub loop-init : goal.loop-init
 loop-init c =
@@ -27,19 +22,15 @@ loop-init c =
 over : (c : Then-not-s) → c.loop.invariant.made ≡ swept_all c.args.command c.args.bench
 over c =
     let k = c.loop.invariant in
-    let ended : k.made.going ≡ false = sym (ap (λ (u : Sweep). u.going) k.is) ∙ not-true c.loop.s.going c.if-not-s.true in
+    let ended : k.made.going ≡ false =
+    sym (ap (λ (u : Sweep). u.going) k.is) ∙ not-true c.loop.s.going c.if-not-s.true in
     sym (turns-over calls (bits_of 8 c.args.command) code_length (most_passes - c.loop.counter) k.made ended) ∙ k.comes
 
 pub returns-then-not-s : goal.returns-then-not-s
 returns-then-not-s c =
     let k = c.loop.invariant in
-    rw (← over (goal.at.returns-then-not-s c).Then-not-s) (record { answer = k.is; listed = k.list-is; written = k.recording-is })
-
-pub turn-s-requires-in-loop : goal.turn-s-requires-in-loop
-turn-s-requires-in-loop c =
-    let k = c.loop.invariant in
-    let few = k.few in
-    (k.counted, omega arith, omega arith, omega arith)
+    rw (← over (goal.at.returns-then-not-s c).Then-not-s)
+    (record { answer = k.is; listed = k.list-is; written = k.recording-is })
 
 pub loop-preserved : goal.loop-preserved
 loop-preserved c =

@@ -21,10 +21,6 @@ returns-then-version-entry c =
       );
     }
 
-pub change_entry-requires : goal.change_entry-requires
-change_entry-requires c =
-    c.locate-found.ensures.within
-
 pub returns : goal.returns
 unfolding settings_changed
 returns c =

@@ -2,23 +2,21 @@ use Rattle.std.proofs.Common.{rules, tests, ◌≡◌, ◌∙◌, sym, ap, lengt
 use Rattle.std.specs.Prelude.{position}
 use Rattle.std.proofs.lemmas.Iterator.{YieldsList-from_slice}
 use Rattle.std.proofs.lemmas.Iterator.Search.{position_from_yields_List}
-use Rattle.bench.specs.Taken.{taken-most}
-use Rattle.bench.proofs.Chains.{first-found, first-missed}
+use Rattle.bench.proofs.Chains.{taken_places, first-found, first-missed}
 use Rattle.settings.specs.Store.{kept_at}
 use Rattle.settings.specs.declared.Kept.TheVariants.{At, Nowhere}
 use Rattle.settings.proofs.find.Goals as goal
 use Rattle.settings.proofs.find.Goals.{After-position}
 
 -- std's word for the answer
-found : (c : After-position) → c.position.result ≡ position (λ e. eqb e.code c.args.code) (take c.args.store.count c.args.store.entries)
+found : (c : After-position)
+    → c.position.result ≡ position (λ e. eqb e.code c.args.code) (take c.args.store.count c.args.store.entries)
 found c =
     let a = c.args in
     let long : length a.store.entries ≡ 32 = search rules in
-    let front : take c.min-taken.result a.store.entries ≡ take a.store.count a.store.entries =
-    rw c.min-taken.ensures (taken-most a.store.count 32 a.store.entries long) in
     position_from_yields_List (λ e. eqb e.code a.code) _ _ c.position.result c.position.ensures.ran
     (YieldsList-from_slice (take c.min-taken.result a.store.entries) (cc)) (λ x b q k. search (rules, tests))
-    ∙ ap (position (λ e. eqb e.code a.code)) front
+    ∙ ap (position (λ e. eqb e.code a.code)) (taken_places _ 32 _ _ long c.min-taken.ensures)
 
 pub returns-in-Some : goal.returns-in-Some
 unfolding kept_at

@@ -1,50 +1,41 @@
 -- The tests come in the order of the refusals: the code itself, then whether it is there. A place that was found lies
--- within the table, and so does 0.
+-- within the table.
 use mathlib.Core.Path.{◌≡◌, sym, ◌∙◌}
 use lib.ListN.{length}
 use Rattle.settings.specs.Calls.{located}
-use Rattle.settings.specs.StoreLaws.{kept-within, located-within}
+use Rattle.settings.specs.StoreLaws.{kept-within}
 use borrow.Author.Tests.{eq-eqb, ne_eqb}
 use borrow.Author.Rules.{rules}
 use Rattle.settings.proofs.locate.Goals as goal
 
-pub returns-then-refusal-ne-ACCEPTED : goal.returns-then-refusal-ne-ACCEPTED
+pub returns-then-refusal-ne-ACCEPTED-clause-answer : goal.returns-then-refusal-ne-ACCEPTED-clause-answer
 unfolding located
-returns-then-refusal-ne-ACCEPTED c =
-    let long : length c.args.store.entries ≡ 32 = search rules in
-    let is : c.miss.result ≡ located c.args.store c.args.code =
-    simp (← c.refusal_of-refusal.ensures.answer, ne_eqb _ _ c.if-refusal-ne-ACCEPTED.true, c.miss.ensures) in
-    record { answer = is; within = rw is (located-within c.args.store c.args.code long) }
+returns-then-refusal-ne-ACCEPTED-clause-answer c =
+    simp (← c.refusal_of-refusal.ensures.answer, ne_eqb _ _ c.if-refusal-ne-ACCEPTED.true, c.miss.ensures)
 
 pub locate_at-requires : goal.locate_at-requires
 locate_at-requires c =
     let long : length c.args.store.entries ≡ 32 = search rules in
     kept-within c.args.store c.args.code _ long (sym c.find-kept.ensures ∙ c.in-At.is)
 
-pub returns-in-At : goal.returns-in-At
+pub returns-in-At-clause-answer : goal.returns-in-At-clause-answer
 unfolding located
-returns-in-At c =
-    let long : length c.args.store.entries ≡ 32 = search rules in
-    let is : c.locate_at.result ≡ located c.args.store c.args.code =
+returns-in-At-clause-answer c =
     simp (
       ← c.refusal_of-refusal.ensures.answer,
       eq-eqb _ _ c.if-refusal-ne-ACCEPTED.false,
       ← c.find-kept.ensures,
       c.in-At.is,
       c.locate_at.ensures,
-    ) in
-    record { answer = is; within = rw is (located-within c.args.store c.args.code long) }
+    )
 
-pub returns-in-Nowhere : goal.returns-in-Nowhere
+pub returns-in-Nowhere-clause-answer : goal.returns-in-Nowhere-clause-answer
 unfolding located
-returns-in-Nowhere c =
-    let long : length c.args.store.entries ≡ 32 = search rules in
-    let is : c.miss-in-Nowhere.result ≡ located c.args.store c.args.code =
+returns-in-Nowhere-clause-answer c =
     simp (
       ← c.refusal_of-refusal.ensures.answer,
       eq-eqb _ _ c.if-refusal-ne-ACCEPTED.false,
       ← c.find-kept.ensures,
       c.in-Nowhere.is,
       c.miss-in-Nowhere.ensures,
-    ) in
-    record { answer = is; within = rw is (located-within c.args.store c.args.code long) }
+    )

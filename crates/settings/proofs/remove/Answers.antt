@@ -8,10 +8,6 @@ unfolding settings_removed
 returns-then-found-ne-ACCEPTED c =
     record { answer = simp (← c.locate-found.ensures.answer, ne_eqb _ _ c.if-found-ne-ACCEPTED.true) }
 
-pub put-requires : goal.put-requires
-put-requires c =
-    c.locate-found.ensures.within
-
 pub returns : goal.returns
 unfolding settings_removed
 returns c =

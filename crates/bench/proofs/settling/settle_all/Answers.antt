@@ -1,4 +1,4 @@
-use Rattle.std.proofs.Common.{arith, rules, ◌≡◌, ◌∙◌, ap, sym, length, not}
+use Rattle.std.proofs.Common.{rules, ◌≡◌, ◌∙◌, ap, sym, length, not}
 use Rattle.std.proofs.lemmas.List.{set-get_or}
 use Rattle.basic_laws.specs.FrontLaws.{front-none, front-more}
 use Rattle.bench.specs.Taken.{front_kept}
@@ -16,7 +16,8 @@ loop-d-preserved c =
     let quiet = ap not (sym c.is_quiet.ensures.answer) in
     elim c.if-not-is_quiet.branch [
       | then-not-is_quiet w ↦ w.d-items-is ∙ rw (w.settled.ensures.answer, c.loop-d.invariant) (front-more _ _ _ _)
-      | else-not-is_quiet w ↦ w.d-items-is ∙ set-get_or _ _ _ ∙ front_kept _ _ _ _ _ c.loop-d.invariant c.loop-d-test.true
+      | else-not-is_quiet w ↦ w.d-items-is ∙ set-get_or _ _ _
+          ∙ front_kept _ _ _ _ _ c.loop-d.invariant c.loop-d-test.true
           (settled-quiet c.args.place c.args.bit _ (quiet ∙ ap not w.if-not-is_quiet.false))
     ]
 
@@ -24,5 +25,6 @@ pub returns : goal.returns
 returns c =
     record {
       answer = let long : length c.args.devices ≡ 32 = search rules in
-          front_rejoined (settled_of c.args.place c.args.bit) _ 32 _ _ _ _ long c.places.ensures.answer c.loop-d.invariant (omega arith);
+          front_rejoined (settled_of c.args.place c.args.bit) _ 32 _ _ _ _ long c.places.ensures.answer
+          c.loop-d.invariant c.loop-d-test.false;
     }

@@ -3,9 +3,8 @@ use Rattle.std.proofs.Common.{rules, tests, ◌≡◌, ◌∙◌, ap, take, leng
 use Rattle.std.proofs.lemmas.Iterator.{YieldsList-from_slice}
 use Rattle.std.proofs.lemmas.Iterator.Search.{all_from_yields_List}
 use Rattle.basic_laws.specs.Fold.{all}
-use Rattle.bench.specs.Taken.{taken-most}
 use Rattle.device.specs.Record.{holds_wire}
-use Rattle.bench.proofs.Chains.{all-listed}
+use Rattle.bench.proofs.Chains.{all-listed, taken_places}
 use Rattle.bench.proofs.wire.is_free.Goals as goal
 
 pub returns : goal.returns
@@ -13,9 +12,7 @@ returns c = record {
   answer =
       let a = c.args in
       let long : length a.devices ≡ 32 = search rules in
-      let front : take c.places.result a.devices ≡ take a.count a.devices =
-      rw c.places.ensures.answer (taken-most a.count 32 a.devices long) in
       all_from_yields_List (λ d. not (holds_wire d)) _ _ _ c.all.ensures.ran
       (YieldsList-from_slice (take c.places.result a.devices) (cc)) (λ x b q k. search (rules, tests))
-      ∙ all-listed _ _ ∙ ap (all (λ d. not (holds_wire d))) front;
+      ∙ all-listed _ _ ∙ ap (all (λ d. not (holds_wire d))) (taken_places _ 32 _ _ long c.places.ensures.answer);
 }

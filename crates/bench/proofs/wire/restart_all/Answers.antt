@@ -1,4 +1,4 @@
-use Rattle.std.proofs.Common.{arith, rules, ◌≡◌, length}
+use Rattle.std.proofs.Common.{rules, ◌≡◌, length}
 use Rattle.basic_laws.specs.FrontLaws.{front-none, front-more}
 use Rattle.device.specs.Power.{reset_of}
 use Rattle.bench.proofs.Chains.{front_rejoined}
@@ -16,5 +16,5 @@ pub returns : goal.returns
 returns c =
     record {
       answer = let long : length c.args.devices ≡ 32 = search rules in
-          front_rejoined reset_of _ 32 _ _ _ _ long c.places.ensures.answer c.loop-d.invariant (omega arith);
+          front_rejoined reset_of _ 32 _ _ _ _ long c.places.ensures.answer c.loop-d.invariant c.loop-d-test.false;
     }

@@ -17,12 +17,8 @@ returns-then-not-w c =
       answer = let k = c.loop-place.invariant in
           let silent : k.walked.answered ≡ false =
           sym (ap (λ (u : Walk). u.answered) k.is) ∙ not-true c.loop-place.w.answered c.if-not-w.true in
-          k.is ∙ ap walk_of (sym (steps-over calls c.args.previous c.args.departure _ c.loop-place.place k.walked silent) ∙ k.comes);
+          k.is ∙ ap walk_of (sym (steps-over calls c.args.previous c.args.departure _ _ k.walked silent) ∙ k.comes);
     }
-
-pub take_bit-w-requires : goal.take_bit-w-requires
-take_bit-w-requires c =
-    (c.loop-place-test.true, c.loop-place.invariant.small)
 
 pub loop-place-preserved : goal.loop-place-preserved
 loop-place-preserved c =
