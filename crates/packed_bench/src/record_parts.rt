@@ -1,7 +1,7 @@
 // The parts of a device's record as bytes, and the part that bytes hold: an enum as the number of its
 // case with the numbers that the case holds. Reading refuses nothing: a number past the last case is
 // taken as the last one. Who packs what was read and compares finds the bytes that no part has.
-ghost use Rattle.std.specs.Prelude.{◌+◌, ◌*◌, ◌<◌, ◌≡◌};
+ghost use Rattle.std.specs.Prelude.{◌≡◌};
 ghost use Rattle.basic_laws.specs.Complement.{Fits16};
 ghost use Rattle.temperature.specs.Register.{count_of};
 ghost use Rattle.packed_bench.specs.Bytes.{eight_at, code_bytes, code_from_bytes};

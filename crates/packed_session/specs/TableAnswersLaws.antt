@@ -3,8 +3,8 @@
 --     text-turn, text-end            the text put line by line: what stands there with the rest laid behind it is the
 --                                    whole
 --     entry-within, entry-is, entry-behind
---                                    an entry cut off those that are left: there is one, it is the next of the table, and
---                                    what is left behind it
+--                                    an entry cut off those that are left: there is one, it is the next of the table,
+--                                    and what is left behind it
 --     line-told, line-laid           a line at the front of what is lent, where there is room
 use Rattle.std.specs.Prelude.{ℕ, zero, suc, ◌+◌, ◌*◌, ◌-◌, ◌<◌, ◌≤◌, ◌≡◌, refl, true, List, ◌++◌, length, take, drop}
 use Rattle.std.proofs.Common.{sym, ap, ◌∙◌, arith, le-leb, length-append, length-drop, drop-drop, length-take-le}

@@ -11,7 +11,8 @@ use Rattle.lines.specs.WordsLaws.{words-split}
 use Rattle.lines.proofs.words.word.Goals as goal
 
 -- what stands behind a reference where there is one
-behind : (r : Option (Bor (List ℕ))) (d : Bor (List ℕ)) → (unwrap_or r d).now ≡ unwrap_or (option_map (λ x. x.now) r) d.now
+behind : (r : Option (Bor (List ℕ))) (d : Bor (List ℕ))
+    → (unwrap_or r d).now ≡ unwrap_or (option_map (λ x. x.now) r) d.now
 behind None d = refl
 behind (Some x) d = refl
 

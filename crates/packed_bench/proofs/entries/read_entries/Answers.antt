@@ -6,15 +6,17 @@ use Rattle.packed_bench.proofs.entries.read_entries.Goals as goal
 pub returns-then-device-eq0-clause-answer : goal.returns-then-device-eq0-clause-answer
 returns-then-device-eq0-clause-answer c =
     let is = c.fields-device.ensures.answer ∙ ap fields_of c.entry_at.ensures.answer in
-    sym (c.loop-place.invariant.1 ∙ read-stop c.args.t.now c.loop-place.devices c.loop-place.place c.fields-device.result is
-    c.loop-place-test.true c.if-device-eq0.true)
+    let l = c.loop-place in
+    sym (l.invariant.1
+    ∙ read-stop c.args.t.now l.devices l.place c.fields-device.result is c.loop-place-test.true c.if-device-eq0.true)
 
 pub loop-place-preserved : goal.loop-place-preserved
 loop-place-preserved c =
-    let is = c.fields-device.ensures.answer ∙ ap fields_of c.entry_at.ensures.answer in (
-      length-set _ _ _ ∙ c.loop-place.invariant.0,
-      c.loop-place.invariant.1 ∙ read-turn c.args.t.now c.loop-place.devices c.loop-place.place c.fields-device.result is
-          c.loop-place-test.true c.loop-place.invariant.0 c.if-device-eq0.false,
+    let is = c.fields-device.ensures.answer ∙ ap fields_of c.entry_at.ensures.answer in
+    let l = c.loop-place in (
+      length-set _ _ _ ∙ l.invariant.0,
+      l.invariant.1 ∙ read-turn c.args.t.now l.devices l.place c.fields-device.result is c.loop-place-test.true
+          l.invariant.0 c.if-device-eq0.false,
     )
 
 pub returns-clause-answer : goal.returns-clause-answer

@@ -1,4 +1,5 @@
--- The loop's invariant: the devices have 32 places; those so far, and those of the entries from this place on, are the devices of the bytes.
+-- The loop's invariant: the devices have 32 places; those so far, and those of the entries from this place on, are the
+-- devices of the bytes.
 use Rattle.std.proofs.Common.{◌≡◌, ◌*◌, ◌-◌, ◌++◌, length, take, drop}
 use Rattle.packed_bench.specs.Table.{devices_in}
 use Rattle.packed_bench.proofs.entries.read_entries.Given as goal

@@ -1,4 +1,5 @@
-use Rattle.std.proofs.Common.{◌+◌, ◌*◌, ◌-◌, ◌≤◌, ◌<◌, ◌≡◌, ◌∙◌, sym, ap, arith, length, take, drop, length-take, get_or-take}
+use Rattle.std.proofs.Common.{◌+◌, ◌*◌, ◌-◌, ◌≤◌, ◌<◌, ◌≡◌, ◌∙◌, sym, ap, arith, length, take, drop, length-take}
+use Rattle.std.proofs.Common.{get_or-take}
 use Rattle.basic_laws.specs.Laid.{laid}
 use Rattle.packed_bench.specs.Types.{InTypes}
 use Rattle.bench.specs.Bench.{vacant}

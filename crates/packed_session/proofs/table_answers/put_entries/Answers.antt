@@ -1,4 +1,5 @@
-use Rattle.std.proofs.Common.{◌≡◌, ◌+◌, ◌*◌, ◌-◌, [], ◌∷◌, ◌++◌, ◌∙◌, sym, ap, arith, length, take, drop, length-append, length-drop, length-take-le}
+use Rattle.std.proofs.Common.{◌≡◌, ◌+◌, ◌*◌, ◌-◌, [], ◌∷◌, ◌++◌, ◌∙◌, sym, ap, arith, length, take, drop}
+use Rattle.std.proofs.Common.{length-append, length-drop, length-take-le}
 use Rattle.text.specs.Digits.{hex_of}
 use Rattle.text.specs.Lines.{line_feed}
 use Rattle.basic_laws.specs.Laid.{laid}
