@@ -34,11 +34,7 @@ fn put(out: &mut [u8], at: usize, text: &[u8])
     requires { at + length text.now ≤ length out.old }
     ensures { out.new ≡ laid out.old at text.now }
 {
-    let mut i: usize = 0;
-    while i < text.len() {
-        out[at + i] = text[i];
-        i += 1;
-    }
+    out[at..at + text.len()].copy_from_slice(text);
 }
 
 // Some characters, laid at a place.
@@ -63,12 +59,27 @@ fn put_digits(out: &mut [u8], at: usize, base: u64, count: usize, number: u64)
     requires { (0 < base) × (base ≤ 16) × (at + count ≤ length out.old) }
     ensures { out.new ≡ laid out.old at (digits base count number) }
 {
-    let mut left = count;
     let mut rest = number;
-    while 0 < left {
-        left -= 1;
-        out[at + left] = crate::digit((rest % base) as u8);
+    for i in (0..count).rev() {
+        out[at + i] = crate::digit((rest % base) as u8);
         rest = rest / base;
+    }
+}
+
+// The lowest digits of a number in a base, laid at a place.
+fn lay_digits(out: &mut [u8], at: usize, base: u64, count: usize, number: u64) -> Written
+    requires { (0 < base) × (base ≤ 16) }
+    ensures answer { result ≡ lay_answer out.old at (digits base count number) }
+    ensures written { out.new ≡ lay_leaves out.old at (digits base count number) }
+{
+    let room = has_room(out, at, count);
+    if !room {
+        return refuse(refusals::NO_ROOM);
+    }
+    put_digits(out, at, base, count, number);
+    Written {
+        refusal: refusals::ACCEPTED,
+        next: at + count,
     }
 }
 
@@ -77,15 +88,7 @@ pub fn lay_hex(out: &mut [u8], at: usize, count: usize, number: u64) -> Written
     ensures answer { result ≡ lay_answer out.old at (hex_digits count number) }
     ensures written { out.new ≡ lay_leaves out.old at (hex_digits count number) }
 {
-    let room = has_room(out, at, count);
-    if !room {
-        return refuse(refusals::NO_ROOM);
-    }
-    put_digits(out, at, 16, count, number);
-    Written {
-        refusal: refusals::ACCEPTED,
-        next: at + count,
-    }
+    lay_digits(out, at, 16, count, number)
 }
 
 // The lowest decimal digits of a number, laid at a place.
@@ -93,15 +96,7 @@ pub fn lay_decimals(out: &mut [u8], at: usize, count: usize, number: u64) -> Wri
     ensures answer { result ≡ lay_answer out.old at (digits 10 count number) }
     ensures written { out.new ≡ lay_leaves out.old at (digits 10 count number) }
 {
-    let room = has_room(out, at, count);
-    if !room {
-        return refuse(refusals::NO_ROOM);
-    }
-    put_digits(out, at, 10, count, number);
-    Written {
-        refusal: refusals::ACCEPTED,
-        next: at + count,
-    }
+    lay_digits(out, at, 10, count, number)
 }
 
 // A number in plain decimal, laid at a place.
@@ -110,26 +105,14 @@ pub fn lay_decimal(out: &mut [u8], at: usize, number: u64) -> Written
     ensures written { out.new ≡ lay_leaves out.old at (decimal number) }
 {
     let count = crate::decimal_length(number);
-    let room = has_room(out, at, count);
-    if !room {
-        return refuse(refusals::NO_ROOM);
-    }
-    put_digits(out, at, 10, count, number);
-    Written {
-        refusal: refusals::ACCEPTED,
-        next: at + count,
-    }
+    lay_digits(out, at, 10, count, number)
 }
 
 // How far a number is from zero.
 pub fn size_of(number: i32) -> u64
     ensures answer { result ≡ nat_abs number }
 {
-    let wide = number as i64;
-    if 0 <= wide {
-        return wide as u64;
-    }
-    (0 - wide) as u64
+    u64::from(number.unsigned_abs())
 }
 
 // A minus and a number, laid at a place.
@@ -162,11 +145,8 @@ fn put_hex_bytes(out: &mut [u8], at: usize, bytes: &[u8])
     requires { at + 2 * length bytes.now ≤ length out.old }
     ensures { out.new ≡ laid out.old at (hex_of bytes.now) }
 {
-    let mut i: usize = 0;
-    while i < bytes.len() {
-        let byte = bytes[i] as u64;
-        put_digits(out, at + 2 * i, 16, 2, byte);
-        i += 1;
+    for (i, &byte) in bytes.iter().enumerate() {
+        put_digits(out, at + 2 * i, 16, 2, byte as u64);
     }
 }
 
@@ -201,11 +181,8 @@ fn decode(out: &mut [u8], s: &[u8])
     requires { (length s.now / 2 ≤ length out.old) × (spells 16 s.now ≡ true) }
     ensures { out.new ≡ laid out.old 0 (bytes_of s.now) }
 {
-    let count = s.len() / 2;
-    let mut i: usize = 0;
-    while i < count {
+    for i in 0..s.len() / 2 {
         out[i] = byte_at(s, 2 * i);
-        i += 1;
     }
 }
 

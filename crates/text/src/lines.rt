@@ -1,23 +1,32 @@
 // Lines of a text.
-ghost use Rattle.std.specs.Prelude.{◌≡◌, ◌+◌, length, drop};
+ghost use Rattle.std.specs.Prelude.{◌≡◌, ◌+◌, ◌==◌, ◌≤◌, length, drop, position};
 ghost use Rattle.basic_laws.specs.Same.{same};
-ghost use Rattle.text.specs.Lines.{feed_at, first_line, lines_of, width};
+ghost use Rattle.text.specs.Lines.{line_feed, feed_at, first_line, lines_of, width};
 
 use crate::LINE_FEED;
+
+fn first_feed(s: &[u8]) -> Option<usize>
+    ensures { result ≡ position (λ c. c == line_feed) s.now }
+{
+    s.iter().position(|&c| c == LINE_FEED)
+}
+
+fn before_feed(s: &[u8]) -> usize
+    ensures count { result ≡ feed_at s.now }
+    ensures within { result ≤ length s.now }
+{
+    first_feed(s).unwrap_or(s.len())
+}
 
 // Where the line that starts at a place ends: at its feed, or at the end of the data. Past the end it
 // is the place itself.
 pub fn line_end(s: &[u8], at: usize) -> usize
     ensures answer { result ≡ at + feed_at (drop at s.now) }
 {
-    let mut i = at;
-    while i < s.len() {
-        if s[i] == LINE_FEED {
-            return i;
-        }
-        i += 1;
+    if s.len() < at {
+        return at;
     }
-    i
+    at + before_feed(&s[at..])
 }
 
 // The place behind the line that starts at a place. Past the end it is the place itself.
@@ -45,15 +54,5 @@ pub fn count_lines(s: &[u8]) -> usize
 pub fn same(a: &[u8], b: &[u8]) -> bool
     ensures answer { result ≡ same a.now b.now }
 {
-    if a.len() != b.len() {
-        return false;
-    }
-    let mut i: usize = 0;
-    while i < a.len() {
-        if a[i] != b[i] {
-            return false;
-        }
-        i += 1;
-    }
-    true
+    a == b
 }

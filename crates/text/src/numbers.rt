@@ -37,15 +37,7 @@ pub fn digit(value: u8) -> u8
 pub fn all_digits(s: &[u8], base: u8) -> bool
     ensures answer { result ≡ spells base s.now }
 {
-    let mut i: usize = 0;
-    while i < s.len() {
-        let v = value(s[i]);
-        if base <= v {
-            return false;
-        }
-        i += 1;
-    }
-    true
+    s.iter().all(|&c| value(c) < base)
 }
 
 fn no_number() -> NumberRead
@@ -62,9 +54,8 @@ pub fn read_number(s: &[u8], base: u8, bound: u64) -> NumberRead
     ensures answer { result ≡ number_read base bound s.now }
 {
     let mut number: u64 = 0;
-    let mut i: usize = 0;
-    while i < s.len() {
-        let v = value(s[i]);
+    for &c in s {
+        let v = value(c);
         if base <= v {
             return no_number();
         }
@@ -76,7 +67,6 @@ pub fn read_number(s: &[u8], base: u8, bound: u64) -> NumberRead
             return no_number();
         }
         number = (base as u64) * number + d;
-        i += 1;
     }
     NumberRead {
         valid: true,
@@ -98,10 +88,7 @@ pub fn read_fixed(s: &[u8], base: u8, count: usize) -> NumberRead
 pub fn read_decimal(s: &[u8], most: usize, bound: u64) -> NumberRead
     ensures answer { result ≡ decimal_read most bound s.now }
 {
-    if s.len() < 1 {
-        return no_number();
-    }
-    if most < s.len() {
+    if s.is_empty() || most < s.len() {
         return no_number();
     }
     read_number(s, 10, bound)
@@ -124,27 +111,17 @@ pub fn decimal_length(number: u64) -> usize
 pub fn is_negative(s: &[u8]) -> bool
     ensures answer { result ≡ is_negative s.now }
 {
-    if s.len() < 1 {
-        return false;
-    }
-    s[0] == MINUS
+    s.first() == Some(&MINUS)
 }
 
 // Whether some characters are a number in plain decimal: digits, the first of several no zero.
 pub fn is_plain(s: &[u8]) -> bool
     ensures answer { result ≡ plain_decimal s.now }
 {
-    if s.len() < 1 {
+    if s.is_empty() || !all_digits(s, 10) {
         return false;
     }
-    let spelt = all_digits(s, 10);
-    if !spelt {
-        return false;
-    }
-    if s.len() == 1 {
-        return true;
-    }
-    s[0] != 0x30
+    s.len() == 1 || s[0] != 0x30
 }
 
 // A number in plain decimal of any size, or the bound where it is greater.

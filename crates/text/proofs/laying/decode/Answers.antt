@@ -10,7 +10,7 @@ use Rattle.text.proofs.laying.decode.Goals as goal
 
 pub loop-i-init : goal.loop-i-init
 loop-i-init c =
-    (omega arith, refl, laid_none _ 0)
+    (refl, laid_none _ 0)
 
 pub loop-i-preserved : goal.loop-i-preserved
 loop-i-preserved c =
@@ -21,9 +21,8 @@ loop-i-preserved c =
     let place : i < length c.args.out.now = let room = c.requires.0 in omega arith in
     let pair : 2 * i + 1 < length s = omega arith in
     let front : 0 + i ≡ i = omega arith in (
-      omega arith,
-      simp length-set c.loop-i.invariant.1,
-      rw c.loop-i.invariant.2 (laid_next c.args.out.now 0 (bytes_of s) i i 0 c.byte_at.result front within place
+      simp length-set c.loop-i.invariant.0,
+      rw c.loop-i.invariant.1 (laid_next c.args.out.now 0 (bytes_of s) i i 0 c.byte_at.result front within place
           (c.byte_at.ensures ∙ bytes-at s i pair)),
     )
 
@@ -32,4 +31,4 @@ returns c =
     let s = c.args.s.now in
     let size = bytes-half s in
     let all_laid : length (bytes_of s) ≤ c.loop-i.i = omega arith in
-    c.loop-i.invariant.2 ∙ rw (take_all c.loop-i.i (bytes_of s) all_laid)
+    c.loop-i.invariant.1 ∙ rw (take_all c.loop-i.i (bytes_of s) all_laid)

@@ -3,11 +3,11 @@ use Prim.Native.Nat.{◌+◌, ◌≤◌}
 use mathlib.Core.Path.{sym, ◌∙◌}
 use borrow.Author.Tests.{leb-true}
 use lib.ListN.{length}
-use Rattle.text.specs.Digits.{hex_digits}
+use Rattle.text.specs.Digits.{digits}
 use Rattle.text.specs.DigitsLaws.{digits-length}
 use Rattle.text.proofs.LayingLaws.{lay-short, lay_done}
-use Rattle.text.proofs.laying.lay_hex.Goals as goal
-use Rattle.text.proofs.laying.lay_hex.Goals.{Else-not-room}
+use Rattle.text.proofs.laying.lay_digits.Goals as goal
+use Rattle.text.proofs.laying.lay_digits.Goals.{Else-not-room}
 
 -- behind the test there is room
 room-there : (c : Else-not-room) →
@@ -18,14 +18,14 @@ room-there c =
 
 pub returns-then-not-room : goal.returns-then-not-room
 returns-then-not-room c =
-    let short = lay-short c.args.out.now c.args.at (hex_digits c.args.count c.args.number)
-    c.args.count (sym (digits-length 16 c.args.count c.args.number)) (sym c.has_room-room.ensures.answer
+    let short = lay-short c.args.out.now c.args.at (digits c.args.base c.args.count c.args.number)
+    c.args.count (sym (digits-length c.args.base c.args.count c.args.number)) (sym c.has_room-room.ensures.answer
     ∙ c.if-not-room.true) in
     record { answer = c.refuse.ensures ∙ short.0; written = short.1 }
 
 pub returns : goal.returns
 returns c =
-    let done = lay_done c.args.out.now c.args.at (hex_digits c.args.count c.args.number)
-    c.args.count (sym (digits-length 16 c.args.count c.args.number))
+    let done = lay_done c.args.out.now c.args.at (digits c.args.base c.args.count c.args.number)
+    c.args.count (sym (digits-length c.args.base c.args.count c.args.number))
     (room-there (goal.at.returns c).Else-not-room) in
     record { answer = done.0; written = c.put_digits.ensures ∙ done.1 }
