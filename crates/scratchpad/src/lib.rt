@@ -61,14 +61,7 @@ fn crc_right(pad: NineBytes) -> bool
 fn all_zeros(pad: NineBytes) -> bool
     ensures answer { result ≡ all_zeros pad }
 {
-    let mut i: usize = 0;
-    while i < 9 {
-        if pad[i] != 0 {
-            return false;
-        }
-        i += 1;
-    }
-    true
+    pad.iter().all(|&byte| byte == 0)
 }
 
 fn kind_right(row: Properties, pad: NineBytes) -> bool
