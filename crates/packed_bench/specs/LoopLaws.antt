@@ -1,11 +1,12 @@
 -- Turns of the loops over entries, on plain values.
+--     copy_more                      a copy of the front of a list, one element longer
 --     laid-mid                       a part that is copied over is laid over
 --     entry-there, entry-none        the entry of one place
 --     table-turn, table-end          writing, entry by entry
 --     read-turn, read-stop, read-end reading, entry by entry
 use Prim.Native.Nat.{ℕ, suc, ◌+◌, ◌*◌, ◌-◌, ◌<◌, ◌≤◌}
 use Rattle.std.specs.Prelude.{◌≡◌, refl, List, [], ◌∷◌, ◌++◌, get_or, set, take, drop, replicate}
-use Rattle.std.proofs.Common.{sym, append_assoc, append-nil, length-take, drop_of_length-le, drop-cons, get_or-take}
+use Rattle.std.proofs.Common.{sym, append_assoc, append-nil, length-take, drop_of_length-le, take-suc, drop-cons, get_or-take}
 use native.Mathlib.Omega.{arith}
 use Rattle.std.proofs.Math.Numerals.{add-one}
 use borrow.Author.Tests.{eq-eqb, ne_eqb}
@@ -18,6 +19,10 @@ use Rattle.device.specs.declared.Device.{Device}
 use Rattle.packed_bench.specs.Packed.{packed_device, fields_of}
 use Rattle.packed_bench.specs.Table.{entry_bytes, table_of, devices_in}
 use Rattle.packed_bench.specs.TableLaws.{entry_length, table-length}
+
+pub copy_more : (e s : List ℕ) (i : ℕ) → i < length e → i < length s → take i e ≡ take i s
+    → take (i + 1) (set e i (get_or s i 0)) ≡ take (i + 1) s
+copy_more e s i h k p = rw (add-one i, take-suc-set e i (get_or s i 0) h, take-suc s i 0 k, p)
 
 -- a part that is copied over is laid over
 pub laid-mid : (at k : ℕ) (t e s : List ℕ) → e ≡ s → length s ≡ k → put_mid at k t e ≡ laid t at s
