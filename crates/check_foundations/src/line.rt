@@ -1,61 +1,31 @@
 // One line of output for each thing that is checked: what was asked, what came out, and `ok` where
 // that is what the source says, `WRONG` where it is not.
-use temperature::{HalfDegrees, Reading, Register, Sixteenths};
+use std::io::Result;
+use temperature::{HalfDegrees, Sixteenths};
 
-pub fn say(rt: &impl Print, text: &[u8]) {
-    streams::write_all(rt, text);
-}
-
-fn end(rt: &impl Print, right: bool) {
-    if right {
-        say(rt, b" ok\n");
-    } else {
-        say(rt, b" WRONG\n");
-    }
-}
-
-fn bits_of(bytes: Register) -> u16 {
-    (bytes.low as u16) + 256 * (bytes.high as u16)
-}
-
-fn say_number(rt: &impl Print, z: i16) {
-    let bits = bits_of(temperature::register_of(Reading::InSixteenths(Sixteenths(z)))) as u64;
-    if bits < 32768 {
-        streams::print_decimal(rt, bits);
-    } else {
-        say(rt, b"-");
-        streams::print_decimal(rt, 65536 - bits);
-    }
+fn verdict(right: bool) -> &'static str {
+    if right { "ok" } else { "WRONG" }
 }
 
 // The CRC of some bytes.
-pub fn crc(rt: &impl Print, bytes: &[u8], label: &[u8], right: u8) {
+pub fn crc(rt: &impl Print, bytes: &[u8], label: &str, right: u8) -> Result<()> {
     let got = crc::crc_of(bytes);
-    say(rt, label);
-    say(rt, b": ");
-    streams::print_hex(rt, got as u64, 2);
-    end(rt, got == right);
+    let word = verdict(got == right);
+    println!(rt; "{label}: {got:02x} {word}")
 }
 
 // Half degrees in sixteenths, or a refusal.
-pub fn widened(rt: &impl Print, count: i16, refusal: u8, right: i16) {
+pub fn widened(rt: &impl Print, count: i16, refusal: u8, right: i16) -> Result<()> {
     let got = temperature::to_sixteenths(HalfDegrees(count));
     let number = got.refusal;
-    let wide = got.count;
-    say_number(rt, count);
-    say(rt, b" half degrees: refusal ");
-    streams::print_decimal(rt, number as u64);
-    say(rt, b", ");
-    say_number(rt, wide.0);
-    say(rt, b" sixteenths");
-    end(rt, number == refusal && wide.0 == right);
+    let wide = got.count.0;
+    let word = verdict(number == refusal && wide == right);
+    println!(rt; "{count} half degrees: refusal {number}, {wide} sixteenths {word}")
 }
 
 // The single-precision degrees of a count: exactly those of the source.
-pub fn degrees(rt: &impl Print, label: &[u8], count: i16, right: f32) {
+pub fn degrees(rt: &impl Print, label: &str, count: i16, right: f32) -> Result<()> {
     let got = temperature::to_degrees(Sixteenths(count));
-    say_number(rt, count);
-    say(rt, b" sixteenths are ");
-    say(rt, label);
-    end(rt, got.0 == right);
+    let word = verdict(got.0 == right);
+    println!(rt; "{count} sixteenths are {label} {word}")
 }

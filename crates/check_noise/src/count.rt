@@ -3,17 +3,10 @@ use crate::turn::{POLYNOMIAL, turn};
 use scratchpad::NineBytes;
 
 // How many were refused with 5, and how many not.
-#[derive(Clone, Copy)]
+#[derive(Clone, Copy, Default)]
 pub struct Count {
     pub refused: u32,
     pub passed: u32,
-}
-
-pub fn none() -> Count {
-    Count {
-        refused: 0,
-        passed: 0,
-    }
 }
 
 // One more, by the judgement of a scratchpad of B.
@@ -21,13 +14,13 @@ fn tally(pad: NineBytes, count: Count) -> Count {
     let judged = scratchpad::judge(family::DS18B20, pad);
     if judged.refusal == refusals::WRONG_CRC {
         Count {
-            refused: std::num::wrapping_add_u32(count.refused, 1),
-            passed: count.passed,
+            refused: count.refused.wrapping_add(1),
+            ..count
         }
     } else {
         Count {
-            refused: count.refused,
-            passed: std::num::wrapping_add_u32(count.passed, 1),
+            passed: count.passed.wrapping_add(1),
+            ..count
         }
     }
 }
@@ -38,10 +31,8 @@ pub fn turned(pad: NineBytes, before: u8, bits: u8, count: Count) -> Count {
         return tally(pad, count);
     }
     let mut all = count;
-    let mut place: u8 = 0;
-    while place < before {
+    for place in 0..before {
         all = turned(turn(pad, place, 1), place, bits - 1, all);
-        place += 1;
     }
     all
 }
@@ -60,34 +51,19 @@ fn bursts_at(place: u8) -> u8 {
 
 // Every burst that begins at a place.
 fn bursts_from(pad: NineBytes, place: u8, count: Count) -> Count {
-    let many = bursts_at(place);
-    let mut all = count;
-    let mut others: u8 = 0;
-    while others < many {
-        all = tally(turn(pad, place, 2 * (others as u16) + 1), all);
-        others += 1;
-    }
-    all
+    (0..bursts_at(place)).fold(count, |all, others| {
+        tally(turn(pad, place, 2 * (others as u16) + 1), all)
+    })
 }
 
 // Every burst: at least one bit turned, and all within eight neighbours.
 pub fn bursts(pad: NineBytes) -> Count {
-    let mut all = none();
-    let mut place: u8 = 0;
-    while place < 72 {
-        all = bursts_from(pad, place, all);
-        place += 1;
-    }
-    all
+    (0..72).fold(Count::default(), |all, place| bursts_from(pad, place, all))
 }
 
 // The polynomial at every place that has eight more behind it.
 pub fn polynomials(pad: NineBytes) -> Count {
-    let mut all = none();
-    let mut place: u8 = 0;
-    while place < 64 {
-        all = tally(turn(pad, place, POLYNOMIAL), all);
-        place += 1;
-    }
-    all
+    (0..64).fold(Count::default(), |all, place| {
+        tally(turn(pad, place, POLYNOMIAL), all)
+    })
 }

@@ -2,132 +2,71 @@
 // only moves bytes; where they part, and what is printed, is decided by the libraries.
 #![tactic(auto)]
 
-ghost use Rattle.std.specs.Prelude.{◌≡◌, ◌≤◌, length};
+ghost use Rattle.std.specs.Prelude.{◌≡◌, ◌≤◌, length, IfOk, IfSome};
 ghost use Rattle.comparing.specs.Departure.{part_of};
 ghost use Rattle.comparing.specs.Heading.{heading_for};
 
 use comparing::answers;
 use std::env::Env;
-use std::io::{Error, Read};
+use std::io::Result;
 use std::rt::Files;
+use streams::{MOST, ROOM};
 
-// The most bytes of a recording, 2 MiB, and one more, by which a longer file is told.
-const MOST: usize = 2097152;
-
-const ROOM: usize = 2097153;
-
-// What was read of an opened file: the error of the last read, if there was one, and how many bytes stand
-// at the front of the buffer.
+// The bytes of the file that an argument names, and the number of the argument.
 #[derive(Clone, Copy)]
-struct Filled {
-    error: Option<Error>,
-    count: usize,
-}
-
-// What was read of a file: whether all went well, and how many bytes stand at the front of the buffer.
-#[derive(Clone, Copy)]
-struct Loaded {
-    sound: bool,
-    count: usize,
-}
-
-// The file of an argument: its number, whether all went well, and how many bytes it has.
-#[derive(Clone, Copy)]
-struct File {
+struct File<'a> {
     argument: usize,
-    sound: bool,
-    count: usize,
+    bytes: &'a [u8],
 }
 
-// Reads once, behind the bytes that are there.
-fn read_behind(file: &mut impl Read, buffer: &mut [u8], held: usize) -> Filled
-    requires { held ≤ length buffer.old }
-    ensures answer { (held ≤ result.count) × (result.count ≤ length buffer.old) }
+// Reads the file of a name, and answers how many bytes stand at the front of the buffer.
+fn read_named(rt: &impl Files, name: &[u8], buffer: &mut [u8]) -> Result<usize>
+    ensures { IfOk result (λ n. n ≤ length buffer.new) }
 {
-    match file.read(&mut buffer[held..]) {
-        Ok(came) => Filled {
-            error: None,
-            count: held + came,
-        },
-        Err(error) => Filled {
-            error: Some(error),
-            count: held,
-        },
+    let mut file = streams::open(rt, name)?;
+    let read = streams::fill(&mut file, buffer);
+    match read.error {
+        None => Ok(read.count),
+        Some(error) => Err(error),
     }
 }
 
-// Reads to the end of the file, or until the buffer is full.
-fn fill(file: &mut impl Read, buffer: &mut [u8]) -> Filled
-    ensures answer { result.count ≤ length buffer.old }
+// The same for a file that is not too long; what is wrong with it is said.
+fn load_named(rt: &impl Files, errors: &impl Print, name: &[u8], buffer: &mut [u8]) -> Option<usize>
+    ensures { IfSome result (λ n. n ≤ length buffer.new) }
 {
-    let mut count: usize = 0;
-    while count < buffer.len() {
-        let read = read_behind(file, buffer, count);
-        if read.count <= count {
-            return read;
+    match read_named(rt, name, buffer) {
+        Ok(count) => {
+            if count <= MOST {
+                return Some(count);
+            }
+            streams::tell_too_long(errors, name);
         }
-        count = read.count;
+        Err(error) => streams::fail(errors, name, error),
     }
-    Filled { error: None, count }
-}
-
-fn say(errors: &impl Print, message: &[u8]) {
-    streams::write_all(errors, message);
-}
-
-// The file of a name; what is wrong with it is said.
-fn load_named(rt: &impl Files, errors: &impl Print, name: &[u8], buffer: &mut [u8]) -> Loaded
-    ensures answer { result.count ≤ length buffer.old }
-{
-    let mut file = match streams::open(rt, name) {
-        Ok(file) => file,
-        Err(error) => {
-            streams::fail(errors, name, error);
-            return Loaded {
-                sound: false,
-                count: 0,
-            };
-        }
-    };
-    let read = fill(&mut file, buffer);
-    if let Some(error) = read.error {
-        streams::fail(errors, name, error);
-    }
-    if MOST < read.count {
-        say(errors, name);
-        say(errors, b": longer than 2097152 bytes\n");
-        return Loaded {
-            sound: false,
-            count: 0,
-        };
-    }
-    Loaded {
-        sound: read.error.is_none(),
-        count: read.count,
-    }
+    None
 }
 
 // The file that an argument names.
-fn load(rt: &(impl Env + Files), errors: &impl Print, argument: usize, buffer: &mut [u8]) -> File
-    ensures answer { (result.argument ≡ argument) × (result.count ≤ length buffer.old) }
+fn load<'a>(
+    rt: &(impl Env + Files),
+    errors: &impl Print,
+    argument: usize,
+    buffer: &'a mut [u8],
+) -> Option<File<'a>>
+    ensures { IfSome result (λ file. file.argument ≡ argument) }
 {
     let mut name = [0u8; 4096];
-    let length = match streams::arg(rt, argument, &mut name) {
-        Ok(length) => length,
+    match streams::arg(rt, argument, &mut name) {
+        Ok(length) => {
+            let count = load_named(rt, errors, &name[..length], buffer)?;
+            let bytes = &buffer[..count];
+            Some(File { argument, bytes })
+        }
         Err(error) => {
             streams::fail(errors, b"file name", error);
-            return File {
-                argument,
-                sound: false,
-                count: 0,
-            };
+            None
         }
-    };
-    let read = load_named(rt, errors, &name[..length], buffer);
-    File {
-        argument,
-        sound: read.sound,
-        count: read.count,
     }
 }
 
@@ -136,23 +75,22 @@ fn write_shown(rt: &impl Print, reference: &[u8], other: &[u8], heading: &[u8], 
     requires { (heading.now ≡ heading_for reference.now other.now)
         × (part.now ≡ part_of reference.now other.now) }
 {
-    let written = streams::write_all(rt, heading);
-    if written {
+    if streams::write_all(rt, heading) {
         streams::write_all(rt, part);
     }
 }
 
 // The bytes of the first file are the reference, those of the second the other.
-fn show<'a>(rt: &impl Print, first: File, reference: &'a [u8], second: File, other: &'a [u8])
-    requires { (first.argument ≡ 1) × (length reference.now ≡ first.count) × (second.argument ≡ 2)
-        × (length other.now ≡ second.count) }
+fn show<'a>(rt: &impl Print, first: File<'a>, second: File<'a>)
+    requires { (first.argument ≡ 1) × (second.argument ≡ 2) }
 {
+    let reference = first.bytes;
+    let other = second.bytes;
     let mut side: u8 = 0;
     let mut line: usize = 0;
     let part = comparing::part(reference, other, &mut side, &mut line);
     let mut text = [0u8; 64];
-    let heading = answers::heading(&mut text, side, line);
-    let end = heading.next;
+    let end = answers::heading(&mut text, side, line).next;
     write_shown(rt, reference, other, &text[..end], part);
 }
 
@@ -162,17 +100,13 @@ fn compare(
     reference: &mut [u8],
     other: &mut [u8],
 ) {
-    let first = load(rt, errors, 1, reference);
-    if !first.sound {
+    let Some(first) = load(rt, errors, 1, reference) else {
         return;
-    }
-    let second = load(rt, errors, 2, other);
-    if !second.sound {
+    };
+    let Some(second) = load(rt, errors, 2, other) else {
         return;
-    }
-    let end = first.count;
-    let other_end = second.count;
-    show(rt, first, &reference[..end], second, &other[..other_end]);
+    };
+    show(rt, first, second);
 }
 
 fn compare_files(rt: &(impl Env + Files + Print), errors: &impl Print) {
@@ -186,6 +120,6 @@ fn main(rt: HostRuntime) {
     if streams::arg_count(&rt) == 3 {
         compare_files(&rt, &errors);
     } else {
-        say(&errors, b"usage: compare_recordings REFERENCE OTHER\n");
+        streams::write_all(&errors, b"usage: compare_recordings REFERENCE OTHER\n");
     }
 }

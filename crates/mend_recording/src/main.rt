@@ -3,15 +3,16 @@
 // on it. It only moves bytes; what becomes of a line is decided by the libraries.
 #![tactic(auto)]
 
-ghost use Rattle.std.specs.Prelude.{◌+◌, ◌-◌, ◌*◌, ◌%◌, ◌^◌, ◌<◌, ◌≤◌, ◌≡◌, ◌++◌, length, take};
-ghost use Rattle.pieces.specs.Carried.{carried_in, most_carried, behind};
+ghost use Rattle.std.specs.Prelude.{◌*◌, ◌≤◌, ◌≡◌, ◌++◌, length};
+ghost use Rattle.pieces.specs.Carried.{carried_in, most_carried};
 ghost use Rattle.pieces.specs.Pieces.{said_whole, carried};
 ghost use Rattle.mending.specs.Mending.{mended_bytes, mended_text, reports};
 ghost use Rattle.mending.specs.Claims.{most_held_of_mending, report_said};
-ghost use Rattle.mending.specs.Notice.{notices_of, lines_after, most_told, RoomToMend};
+ghost use Rattle.mending.specs.Notice.{notices_of, lines_after, most_told};
 
 use mending::{answers, texts};
 use pieces::Carried;
+use streams::Follower;
 
 // 4 KiB of a recording, behind what is carried over from before. What is left of a piece, and the report
 // on its lines, take no more.
@@ -20,30 +21,23 @@ const PIECE: usize = 4353;
 // What is told of the lines of a piece takes at most 25 bytes for each of its bytes.
 const TOLD: usize = 108825;
 
-// A run so far: what is carried over, how many lines there were, how many bytes the last read brought, and
-// how many reads may follow.
-#[derive(Clone, Copy)]
-struct Run {
+// What is carried over, how many lines there were, and the room for what comes of a piece: what is left of it, the
+// report on its lines, and what is told of them.
+#[derive(Drop)]
+struct Mender<'a, E> {
+    errors: &'a E,
     carried: Carried,
     lines: u64,
-    came: usize,
-    reads: u64,
-}
-
-// Reads once, behind the bytes that are carried over, and answers how many bytes there are now.
-fn read_behind(rt: &impl Input, buffer: &mut [u8], held: usize) -> usize
-    requires { held ≤ length buffer.old }
-    ensures answer { (held ≤ result) × (result ≤ length buffer.old) }
-    ensures kept { take held buffer.new ≡ take held buffer.old }
-{
-    held + streams::read(rt, &mut buffer[held..])
+    left: [u8; PIECE],
+    report: [u8; PIECE],
+    told: [u8; TOLD],
 }
 
 // Hands on what is left of the lines of a piece that have their feed.
-fn write_left(rt: &impl Print, piece: &[u8], left: &[u8]) -> bool
+fn write_left(to: &impl Print, piece: &[u8], left: &[u8]) -> bool
     requires { left.now ≡ said_whole mended_bytes piece.now }
 {
-    streams::write_all(rt, left)
+    streams::write_all(to, left)
 }
 
 // Hands on what is told of them, behind so many lines before.
@@ -55,7 +49,7 @@ fn write_told(errors: &impl Print, piece: &[u8], before: u64, told: &[u8])
 
 // The same of what was carried to the end of the input.
 fn write_last(
-    rt: &impl Print,
+    to: &impl Print,
     errors: &impl Print,
     carried: Carried,
     before: u64,
@@ -66,140 +60,71 @@ fn write_last(
         × (told.now ≡ notices_of before (reports (carried_in carried))) }
 {
     streams::write_all(errors, told);
-    streams::write_all(rt, left);
+    streams::write_all(to, left);
 }
 
-// Tells of the lines of a piece by their reports; the answer is how many lines there are now.
-fn tell_piece(errors: &impl Print, piece: &[u8], report: &[u8], before: u64, told: &mut [u8]) -> u64
-    requires { (report.now ≡ said_whole report_said piece.now)
-        × (most_told * length report.now ≤ length told.old) }
-    ensures answer { result ≡ lines_after before (said_whole report_said piece.now) }
-{
-    let noticed = answers::notices(told, report, before);
-    let end = noticed.written;
-    write_told(errors, piece, before, &told[..end]);
-    noticed.lines
-}
+impl<E: Print> Follower for Mender<'_, E> {
+    ghost Suits = { λ s n. (most_carried ≤ n) × (n ≤ length s.left) × (n ≤ length s.report)
+        × (most_told * n ≤ length s.told) };
 
-// Mends the lines of a piece that have their feed. So many of its bytes were carried.
-fn mend_piece(
-    rt: &impl Print,
-    errors: &impl Print,
-    run: Run,
-    piece: &[u8],
-    held: usize,
-    left: &mut [u8],
-    report: &mut [u8],
-    told: &mut [u8],
-) -> Run
-    requires { (held ≤ length piece.now) × RoomToMend piece.now left.old report.old told.old }
-    ensures carries { carried_in result.carried ≡ carried most_held_of_mending piece.now }
-    ensures lines { result.lines ≡ lines_after run.lines (said_whole report_said piece.now) }
-    ensures came { result.came ≡ length piece.now - held }
-    ensures reads { 0 < run.reads → result.reads < run.reads }
-{
-    let fed = texts::feed(piece, left, report);
-    let count = fed.lines;
-    let lines = tell_piece(errors, piece, &report[..count], run.lines, told);
-    let end = fed.written;
-    let wrote = write_left(rt, piece, &left[..end]);
-    let carried = fed.carried;
-    let came = piece.len() - held;
-    Run {
-        carried,
-        lines,
-        came,
-        reads: pieces::reads_left(run.reads, came, wrote),
+    ghost in_front = { λ s. carried_in s.carried };
+
+    ghost LeadsTo = { λ s came t.
+        (carried_in t.carried ≡ carried most_held_of_mending (carried_in s.carried ++ came))
+        × (t.lines ≡ lines_after s.lines (said_whole report_said (carried_in s.carried ++ came))) };
+
+    fn put_back(&self, buffer: &mut [u8]) -> usize {
+        pieces::put_back(self.carried, buffer).next
+    }
+
+    // Mends the lines of a piece that have their feed.
+    fn follow(&mut self, to: &impl Print, piece: &[u8], _held: usize) -> bool {
+        let fed = texts::feed(piece, &mut self.left, &mut self.report);
+        let before = self.lines;
+        let noticed = answers::notices(&mut self.told, &self.report[..fed.lines], before);
+        write_told(self.errors, piece, before, &self.told[..noticed.written]);
+        self.carried = fed.carried;
+        self.lines = noticed.lines;
+        write_left(to, piece, &self.left[..fed.written])
     }
 }
 
-// One read. What came stands in the buffer behind what was carried.
-fn next_piece(
-    rt: &(impl Input + Print),
-    errors: &impl Print,
-    run: Run,
-    buffer: &mut [u8],
-    left: &mut [u8],
-    report: &mut [u8],
-    told: &mut [u8],
-) -> Run
-    requires { (most_carried ≤ length buffer.old) × RoomToMend buffer.old left.old report.old told.old }
-    ensures carries { carried_in result.carried
-        ≡ carried most_held_of_mending (carried_in run.carried
-        ++ behind (carried_in run.carried) result.came buffer.new) }
-    ensures lines { result.lines ≡ lines_after run.lines
-        (said_whole report_said (carried_in run.carried
-        ++ behind (carried_in run.carried) result.came buffer.new)) }
-    ensures reads { 0 < run.reads → result.reads < run.reads }
-{
-    let put = pieces::put_back(run.carried, buffer);
-    let held = put.next;
-    let filled = read_behind(rt, buffer, held);
-    mend_piece(rt, errors, run, &buffer[..filled], held, left, report, told)
-}
-
-// What is carried to the end of the input: a last line without a feed.
-fn mend_last(
-    rt: &impl Print,
-    errors: &impl Print,
-    run: Run,
-    buffer: &mut [u8],
-    left: &mut [u8],
-    report: &mut [u8],
-    told: &mut [u8],
-)
-    requires { (most_carried ≤ length buffer.old) × RoomToMend buffer.old left.old report.old told.old }
-{
-    let put = pieces::put_back(run.carried, buffer);
-    let held = put.next;
-    let last = texts::mend(&buffer[..held], left, report);
-    let count = last.lines;
-    let noticed = answers::notices(told, &report[..count], run.lines);
-    let end = last.written;
-    let told_end = noticed.written;
-    write_last(
-        rt,
-        errors,
-        run.carried,
-        run.lines,
-        &left[..end],
-        &told[..told_end],
-    );
-}
-
-fn mend_recording(
-    rt: &(impl Input + Print),
-    errors: &impl Print,
-    buffer: &mut [u8],
-    left: &mut [u8],
-    report: &mut [u8],
-    told: &mut [u8],
-)
-    requires { (most_carried ≤ length buffer.old) × RoomToMend buffer.old left.old report.old told.old }
-{
-    let mut run = Run {
-        carried: pieces::nothing(),
-        lines: 0,
-        came: 0,
-        reads: u64::MAX,
-    };
-    while run.reads > 0 {
-        run = next_piece(rt, errors, run, buffer, left, report, told);
+impl<E: Print> Mender<'_, E> {
+    // What is carried to the end of the input: a last line without a feed.
+    fn mend_last(&mut self, to: &impl Print, buffer: &mut [u8])
+        requires { ⟦<Mender<'static, E> as Follower>⟧.Suits self.old (length buffer.old) }
+    {
+        let held = pieces::put_back(self.carried, buffer).next;
+        let last = texts::mend(&buffer[..held], &mut self.left, &mut self.report);
+        let before = self.lines;
+        let noticed = answers::notices(&mut self.told, &self.report[..last.lines], before);
+        let left = &self.left[..last.written];
+        let told = &self.told[..noticed.written];
+        write_last(to, self.errors, self.carried, before, left, told);
     }
-    mend_last(rt, errors, run, buffer, left, report, told);
+}
+
+fn mend_recording<E: Print>(
+    rt: &(impl Input + Print),
+    mender: &mut Mender<'_, E>,
+    buffer: &mut [u8],
+)
+    requires { ⟦<Mender<'static, E> as Follower>⟧.Suits mender.old (length buffer.old) }
+{
+    streams::read_pieces(rt, mender, buffer);
+    mender.mend_last(rt, buffer);
 }
 
 fn main(rt: HostRuntime) {
     let mut buffer = [0u8; PIECE];
-    let mut left = [0u8; PIECE];
-    let mut report = [0u8; PIECE];
-    let mut told = [0u8; TOLD];
-    mend_recording(
-        &rt,
-        &rt.stderr(),
-        &mut buffer,
-        &mut left,
-        &mut report,
-        &mut told,
-    );
+    let errors = rt.stderr();
+    let mut mender = Mender {
+        errors: &errors,
+        carried: pieces::nothing(),
+        lines: 0,
+        left: [0; PIECE],
+        report: [0; PIECE],
+        told: [0; TOLD],
+    };
+    mend_recording(&rt, &mut mender, &mut buffer);
 }

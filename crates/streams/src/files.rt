@@ -8,6 +8,11 @@ use std::io::{Error, Print, Result};
 use std::rt::Files;
 use std::{fmt, fs};
 
+// The most bytes of a file that is read whole, 2 MiB, and one more, by which a longer one is told.
+pub const MOST: usize = 2097152;
+
+pub const ROOM: usize = 2097153;
+
 // The system's numbers: there is no such argument, a name that is too long, a name that is not text.
 const EINVAL: i32 = 22;
 
@@ -17,20 +22,13 @@ const EILSEQ: i32 = 84;
 
 // How many arguments the program was started with, its own name among them.
 pub fn arg_count(rt: &impl Env) -> usize {
-    for i in 0..usize::MAX {
-        if !has_arg(rt, i) {
-            return i;
-        }
-    }
-    usize::MAX
+    (0..usize::MAX)
+        .position(|i| !has_arg(rt, i))
+        .unwrap_or(usize::MAX)
 }
 
 fn has_arg(rt: &impl Env, i: usize) -> bool {
-    let mut nothing = [0u8; 0];
-    match rt.arg(i, &mut nothing) {
-        Err(FillError::NotPresent) => false,
-        _ => true,
-    }
+    !matches!(rt.arg(i, &mut [0u8; 0]), Err(FillError::NotPresent))
 }
 
 // Puts an argument at the front, and answers its length.
@@ -59,6 +57,12 @@ pub fn fail(to: &impl Print, what: &[u8], error: Error) {
     let mut words = Words { to };
     let _ = write!(words, "{error}");
     write_all(to, b"\n");
+}
+
+// Writes a line: what is too long to be read whole.
+pub fn tell_too_long(to: &impl Print, what: &[u8]) {
+    write_all(to, what);
+    let _ = println!(to; ": longer than {MOST} bytes");
 }
 
 // Passes on what is written, up to the number that an error has behind its words.

@@ -5,60 +5,62 @@
 
 ghost use Rattle.std.specs.Prelude.{◌≤◌, length};
 
+mod conversion;
 mod files;
+mod following;
 mod numbers;
 
-pub use files::{arg, arg_count, fail, open};
+pub use conversion::{Conversion, write_converted};
+pub use files::{MOST, ROOM, arg, arg_count, fail, open, tell_too_long};
+pub use following::{Follower, read_pieces};
 pub use numbers::{print_decimal, print_hex};
-use std::io::{Input, Print, Read};
+use std::io::{Error, Input, Print, Read};
+
+// What came of reads into a slice: how many bytes stand at its front, and why the last read failed, if it did.
+#[derive(Clone, Copy)]
+pub struct Filled {
+    pub count: usize,
+    pub error: Option<Error>,
+}
 
 // Reads once from standard input, and answers how many bytes came to the front: 0 at the end of the input,
 // and where the read failed.
 pub fn read(from: &impl Input, into: &mut [u8]) -> usize
     ensures { result ≤ length into.new }
 {
-    let mut reader = from.reader();
-    match reader.read(into) {
-        Ok(came) => came,
-        Err(_) => 0,
-    }
+    from.reader().read(into).unwrap_or(0)
 }
 
-// Reads until there is no more room, the input ends or a read fails.
+// Reads until there is no more room, the source ends or a read fails.
+pub fn fill(from: &mut impl Read, into: &mut [u8]) -> Filled
+    ensures { result.count ≤ length into.new }
+{
+    let mut count = 0;
+    // The step is what a read brings, so no range counts it.
+    while count < into.len() {
+        match from.read(&mut into[count..]) {
+            Ok(0) => break,
+            Ok(came) => count += came,
+            Err(error) => {
+                return Filled {
+                    count,
+                    error: Some(error),
+                };
+            }
+        }
+    }
+    Filled { count, error: None }
+}
+
+// Reads from standard input until there is no more room, the input ends or a read fails.
 pub fn read_full(from: &impl Input, into: &mut [u8]) -> usize
     ensures { result ≤ length into.new }
 {
-    let mut done: usize = 0;
-    while done < into.len() {
-        let came = read(from, &mut into[done..]);
-        if came == 0 {
-            break;
-        }
-        done += came;
-    }
-    done
+    fill(&mut from.reader(), into).count
 }
 
 // Writes all of the bytes, or stops at the first write that takes nothing or fails, and answers whether
 // all were written. Without bytes nothing is called.
 pub fn write_all(to: &impl Print, bytes: &[u8]) -> bool {
-    let mut done: usize = 0;
-    while done < bytes.len() {
-        let taken = write_some(to, &bytes[done..]);
-        if taken == 0 {
-            return false;
-        }
-        done += taken;
-    }
-    true
-}
-
-// Writes once, and answers how many bytes were taken: 0 where the write failed.
-fn write_some(to: &impl Print, bytes: &[u8]) -> usize
-    ensures { result ≤ length bytes.now }
-{
-    match to.write_some(bytes) {
-        Ok(taken) => taken,
-        Err(_) => 0,
-    }
+    to.write_all(bytes).is_ok()
 }

@@ -1,15 +1,10 @@
 -- The buffers have their lengths.
-use Prim.Native.Nat.{ℕ, ◌*◌, ◌≤◌}
-use mathlib.Core.Path.{◌≡◌, sym}
-use lib.Dec.{lit≤}
+use Rattle.std.proofs.Common.{ℕ, ◌*◌, ◌≤◌, ◌≡◌, lit≤}
 use lib.ListN.{length-replicate}
 use Rattle.name_frames.proofs.main.Goals as goal
 
 roomy : (b t n m : ℕ) → b ≡ n → t ≡ m → 257 ≤ n → 10 * n ≤ m → (257 ≤ b) × (10 * b ≤ t)
 roomy b t n m e f h k = rw (e, f) (h, k)
-
-pub slice_bounds-print_recording-end-2 : goal.slice_bounds-print_recording-end-2
-slice_bounds-print_recording-end-2 c = sym (length-replicate {0} {A = ℕ} 656710 0)
 
 pub print_recording-requires : goal.print_recording-requires
 print_recording-requires c =
