@@ -1,5 +1,5 @@
 // A text that a whole input is turned into.
-ghost use Rattle.std.specs.Prelude.{◌≡◌, ◌≤◌, ℕ, List, length, take};
+ghost use Rattle.std.specs.Prelude.{◌≡◌, ◌≤◌, ℕ, List, IsTrue, length, take};
 
 use crate::write_all;
 use std::io::Print;
@@ -11,6 +11,10 @@ pub trait Conversion {
 
     ghost converted: { List ℕ → List ℕ };
 
+    // The same number.
+    fn room() -> usize
+        ensures answer { result ≡ room };
+
     // Lays the text of an input at the front of what is lent for it, and answers how long it is.
     fn convert(input: &[u8], text: &mut [u8]) -> usize
         requires { room ≤ length text.old }
@@ -19,16 +23,20 @@ pub trait Conversion {
 }
 
 // Hands to the output the text of an input.
-fn write_text<C: Conversion>(to: &impl Print, input: &[u8], text: &[u8])
+fn write_text<C: Conversion>(to: &impl Print, input: &[u8], text: &[u8]) -> bool
     requires { text.now ≡ C.converted input.now }
 {
-    write_all(to, text);
+    write_all(to, text)
 }
 
-// Turns an input into its text, and writes it.
-pub fn write_converted<C: Conversion>(to: &impl Print, input: &[u8], text: &mut [u8])
-    requires { C.room ≤ length text.old }
+// Turns an input into its text, and writes it. The answer is whether all was written, which is nothing where less room
+// is lent than a text may take.
+pub fn write_converted<C: Conversion>(to: &impl Print, input: &[u8], text: &mut [u8]) -> bool
+    ensures { IsTrue result → C.room ≤ length text.old }
 {
+    if text.len() < C::room() {
+        return false;
+    }
     let end = C::convert(input, text);
-    write_text::<C>(to, input, &text[..end]);
+    write_text::<C>(to, input, &text[..end])
 }

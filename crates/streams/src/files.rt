@@ -1,5 +1,5 @@
 // Arguments, the files that they name, and what is said where one cannot be read.
-ghost use Rattle.std.specs.Prelude.{◌≤◌, length, IfOk};
+ghost use Rattle.std.specs.Prelude.{◌≡◌, ◌≤◌, ltb, length, IfOk};
 
 use crate::write_all;
 use std::env::{Env, FillError};
@@ -59,10 +59,16 @@ pub fn fail(to: &impl Print, what: &[u8], error: Error) {
     write_all(to, b"\n");
 }
 
-// Writes a line: what is too long to be read whole.
-pub fn tell_too_long(to: &impl Print, what: &[u8]) {
-    write_all(to, what);
-    let _ = println!(to; ": longer than {MOST} bytes");
+// Writes a line where a file of so many bytes is too long to be read whole, and answers whether it is.
+pub fn tell_too_long(to: &impl Print, what: &[u8], count: usize) -> bool
+    ensures answer { result ≡ ltb MOST count }
+{
+    let long = MOST < count;
+    if long {
+        write_all(to, what);
+        write_all(to, b": longer than 2097152 bytes\n");
+    }
+    long
 }
 
 // Passes on what is written, up to the number that an error has behind its words.

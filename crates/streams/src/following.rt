@@ -1,7 +1,8 @@
 // A text that is read in pieces, each of which is followed before the next is read.
-ghost use Rattle.std.specs.Prelude.{◌≡◌, ◌≤◌, ℕ, List, IsTrue, IfSome, length, take, drop};
+ghost use Rattle.std.specs.Prelude.{◌≡◌, ◌≤◌, ◌<◌, ◌↔◌, ℕ, List, IsTrue, length, take, drop};
 ghost use Rattle.std.specs.List.{FoldsTo};
-ghost use Rattle.streams.specs.Following.{Fits, After, came};
+ghost use Rattle.pieces.specs.Carried.{behind};
+ghost use Rattle.streams.specs.Following.{Fits};
 
 use crate::read;
 use std::io::{Input, Print};
@@ -20,6 +21,10 @@ pub trait Follower {
     // Where bytes lead that come.
     ghost LeadsTo: { Self → List ℕ → Self → Type 0 };
 
+    // Whether it waits for a piece, and pieces from a buffer of so many bytes suit it.
+    fn is_ready(&self, bytes: usize) -> bool
+        ensures ready { IsTrue result ↔ (Suits self.now bytes × Waits self.now) };
+
     // Lays what is carried at the front of a buffer, and answers how long it is.
     fn put_back(&self, buffer: &mut [u8]) -> usize
         requires { Suits self.now (length buffer.old) }
@@ -32,56 +37,66 @@ pub trait Follower {
         requires front { take held piece.now ≡ in_front self.old }
         requires fits { Fits (Suits self.old) (length piece.now) }
         requires waits { Waits self.old }
-        ensures leads { IsTrue result → LeadsTo self.old (drop held piece.now) self.new }
+        ensures leads { LeadsTo self.old (drop held piece.now) self.new }
         ensures suits { (n : ℕ) → Suits self.old n → Suits self.new n }
         ensures waits { IsTrue result → Waits self.new };
 }
 
-// One read, behind what is carried. The answer is how many bytes came, which are none at the end of the input, or
-// nothing where no further piece may come.
+// What came of one read: how many bytes it brought, whether another piece may come, and how many reads may follow.
+#[derive(Clone, Copy)]
+struct Run {
+    came: usize,
+    going: bool,
+    reads: u64,
+}
+
+// One read, behind what is carried, and what follows it; at the end of the input that is what was carried alone.
 fn next_piece<F: Follower>(
     rt: &(impl Input + Print),
     follower: &mut F,
+    reads: u64,
     buffer: &mut [u8],
-) -> Option<usize>
+) -> Run
     requires suits { F.Suits follower.old (length buffer.old) }
     requires waits { F.Waits follower.old }
-    ensures leads { IfSome result (λ n. After F.LeadsTo follower.old
-        (came (F.in_front follower.old) n buffer.new) follower.new) }
+    ensures leads { F.LeadsTo follower.old (behind (F.in_front follower.old) result.came buffer.new) follower.new }
     ensures suits { F.Suits follower.new (length buffer.new) }
-    ensures waits { IfSome result (λ n. F.Waits follower.new) }
+    ensures waits { IsTrue result.going → F.Waits follower.new }
+    ensures on { 0 < result.reads → IsTrue result.going }
+    ensures reads { 0 < reads → result.reads < reads }
 {
     let held = follower.put_back(buffer);
-    let count = read(rt, &mut buffer[held..]);
-    if count == 0 {
-        return Some(0);
-    }
-    if follower.follow(rt, &buffer[..held + count], held) {
-        Some(count)
-    } else {
-        None
+    let came = read(rt, &mut buffer[held..]);
+    let going = follower.follow(rt, &buffer[..held + came], held);
+    Run {
+        came,
+        going,
+        reads: pieces::reads_left(reads, came, going),
     }
 }
 
 // Reads to the end of the input, and follows each piece before it reads the next. The answer is whether the input
-// ended; else no further piece was to come.
+// ended; else no further piece was to come, or none at all, where the follower was not ready for the buffer.
 pub fn read_pieces<F: Follower>(
     rt: &(impl Input + Print),
     follower: &mut F,
     buffer: &mut [u8],
 ) -> bool
-    requires suits { F.Suits follower.old (length buffer.old) }
-    requires waits { F.Waits follower.old }
-    ensures leads { IsTrue result → (pieces : List (List ℕ)) × FoldsTo F.LeadsTo follower.old pieces follower.new }
-    ensures suits { F.Suits follower.new (length buffer.new) }
+    ensures leads { (pieces : List (List ℕ)) × FoldsTo F.LeadsTo follower.old pieces follower.new }
+    ensures suits { F.Suits follower.old (length buffer.old) → F.Suits follower.new (length buffer.new) }
     ensures waits { IsTrue result → F.Waits follower.new }
 {
-    for _ in 0..u64::MAX {
-        match next_piece(rt, follower, buffer) {
-            None => return false,
-            Some(0) => return true,
-            Some(_) => {}
-        }
+    if !follower.is_ready(buffer.len()) {
+        return false;
     }
-    true
+    let mut run = Run {
+        came: 0,
+        going: true,
+        reads: u64::MAX,
+    };
+    // What a read brings says how many may follow it, so no range counts them.
+    while run.reads > 0 {
+        run = next_piece(rt, follower, run.reads, buffer);
+    }
+    run.going
 }

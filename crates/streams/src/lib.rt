@@ -62,5 +62,13 @@ pub fn read_full(from: &impl Input, into: &mut [u8]) -> usize
 // Writes all of the bytes, or stops at the first write that takes nothing or fails, and answers whether
 // all were written. Without bytes nothing is called.
 pub fn write_all(to: &impl Print, bytes: &[u8]) -> bool {
-    to.write_all(bytes).is_ok()
+    let mut done = 0;
+    // The step is what a write takes, so no range counts it.
+    while done < bytes.len() {
+        match to.write_some(&bytes[done..]) {
+            Ok(0) | Err(_) => return false,
+            Ok(taken) => done += taken,
+        }
+    }
+    true
 }

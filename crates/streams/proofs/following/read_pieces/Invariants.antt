@@ -1,11 +1,17 @@
--- The pieces so far have led here, and another can be followed.
-use Rattle.std.proofs.Common.{ℕ, List, length}
+-- The pieces so far have led here, and another can be followed where one may come. The measure is the number of reads
+-- that may follow.
+use Rattle.std.proofs.Common.{ℕ, ◌<◌, List, length}
+use Rattle.std.specs.Prelude.{IsTrue}
 use Rattle.std.specs.List.{FoldsTo}
 use Rattle.streams.proofs.following.read_pieces.Given as goal
 
-abbrev pub invariant-loop : goal.invariant-loop
-invariant-loop g l = record {
+abbrev pub invariant-loop-run : goal.invariant-loop-run
+invariant-loop-run g l = record {
   suits : g.F.Follower.Suits l.follower (length l.buffer);
-  waits : g.F.Follower.Waits l.follower;
+  on : 0 < l.run.reads → IsTrue l.run.going;
+  waits : IsTrue l.run.going → g.F.Follower.Waits l.follower;
   led : (pieces : List (List ℕ)) × FoldsTo g.F.Follower.LeadsTo l.initial.follower pieces l.follower;
 }
+
+abbrev pub decreases-loop-run : goal.decreases-loop-run
+decreases-loop-run g l = l.run.reads
