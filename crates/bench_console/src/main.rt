@@ -26,6 +26,10 @@ impl Answerer for State {
 
     ghost room = { answer_room };
 
+    fn room() -> usize {
+        ROOM
+    }
+
     fn answer(&mut self, line: &[u8], fed: bool, out: &mut [u8]) -> usize {
         let told = settings_console::answer(self.bench, self.store, line, fed, out);
         self.bench = told.said.bench;

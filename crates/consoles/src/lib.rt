@@ -2,7 +2,7 @@
 // `sessions::gathering` says where a line ends, and the console reads it, makes the call and forms the answer.
 #![tactic(auto)]
 
-ghost use Rattle.std.specs.Prelude.{◌≡◌, ℕ, List, [], true, false, ◌<◌, ◌≤◌, length, take};
+ghost use Rattle.std.specs.Prelude.{◌≡◌, ℕ, List, [], true, false, ◌<◌, ◌≤◌, ◌↔◌, IsTrue, length, take};
 ghost use Rattle.text.specs.Lines.{Line};
 ghost use Rattle.sessions.specs.Session.{Console, held_ended, run_after, at_end, run_at, Holding};
 
@@ -19,6 +19,10 @@ pub trait Answerer: Copy {
 
     // The most bytes of an answer.
     ghost room: { ℕ };
+
+    // The same number.
+    fn room() -> usize
+        ensures answer { result ≡ room };
 
     // Lays the answer to a line, which has its feed or none, at the front of what is lent for it, and says how
     // long it is.
@@ -94,8 +98,9 @@ impl<C: Answerer> Talk<'_, C> {
 }
 
 impl<C: Answerer> Talk<'_, C> {
+    // All lines, where nothing of one is held yet.
     fn run(&mut self, rt: &(impl Input + Print))
-        requires { (C.room ≤ length self.old.out.now) × Holding self.old.line self.old.held }
+        requires { (C.room ≤ length self.old.out.now) × (self.old.held ≡ 0) }
     {
         let mut buffer = [0u8; 4096];
         streams::read_pieces(rt, self, &mut buffer);
@@ -114,6 +119,10 @@ impl<C: Answerer> Follower for Talk<'_, C> {
     ghost LeadsTo = { λ t piece u. run_at (C.state u.console) u.line u.held
         ≡ run_after C.console (run_at (C.state t.console) t.line t.held) piece };
 
+    fn is_ready(&self, _bytes: usize) -> bool {
+        self.held <= MOST_HELD && C::room() <= self.out.len()
+    }
+
     fn put_back(&self, _buffer: &mut [u8]) -> usize {
         0
     }
@@ -130,10 +139,14 @@ impl<C: Answerer> Follower for Talk<'_, C> {
     }
 }
 
-// Answers the lines of standard input till it ends, a last line without a feed too.
-pub fn run<C: Answerer>(rt: &(impl Input + Print), console: C, out: &mut [u8])
-    requires { C.room ≤ length out.old }
+// Answers the lines of standard input till it ends, a last line without a feed too. The answer is whether there was room
+// for an answer; else nothing is read.
+pub fn run<C: Answerer>(rt: &(impl Input + Print), console: C, out: &mut [u8]) -> bool
+    ensures answer { IsTrue result ↔ (C.room ≤ length out.old) }
 {
+    if out.len() < C::room() {
+        return false;
+    }
     let mut talk = Talk {
         console,
         line: [0; MOST_HELD],
@@ -141,4 +154,5 @@ pub fn run<C: Answerer>(rt: &(impl Input + Print), console: C, out: &mut [u8])
         out,
     };
     talk.run(rt);
+    true
 }

@@ -27,6 +27,10 @@ impl Answerer for State {
 
     ghost room = { answer_room };
 
+    fn room() -> usize {
+        ROOM
+    }
+
     fn answer(&mut self, line: &[u8], fed: bool, out: &mut [u8]) -> usize {
         let told = table_settings::answer(&mut self.table, self.store, line, fed, out);
         self.store = told.store;

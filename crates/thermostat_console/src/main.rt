@@ -23,6 +23,10 @@ impl Answerer for State {
 
     ghost room = { line_room };
 
+    fn room() -> usize {
+        LINE_ROOM
+    }
+
     fn answer(&mut self, line: &[u8], fed: bool, out: &mut [u8]) -> usize {
         let said = thermostat_session::answer(self.probe, line, fed, out);
         self.probe = said.probe;

@@ -33,4 +33,4 @@ returns-clause-leads g c =
     let done = piece-done g.C.Answerer.console (run_at (g.C.Answerer.state l.self.console) l.self.line l.self.held)
     c.args.piece.now l.at past in
     let all = all-came c.args.piece.now c.args._held c.requires.held c.requires.front in
-    λ _. rw all (sym (l.invariant.ran ∙ done))
+    rw all (sym (l.invariant.ran ∙ done))
