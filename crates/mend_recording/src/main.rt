@@ -21,6 +21,9 @@ const PIECE: usize = 4353;
 // What is told of the lines of a piece takes at most 25 bytes for each of its bytes.
 const TOLD: usize = 108825;
 
+// The most bytes of an unfinished line that are carried over.
+const MOST_CARRIED: usize = 257;
+
 // What is carried over, how many lines there were, and the room for what comes of a piece: what is left of it, the
 // report on its lines, and what is told of them.
 #[derive(Drop)]
@@ -72,6 +75,10 @@ impl<E: Print> Follower for Mender<'_, E> {
     ghost LeadsTo = { λ s came t.
         (carried_in t.carried ≡ carried most_held_of_mending (carried_in s.carried ++ came))
         × (t.lines ≡ lines_after s.lines (said_whole report_said (carried_in s.carried ++ came))) };
+
+    fn is_ready(&self, bytes: usize) -> bool {
+        MOST_CARRIED <= bytes && bytes <= PIECE
+    }
 
     fn put_back(&self, buffer: &mut [u8]) -> usize {
         pieces::put_back(self.carried, buffer).next

@@ -18,6 +18,9 @@ const PIECE: usize = 65671;
 // Ten times as much, which has room for all that a piece can print.
 const TEXT: usize = 656710;
 
+// The most bytes of an unfinished line that are carried over.
+const MOST_CARRIED: usize = 257;
+
 // What is carried over, and the room for what is printed.
 #[derive(Drop)]
 struct Names {
@@ -45,6 +48,10 @@ impl Follower for Names {
     ghost in_front = { λ s. carried_in s.carried };
 
     ghost LeadsTo = { λ s came t. carried_in t.carried ≡ carried most_held_of_recording (carried_in s.carried ++ came) };
+
+    fn is_ready(&self, bytes: usize) -> bool {
+        MOST_CARRIED <= bytes && bytes <= PIECE
+    }
 
     fn put_back(&self, buffer: &mut [u8]) -> usize {
         pieces::put_back(self.carried, buffer).next

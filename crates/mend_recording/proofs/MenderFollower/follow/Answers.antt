@@ -41,8 +41,7 @@ returns-clause-leads g c =
     let noted = piece-noted s now.left now.report (room-text room) fed.result fed.ensures.answer fed.new.report
     fed.ensures.reported in
     let whole : s ≡ carried_in now.carried ++ drop c.args._held s =
-    rw (← c.requires.front) (sym (take-append-drop c.args._held s)) in
-    λ _. (
+    rw (← c.requires.front) (sym (take-append-drop c.args._held s)) in (
       piece-carries s now.left now.report (room-text room) fed.result fed.ensures.answer
           ∙ ap (carried most_held_of_mending) whole,
       notices-counted now.lines (take fed.result.lines fed.new.report) now.told (rw noted (room_whole room))
