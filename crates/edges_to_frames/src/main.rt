@@ -3,7 +3,7 @@
 // is decided by the library.
 #![tactic(auto)]
 
-ghost use Rattle.std.specs.Prelude.{◌≡◌, [], ◌+◌, ◌≤◌, length, take};
+ghost use Rattle.std.specs.Prelude.{◌≡◌, [], ◌+◌, ◌≤◌, IsTrue, length, take};
 ghost use Rattle.capture_laws.specs.Transcript.{enough_room, Waiting, piece_text, piece_after, end_text};
 
 use captures::edges::Reader;
@@ -16,11 +16,13 @@ const PIECE: usize = 65536;
 // 172 bytes more, which is room for the frames that a piece can close and for the line of a refusal.
 const TEXT: usize = 65708;
 
-// The reader of the capture, and the room for what is printed.
+// The reader of the capture, whether it goes on, which is where no refusal has come, and the room for what is printed.
 #[derive(Drop)]
 struct Frames {
     reader: Reader,
+    going: bool,
     text: [u8; TEXT],
+    ghost waits: { IsTrue going → ∥ Waiting reader ∥₁ },
 }
 
 // Hands to the output what the reader hands on for a piece: so many bytes at the front of a buffer.
@@ -42,11 +44,15 @@ fn write_end(to: &impl Print, reader: Reader, text: &[u8], count: usize)
 impl Follower for Frames {
     ghost Suits = { λ s n. enough_room + n ≤ length s.text };
 
-    ghost Waits = { λ s. Waiting s.reader };
+    ghost Waits = { λ s. IsTrue s.going };
 
     ghost in_front = { λ s. [] };
 
-    ghost LeadsTo = { λ s came t. t.reader ≡ piece_after s.reader came };
+    ghost LeadsTo = { λ s came t. IsTrue t.going → t.reader ≡ piece_after s.reader came };
+
+    fn is_ready(&self, bytes: usize) -> bool {
+        self.going && bytes <= PIECE
+    }
 
     fn put_back(&self, _buffer: &mut [u8]) -> usize {
         0
@@ -57,6 +63,7 @@ impl Follower for Frames {
         let before = self.reader;
         let printed = edge_printing::print_piece(before, piece, &mut self.text);
         self.reader = printed.reader;
+        self.going = printed.going;
         let wrote = write_piece(to, before, piece, &self.text, printed.written);
         wrote && printed.going
     }
@@ -65,7 +72,7 @@ impl Follower for Frames {
 impl Frames {
     // The end of the capture.
     fn print_end(&mut self, to: &impl Print)
-        requires { Waiting self.old.reader × (enough_room ≤ length self.old.text) }
+        requires { IsTrue self.old.going × (enough_room ≤ length self.old.text) }
     {
         let printed = edge_printing::print_end(self.reader, &mut self.text);
         write_end(to, self.reader, &self.text, printed.written);
@@ -73,7 +80,7 @@ impl Frames {
 }
 
 fn print_capture(rt: &(impl Input + Print), frames: &mut Frames, buffer: &mut [u8])
-    requires { Waiting frames.old.reader × (enough_room + length buffer.old ≤ length frames.old.text) }
+    requires { IsTrue frames.old.going × (enough_room + length buffer.old ≤ length frames.old.text) }
 {
     if streams::read_pieces(rt, frames, buffer) {
         frames.print_end(rt);
@@ -84,6 +91,7 @@ fn main(rt: HostRuntime) {
     let mut buffer = [0u8; PIECE];
     let mut frames = Frames {
         reader: edges::start(),
+        going: true,
         text: [0; TEXT],
     };
     print_capture(&rt, &mut frames, &mut buffer);

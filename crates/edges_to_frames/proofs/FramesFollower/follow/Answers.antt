@@ -1,34 +1,48 @@
 -- What stands in the buffer is what the reader hands on for the piece, whatever stood there before, and the reader goes
 -- on behind it.
-use Rattle.std.proofs.Common.{◌+◌, ◌≤◌, ◌∙◌, length, take, sym, ap, subst, arith}
+use Rattle.std.proofs.Common.{◌+◌, ◌≤◌, ◌≡◌, ◌∙◌, length, take, sym, ap, arith}
 use Rattle.streams.proofs.FollowingLaws.{all-came}
 use Rattle.captures.specs.declared.edge_printing.Printed.{Printed}
-use Rattle.capture_laws.specs.Transcript.{enough_room, Waiting}
-use Rattle.capture_laws.specs.CallLaws.{piece-any, piece-on}
+use Rattle.std.specs.Prelude.{IsTrue}
+use Rattle.capture_laws.specs.Transcript.{enough_room, Waiting, piece_after}
+use Rattle.edges_to_frames.proofs.Waits.{piece_told, goes_on}
 use Rattle.edges_to_frames.proofs.FramesFollower.follow.Goals as goal
+use Rattle.edges_to_frames.proofs.FramesFollower.follow.Given.{Over}
+use Rattle.edges_to_frames.proofs.FramesFollower.follow.Goals.{After-print_piece-printed}
+
+-- where no refusal came
+on : (g : Over) (c : After-print_piece-printed g) → IsTrue c.print_piece-printed.result.going
+    → (c.print_piece-printed.result.reader ≡ piece_after c.args.self.now.reader c.args.piece.now)
+    × ∥ Waiting c.print_piece-printed.result.reader ∥₁
+on g c going =
+    let e = c.print_piece-printed.ensures.answer in
+    let fits = c.requires.fits in
+    let now = c.args.self.now in
+    let room : enough_room + length c.args.piece.now ≤ length now.text = omega (arith, fits.within, fits.allowed) in
+    let next = goes_on now.reader (now.waits c.requires.waits) c.args.piece.now now.text room
+    (sym (ap (λ (q : Printed). q.going) e) ∙ going) in
+    rw (ap (λ (q : Printed). q.reader) e) next
 
 pub write_piece-wrote-requires : goal.write_piece-wrote-requires
 write_piece-wrote-requires g c =
     let e = c.print_piece-printed.ensures in
     let fits = c.requires.fits in
-    let room : enough_room + length c.args.piece.now ≤ length c.args.self.now.text = omega (arith, fits.within, fits.allowed) in
+    let now = c.args.self.now in
+    let room : enough_room + length c.args.piece.now ≤ length now.text = omega (arith, fits.within, fits.allowed) in
     ap (take c.print_piece-printed.result.written) e.written
-    ∙ rw e.answer (piece-any c.args.self.now.reader c.requires.waits c.args.piece.now c.args.self.now.text room)
+    ∙ rw e.answer (piece_told now.reader (now.waits c.requires.waits) c.args.piece.now now.text room)
+
+pub invariant_of-self : goal.invariant_of-self
+invariant_of-self g c =
+    let at = (goal.at.invariant_of-self g c).After-print_piece-printed in
+    record { waits = λ going. (on g at going).1 }
 
 pub returns-then-wrote-clause-leads : goal.returns-then-wrote-clause-leads
 returns-then-wrote-clause-leads g c =
-    let e = c.print_piece-printed.ensures.answer in
-    let fits = c.requires.fits in
-    let room : enough_room + length c.args.piece.now ≤ length c.args.self.now.text = omega (arith, fits.within, fits.allowed) in
-    let next = piece-on c.args.self.now.reader c.requires.waits c.args.piece.now c.args.self.now.text room in
-    λ going. rw (all-came c.args.piece.now c.args._held c.requires.held c.requires.front)
-    (ap (λ (q : Printed). q.reader) e ∙ (next (sym (ap (λ (q : Printed). q.going) e) ∙ going)).0)
+    let at = (goal.at.returns-then-wrote-clause-leads g c).After-print_piece-printed in
+    λ going. rw (all-came c.args.piece.now c.args._held c.requires.held c.requires.front) (on g at going).0
 
-pub returns-then-wrote-clause-waits : goal.returns-then-wrote-clause-waits
-returns-then-wrote-clause-waits g c =
-    let e = c.print_piece-printed.ensures.answer in
-    let fits = c.requires.fits in
-    let room : enough_room + length c.args.piece.now ≤ length c.args.self.now.text = omega (arith, fits.within, fits.allowed) in
-    let next = piece-on c.args.self.now.reader c.requires.waits c.args.piece.now c.args.self.now.text room in
-    λ going. subst Waiting (sym (ap (λ (q : Printed). q.reader) e))
-    (next (sym (ap (λ (q : Printed). q.going) e) ∙ going)).1
+pub returns-else-wrote-clause-leads : goal.returns-else-wrote-clause-leads
+returns-else-wrote-clause-leads g c =
+    let at = (goal.at.returns-else-wrote-clause-leads g c).After-print_piece-printed in
+    λ going. rw (all-came c.args.piece.now c.args._held c.requires.held c.requires.front) (on g at going).0
