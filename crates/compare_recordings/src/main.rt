@@ -10,7 +10,7 @@ use comparing::answers;
 use std::env::Env;
 use std::io::Result;
 use std::rt::Files;
-use streams::{MOST, ROOM};
+use streams::ROOM;
 
 // The bytes of the file that an argument names, and the number of the argument.
 #[derive(Clone, Copy)]
@@ -37,10 +37,9 @@ fn load_named(rt: &impl Files, errors: &impl Print, name: &[u8], buffer: &mut [u
 {
     match read_named(rt, name, buffer) {
         Ok(count) => {
-            if count <= MOST {
+            if !streams::tell_too_long(errors, name, count) {
                 return Some(count);
             }
-            streams::tell_too_long(errors, name);
         }
         Err(error) => streams::fail(errors, name, error),
     }

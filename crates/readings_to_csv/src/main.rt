@@ -8,12 +8,19 @@ ghost use Rattle.reading_programs.specs.Answers.{csv_answer};
 use reading_programs::csv_answers;
 use streams::Conversion;
 
+// The most bytes of a text of 32 rows, and more.
+const MOST_TEXT: usize = 1024;
+
 struct ToCsv;
 
 impl Conversion for ToCsv {
     ghost room = { most_text };
 
     ghost converted = { csv_answer };
+
+    fn room() -> usize {
+        MOST_TEXT
+    }
 
     fn convert(input: &[u8], text: &mut [u8]) -> usize {
         csv_answers::to_csv(input, text).next

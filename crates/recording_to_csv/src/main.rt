@@ -10,12 +10,19 @@ ghost use Rattle.reading_programs.specs.Latest.{recording_read};
 use reading_programs::pad_readings;
 use streams::{Conversion, MOST, ROOM};
 
+// The most bytes of a text of 32 rows, and more.
+const MOST_TEXT: usize = 1024;
+
 struct ToCsv;
 
 impl Conversion for ToCsv {
     ghost room = { most_text };
 
     ghost converted = { λ recording. rows_told csv_text (recording_read recording) };
+
+    fn room() -> usize {
+        MOST_TEXT
+    }
 
     fn convert(recording: &[u8], text: &mut [u8]) -> usize {
         pad_readings::to_csv(recording, text).next
@@ -27,7 +34,7 @@ fn answer(rt: &(impl Input + Print), errors: &impl Print, recording: &mut [u8], 
 {
     let count = streams::read_full(rt, recording);
     if MOST < count {
-        streams::tell_too_long(errors, b"recording_to_csv");
+        streams::write_all(errors, b"recording_to_csv: longer than 2097152 bytes\n");
     } else {
         streams::write_converted::<ToCsv>(rt, &recording[..count], text);
     }
