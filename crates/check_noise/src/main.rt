@@ -8,51 +8,54 @@ mod turn;
 
 use count::Count;
 use scratchpad::NineBytes;
-use std::io::Result;
 
 // 25.0625 degrees, limits of 75 and 70 degrees, 12 bits; with its CRC.
 const SOUND: NineBytes = [0x91, 0x01, 0x4B, 0x46, 0x7F, 0xFF, 0x0C, 0x10, 0x70];
 
-fn print_count(rt: &impl Print, label: &str, count: Count) -> Result<()> {
-    println!(rt;
-        "{label}: {} refused with 5, {} not",
-        count.refused, count.passed
-    )
+fn say(rt: &impl Print, text: &[u8]) {
+    streams::write_all(rt, text);
 }
 
-fn print_judged(rt: &impl Print, label: &str, pad: NineBytes) -> Result<()> {
-    print!(rt; "{label} ")?;
-    for byte in pad {
-        print!(rt; "{byte:02x}")?;
-    }
+fn say_count(rt: &impl Print, label: &[u8], count: Count) {
+    say(rt, label);
+    say(rt, b": ");
+    streams::print_decimal(rt, count.refused as u64);
+    say(rt, b" refused with 5, ");
+    streams::print_decimal(rt, count.passed as u64);
+    say(rt, b" not\n");
+}
+
+fn say_judged(rt: &impl Print, label: &[u8], pad: NineBytes) {
     let judged = scratchpad::judge(family::DS18B20, pad);
     let register = temperature::register_of(judged.reading);
-    println!(rt;
-        ": refusal {}, reading {:02x}{:02x}",
-        judged.refusal, register.high, register.low
-    )
-}
-
-fn judge_all(rt: &impl Print) -> Result<()> {
-    let none = Count::default();
-    print_judged(rt, "as sent", SOUND)?;
-    print_count(rt, "one bit turned", count::turned(SOUND, 72, 1, none))?;
-    print_count(rt, "two bits turned", count::turned(SOUND, 72, 2, none))?;
-    print_count(rt, "three bits turned", count::turned(SOUND, 72, 3, none))?;
-    print_count(rt, "bursts of up to eight bits", count::bursts(SOUND))?;
-    print_count(
-        rt,
-        "the polynomial at each place",
-        count::polynomials(SOUND),
-    )?;
-    print_judged(
-        rt,
-        "the first of these",
-        turn::turn(SOUND, 0, turn::POLYNOMIAL),
-    )
+    say(rt, label);
+    say(rt, b" ");
+    for byte in pad {
+        streams::print_hex(rt, byte as u64, 2);
+    }
+    say(rt, b": refusal ");
+    streams::print_decimal(rt, judged.refusal as u64);
+    say(rt, b", reading ");
+    streams::print_hex(rt, register.high as u64, 2);
+    streams::print_hex(rt, register.low as u64, 2);
+    say(rt, b"\n");
 }
 
 fn main(rt: HostRuntime) {
-    // Where the output takes no more, nobody is left to be told.
-    let _ = judge_all(&rt);
+    let none = Count::default();
+    say_judged(&rt, b"as sent", SOUND);
+    say_count(&rt, b"one bit turned", count::turned(SOUND, 72, 1, none));
+    say_count(&rt, b"two bits turned", count::turned(SOUND, 72, 2, none));
+    say_count(&rt, b"three bits turned", count::turned(SOUND, 72, 3, none));
+    say_count(&rt, b"bursts of up to eight bits", count::bursts(SOUND));
+    say_count(
+        &rt,
+        b"the polynomial at each place",
+        count::polynomials(SOUND),
+    );
+    say_judged(
+        &rt,
+        b"the first of these",
+        turn::turn(SOUND, 0, turn::POLYNOMIAL),
+    );
 }

@@ -6,40 +6,49 @@
 
 use family::Unit;
 use scratchpad::fine;
-use std::io::Result;
 use temperature::{Reading, Sixteenths};
 
 // The configurations of 9 to 12 bits.
 const CONFIGURATIONS: [u8; 4] = [0x1F, 0x3F, 0x5F, 0x7F];
 
-fn print_stored(rt: &impl Print, unit: Unit, count: Sixteenths, configuration: u8) -> Result<()> {
+fn say(rt: &impl Print, text: &[u8]) {
+    streams::write_all(rt, text);
+}
+
+fn say_number(rt: &impl Print, z: i16) {
+    if z < 0 {
+        say(rt, b"-");
+    }
+    streams::print_decimal(rt, z.unsigned_abs() as u64);
+}
+
+fn say_stored(rt: &impl Print, unit: Unit, count: Sixteenths, configuration: u8) {
     let register = temperature::register_of(temperature::measured(unit, count, configuration));
+    let bits = u16::from_le_bytes([register.low, register.high]);
     let read = temperature::reading_of(unit, register.low, register.high, configuration);
     let back = match read {
         Reading::InSixteenths(c) => c.0,
         Reading::InHalves(h) => h.0,
     };
-    print!(rt; " {:02x}{:02x} {back}", register.high, register.low)
+    say(rt, b" ");
+    streams::print_hex(rt, bits as u64, 4);
+    say(rt, b" ");
+    say_number(rt, back);
 }
 
-fn print_line(rt: &impl Print, count: Sixteenths) -> Result<()> {
-    print!(rt; "{}", count.0)?;
-    print_stored(rt, Unit::HalfDegrees, count, 0)?;
-    print!(rt; " {}", fine::remaining(count))?;
+fn say_line(rt: &impl Print, count: Sixteenths) {
+    say_number(rt, count.0);
+    say_stored(rt, Unit::HalfDegrees, count, 0);
+    say(rt, b" ");
+    streams::print_decimal(rt, fine::remaining(count) as u64);
     for configuration in CONFIGURATIONS {
-        print_stored(rt, Unit::Sixteenths, count, configuration)?;
+        say_stored(rt, Unit::Sixteenths, count, configuration);
     }
-    println!(rt; "")
-}
-
-fn print_table(rt: &impl Print) -> Result<()> {
-    for count in -880..=2000 {
-        print_line(rt, Sixteenths(count))?;
-    }
-    Ok(())
+    say(rt, b"\n");
 }
 
 fn main(rt: HostRuntime) {
-    // Where the output takes no more, nobody is left to be told.
-    let _ = print_table(&rt);
+    for count in -880..=2000 {
+        say_line(&rt, Sixteenths(count));
+    }
 }

@@ -50,20 +50,21 @@ fn crc_pads_often(bytes: &mut [u8; ALL_PADS]) -> u8 {
     last
 }
 
-fn print_crc(rt: &impl Print, last: u8) {
-    let _ = println!(rt; "{last:02x}");
+fn say(rt: &impl Print, last: u8) {
+    streams::print_hex(rt, last as u64, 2);
+    streams::write_all(rt, b"\n");
 }
 
 fn long_ones(rt: &impl Print) {
     let mut bytes = [0u8; LONG];
     fill(&mut bytes);
-    print_crc(rt, crc_often(&mut bytes));
+    say(rt, crc_often(&mut bytes));
 }
 
 fn scratchpads(rt: &impl Print) {
     let mut bytes = [0u8; ALL_PADS];
     fill(&mut bytes);
-    print_crc(rt, crc_pads_often(&mut bytes));
+    say(rt, crc_pads_often(&mut bytes));
 }
 
 fn main(rt: HostRuntime) {

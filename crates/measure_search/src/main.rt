@@ -6,7 +6,6 @@
 use bench::{Bench, Slotted};
 use fixed_work::{ROUND, SLOTS};
 use search::Searched;
-use std::io::Result;
 
 const SEARCHES: u32 = 100;
 
@@ -23,6 +22,12 @@ struct Totals {
     passes: u64,
     slots: u64,
     bytes: u64,
+}
+
+fn say_number(rt: &impl Print, label: &[u8], n: u64) {
+    streams::write_all(rt, label);
+    streams::print_decimal(rt, n);
+    streams::write_all(rt, b"\n");
 }
 
 // Devices with serial numbers from 0 on.
@@ -51,12 +56,7 @@ fn mix(list: &[u64]) -> u64 {
     list.iter().fold(0, |mixed, code| (mixed / 2) ^ *code)
 }
 
-fn search_often(
-    rt: &impl Print,
-    bench: Bench,
-    list: &mut [u64],
-    recording: &mut [u8],
-) -> Result<()> {
+fn search_often(rt: &impl Print, bench: Bench, list: &mut [u64], recording: &mut [u8]) {
     let mut b = bench;
     let mut t = Totals::default();
     for _ in 0..SEARCHES {
@@ -64,23 +64,23 @@ fn search_often(
         t = with(t, r);
         b = r.bench;
     }
-    println!(rt; "codes {}", t.codes)?;
-    println!(rt; "passes {}", t.passes)?;
-    println!(rt; "slots {}", t.slots)?;
-    println!(rt; "bytes {}", t.bytes)?;
-    println!(rt; "list {}", mix(list))?;
-    println!(rt; "recording {}", crc::crc_of(recording))
+    say_number(rt, b"codes ", t.codes);
+    say_number(rt, b"passes ", t.passes);
+    say_number(rt, b"slots ", t.slots);
+    say_number(rt, b"bytes ", t.bytes);
+    say_number(rt, b"list ", mix(list));
+    say_number(rt, b"recording ", crc::crc_of(recording) as u64);
 }
 
-fn search_in_room(rt: &impl Print, bench: Bench) -> Result<()> {
+fn search_in_room(rt: &impl Print, bench: Bench) {
     let mut list = [0u64; CODES];
     let mut recording = [0u8; BYTES];
-    search_often(rt, bench, &mut list, &mut recording)
+    search_often(rt, bench, &mut list, &mut recording);
 }
 
 // The answer of a slot is kept whole and its bench handed on, since a bench in a variable of its own is
 // copied once more.
-fn read_often(rt: &impl Print, bench: Bench) -> Result<()> {
+fn read_often(rt: &impl Print, bench: Bench) {
     let mut s = Slotted {
         bench,
         refusal: 0,
@@ -98,23 +98,17 @@ fn read_often(rt: &impl Print, bench: Bench) -> Result<()> {
             ones = sum(ones, 1);
         }
     }
-    println!(rt; "ones {ones}")
-}
-
-fn measure(rt: &(impl Input + Print)) -> Result<()> {
-    let mut asked = [0u8, MOST];
-    let got = streams::read_full(rt, &mut asked);
-    let bench = bench_of(asked[1]);
-    if got == 0 || asked[0] == b's' {
-        search_in_room(rt, bench)?;
-    }
-    if got == 0 || asked[0] != b's' {
-        read_often(rt, bench)?;
-    }
-    Ok(())
+    say_number(rt, b"ones ", ones);
 }
 
 fn main(rt: HostRuntime) {
-    // Where the output takes no more, nobody is left to be told.
-    let _ = measure(&rt);
+    let mut asked = [0u8, MOST];
+    let got = streams::read_full(&rt, &mut asked);
+    let bench = bench_of(asked[1]);
+    if got == 0 || asked[0] == b's' {
+        search_in_room(&rt, bench);
+    }
+    if got == 0 || asked[0] != b's' {
+        read_often(&rt, bench);
+    }
 }

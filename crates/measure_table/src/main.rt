@@ -6,6 +6,12 @@ use fixed_work::{ROUND, SLOTS};
 use packed_bench::calls;
 use packed_bench::table::TABLE_BYTES;
 
+fn say_number(rt: &impl Print, label: &[u8], n: u64) {
+    streams::write_all(rt, label);
+    streams::print_decimal(rt, n);
+    streams::write_all(rt, b"\n");
+}
+
 // Devices with serial numbers 0 to 31.
 fn fill(table: &mut [u8]) {
     for serial in 0..32 {
@@ -31,5 +37,5 @@ fn read_often(table: &mut [u8]) -> u64 {
 fn main(rt: HostRuntime) {
     let mut table = [0u8; TABLE_BYTES];
     fill(&mut table);
-    let _ = println!(rt; "ones {}", read_often(&mut table));
+    say_number(&rt, b"ones ", read_often(&mut table));
 }
