@@ -2,7 +2,7 @@
 use Rattle.std.proofs.Common.{◌∙◌, ap, sym}
 use Rattle.basic_laws.specs.Fold.{fold}
 use Rattle.captures.specs.Edges.{on_byte}
-use Rattle.captures.proofs.EdgesLaws.{line-open, line-fed, ends-in-feed, ends-in-none}
+use Rattle.captures.proofs.EdgesLaws.{line-open, line-whole, ends-in-feed, ends-in-none}
 use Rattle.captures.proofs.edges.feed_line.Goals as goal
 
 pub returns-in-Some : goal.returns-in-Some
@@ -13,7 +13,7 @@ returns-in-Some c =
     let parts = rw (← cases.1) at (ends-in-feed l c.requires.1 cases.0) in
     record {
       answer = ap (fold on_byte record { reader = c.args.reader; out = c.args.out.now }) parts
-          ∙ line-fed c.args.reader c.args.out.now c.requires.0 _ plain
+          ∙ line-whole c.args.reader c.args.out.now c.requires.0 _ plain
           ∙ sym (rw (
             c.take_feed.ensures.answer,
             c.take_feed.ensures.written,
