@@ -2,24 +2,27 @@
 -- read line by line:
 --     refused-stays          after a refusal no byte changes anything
 --     fed-characters         characters before a feed only lengthen the line
---     line-open, line-fed    so what a piece has of a line lengthens the line, and its feed ends it
+--     lengthens, line-fed    so the line that starts at a place is lengthened by its characters, and ended by its feed
+--     line-open, line-whole  the same of what a piece has of a line, by itself
 --     ends-in-feed, ends-in-none    whether a line has its feed, by its last character
-use Prim.Native.Nat.{ℕ, ◌-◌, ◌≤◌}
+use Prim.Native.Nat.{ℕ, suc, ◌+◌, ◌-◌, ◌<◌, ◌≤◌}
 use Rattle.std.specs.Prelude.{◌≡◌, Bool, true, false, not, ◌&&◌, eqb, take}
 use Rattle.std.proofs.Math.Path.{refl, sym, ap}
-use Rattle.std.proofs.Common.{◌∙◌, take-append-drop}
+use Rattle.std.proofs.Common.{◌∙◌, take-append-drop, drop-drop}
 use Rattle.std.proofs.lemmas.Bool.{false≢true}
 use Rattle.std.specs.Cmp.Lexicographic.{pointwise, same_text}
 use mathlib.Core.List.{List, [], ◌∷◌, ◌++◌, append-nil}
 use native.Mathlib.Omega.{arith}
 use borrow.Author.Tests.{eq-eqb, ne_eqb, not-true}
 use Rattle.std.proofs.Math.ListN.{length, drop, length-drop}
+use Rattle.std.proofs.Math.Seq.{drop-cons}
 use Rattle.std.specs.Prelude.{if◌then◌else◌}
 use Rattle.basic_laws.specs.ChoiceLaws.{choice-then, choice-else, and_left, and_right}
 use Rattle.basic_laws.specs.Fold.{fold, all}
+use Rattle.basic_laws.specs.FirstLaws.{at_none, at_there}
 use Rattle.basic_laws.specs.FoldLaws.{all_append}
 use Rattle.refusals.specs.Refusals.{accepted, not_hex, malformed}
-use Rattle.text.specs.Lines.{line_feed, not_feed}
+use Rattle.text.specs.Lines.{line_feed, not_feed, feed_at}
 use Rattle.captures.specs.declared.pulses.Step.{Step}
 use Rattle.captures.specs.declared.pulses.Ending.{Ending}
 use Rattle.captures.specs.Rule.{edge_step, ending_at}
@@ -214,20 +217,61 @@ fed-characters r out well (c ∷ cs) s h =
     ap (λ (x : Reading). fold on_byte x (cs ++ s)) (on-character r out well c (and_left (not_feed c) (all not_feed cs) h))
     ∙ fed-characters (with_line r (longer_partial r.line c)) out well cs s (and_right (not_feed c) (all not_feed cs) h)
 
+-- the line that starts at a place of a piece, by where its characters end
+module _ (r : Reader) (out s : List ℕ) (at e : ℕ) (well : r.refusal ≡ accepted) (before : at < length s) (ends : e
+    ≡ at + feed_at (drop at s)) where
+  abbrev pub lengthened : Reader
+  lengthened = with_line r (fold longer_partial r.line (take (e - at) (drop at s)))
+
+  up_to : e - at ≡ feed_at (drop at s)
+  up_to = omega arith
+
+  pub lengthens : fold on_byte record { reader = r; out = out } (drop at s)
+      ≡ fold on_byte record { reader = lengthened; out = out } (drop e s)
+  lengthens =
+      let n = e - at in
+      let whole : take n (drop at s) ++ drop e s ≡ drop at s =
+      let k : at + n ≡ e = omega arith in
+      ap (λ (t : List ℕ). take n (drop at s) ++ t) (ap (λ (m : ℕ). drop m s) (sym k) ∙ sym (drop-drop n at s))
+      ∙ take-append-drop n (drop at s) in
+      let plain : all not_feed (take n (drop at s)) ≡ true = rw up_to (at_none line_feed (drop at s)) in
+      ap (fold on_byte record { reader = r; out = out }) (sym whole)
+      ∙ fed-characters r out well (take n (drop at s)) (drop e s) plain
+
+  -- a feed stands behind them
+  pub line-fed : e < length s → fold on_byte record { reader = r; out = out } (drop at s)
+      ≡ fold on_byte record {
+        reader = fed_line_reader lengthened out;
+        out = fed_line_leaves lengthened out;
+      } (drop (e + 1) s)
+  unfolding fold
+  line-fed h =
+      let t = drop at s in
+      let size = length-drop at s in
+      let there : feed_at t < length t = omega arith in
+      let k : at + feed_at t ≡ e = sym ends in
+      let after : at + suc (feed_at t) ≡ e + 1 = omega arith in
+      let next : drop e s ≡ line_feed ∷ drop (e + 1) s =
+      ap (λ (m : ℕ). drop m s) (sym k) ∙ sym (drop-drop (feed_at t) at s) ∙ drop-cons t (feed_at t) 0 there
+      ∙ ap (λ (c : ℕ). c ∷ drop (suc (feed_at t)) t) (at_there line_feed t there)
+      ∙ ap (λ (u : List ℕ). line_feed ∷ u) (drop-drop (suc (feed_at t)) at s ∙ ap (λ (m : ℕ). drop m s) after) in
+      lengthens ∙ ap (fold on_byte record { reader = lengthened; out = out }) next
+      ∙ ap (λ (x : Reading). fold on_byte x (drop (e + 1) s)) (on-feed lengthened out well)
+
 -- what a piece has of a line: characters, and a feed behind them or none
 module _ (r : Reader) (out : List ℕ) (well : r.refusal ≡ accepted) (cs : List ℕ) (plain : all not_feed cs ≡ true) where
-  abbrev lengthened : Reader
-  lengthened = with_line r (fold longer_partial r.line cs)
+  abbrev gathered : Reader
+  gathered = with_line r (fold longer_partial r.line cs)
 
-  pub line-open : fold on_byte record { reader = r; out = out } cs ≡ record { reader = lengthened; out = out }
+  pub line-open : fold on_byte record { reader = r; out = out } cs ≡ record { reader = gathered; out = out }
   unfolding fold
   line-open = ap (fold on_byte record { reader = r; out = out }) (sym (append-nil cs))
       ∙ fed-characters r out well cs [] plain
 
-  pub line-fed : fold on_byte record { reader = r; out = out } (cs ++ (line_feed ∷ []))
-      ≡ record { reader = fed_line_reader lengthened out; out = fed_line_leaves lengthened out }
+  pub line-whole : fold on_byte record { reader = r; out = out } (cs ++ (line_feed ∷ []))
+      ≡ record { reader = fed_line_reader gathered out; out = fed_line_leaves gathered out }
   unfolding fold
-  line-fed = fed-characters r out well cs (line_feed ∷ []) plain ∙ on-feed lengthened out well
+  line-whole = fed-characters r out well cs (line_feed ∷ []) plain ∙ on-feed gathered out well
 
 -- at most one character, which is no feed
 last-plain : (t : List ℕ) → length t ≤ 1 → pointwise eqb t (line_feed ∷ []) ≡ false → all not_feed t ≡ true

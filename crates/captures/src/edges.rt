@@ -2,6 +2,7 @@
 // closed frame is written as a line into the lent buffer.
 ghost use Rattle.std.specs.Prelude.{◌≡◌, ◌-◌, true, length, take};
 ghost use Rattle.basic_laws.specs.Fold.{fold, all};
+ghost use Rattle.refusals.specs.Refusals.{accepted};
 ghost use Rattle.text.specs.Lines.{not_feed};
 ghost use Rattle.frame.specs.Writing.{line_write_leaves};
 ghost use Rattle.captures.specs.Edges.{fresh_reader, refused_with, with_line, on_edge, line_ended, closed_reader};
@@ -162,13 +163,10 @@ fn take_feed(reader: Reader, out: &mut [u8]) -> Reader
 
 // The characters of a line that a piece has, and its feed if that is among them.
 fn feed_line(reader: Reader, line: &[u8], out: &mut [u8]) -> Reader
-    requires { all not_feed (take (length line.now - 1) line.now) ≡ true }
+    requires { (reader.refusal ≡ accepted) × (all not_feed (take (length line.now - 1) line.now) ≡ true) }
     ensures answer { fold on_byte record { reader = reader; out = out.old } line.now
         ≡ record { reader = result; out = out.new } }
 {
-    if reader.refusal != refusals::ACCEPTED {
-        return reader;
-    }
     match line.strip_suffix(&[LINE_FEED]) {
         Some(chars) => {
             let held = with_line(reader, edge_lines::gather(reader.line, chars));
@@ -183,9 +181,16 @@ pub fn feed(reader: Reader, s: &[u8], out: &mut [u8]) -> Answer
     ensures answer { result ≡ feed_answer reader out.old s.now }
     ensures written { out.new ≡ feed_leaves reader out.old s.now }
 {
+    if reader.refusal != refusals::ACCEPTED {
+        return answer_of(reader);
+    }
     let mut held = reader;
     for line in s.split_inclusive(|&c| c == LINE_FEED) {
         held = feed_line(held, line, out);
+        // the rest of the piece is not even looked at
+        if held.refusal != refusals::ACCEPTED {
+            break;
+        }
     }
     answer_of(held)
 }
