@@ -59,5 +59,9 @@ fn lengthen(line: Partial, c: u8) -> Partial
 pub fn gather(line: Partial, characters: &[u8]) -> Partial
     ensures answer { result ≡ fold longer_partial line characters.now }
 {
-    characters.iter().fold(line, |held, &c| lengthen(held, c))
+    let mut held = line;
+    for &c in characters {
+        held = lengthen(held, c);
+    }
+    held
 }

@@ -1,14 +1,13 @@
-use Rattle.std.proofs.Common.{◌∙◌, rules}
-use Rattle.std.proofs.lemmas.Iterator.{YieldsList-from_slice}
-use Rattle.std.proofs.lemmas.Iterator.Consumers.{fold_from_yields_List}
+use Rattle.std.proofs.Common.{refl, ◌∙◌}
+use Rattle.basic_laws.specs.Fold.{fold}
+use Rattle.basic_laws.specs.FoldLaws.{fold_step}
 use Rattle.captures.specs.Partial.{longer_partial}
-use Rattle.captures.proofs.FoldedLaws.{folded}
 use Rattle.captures.proofs.edge_lines.gather.Goals as goal
 
-pub returns : goal.returns
-returns c =
-    record {
-      answer = fold_from_yields_List _ longer_partial c.args.line c.fold.result c.fold.ensures.ran
-          (YieldsList-from_slice c.args.characters.now (cc)) (λ a x b q k. search rules)
-          ∙ folded longer_partial _ _;
-    }
+pub loop-c-init : goal.loop-c-init
+unfolding fold
+loop-c-init l = refl
+
+pub loop-c-preserved : goal.loop-c-preserved
+loop-c-preserved l =
+    l.lengthen-held.ensures ∙ rw l.loop-c.invariant (fold_step longer_partial _ _ _ _ l.loop-c-test.true)
