@@ -21,13 +21,6 @@ returns-then-reader-ne-ACCEPTED c =
       written = ap (λ (y : Reading). y.out) stays;
     }
 
-pub feed_line-held-requires : goal.feed_line-held-requires
-feed_line-held-requires c = (
-  c.loop-line.invariant.well,
-  split-plain (split_inclusive_rest c.loop-line.line-iterator) 0 _ _ (parted refl c.in-Some.ensures.steps
-      (always_returns_same _ _ _ (λ a r f k. (search rules, search rules)))),
-)
-
 -- A piece makes z of x. Where nothing is left of it, x is z; else what is left behind its first line makes z of y, which
 -- the line came to, and where that is a refusal, y is z.
 ended : (x z : Reading) (s : List ℕ) → s ≡ [] → fold on_byte x s ≡ z → x ≡ z
@@ -70,3 +63,10 @@ returns c =
       answer = c.answer_of-2.ensures ∙ ap (λ (y : Reading). answers_of y.reader) whole;
       written = ap (λ (y : Reading). y.out) whole;
     }
+
+pub feed_line-held-requires : goal.feed_line-held-requires
+feed_line-held-requires c = (
+  c.loop-line.invariant.well,
+  split-plain (split_inclusive_rest c.loop-line.line-iterator) 0 _ _ (parted refl c.in-Some.ensures.steps
+      (always_returns_same _ _ _ (λ a r f k. (search rules, search rules)))),
+)
