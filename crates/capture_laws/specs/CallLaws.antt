@@ -1,15 +1,16 @@
--- A waiting reader hands on the same for a piece, and for the end, whatever buffer it fills; and after an accepted
--- piece it waits again.
+-- A waiting reader hands on the same for a piece, and for the end, whatever buffer it fills, and is the same after a
+-- piece; after an accepted piece it waits again.
 --     waiting-start          a reader before the first byte waits
 --     piece-any, piece-on    a piece, whatever the buffer
+--     piece-reader           the reader after a piece, also a refused one, whatever the buffer
 --     end-any                the end, whatever the buffer
-use Rattle.std.specs.Prelude.{ℕ, ◌+◌, ◌≤◌, ◌≡◌, refl, Bool, true, false, List, [], ◌++◌, eqb, length}
+use Rattle.std.specs.Prelude.{ℕ, ◌+◌, ◌≤◌, ◌≡◌, refl, ◌≢◌, Bool, true, false, List, [], ◌++◌, eqb, length}
 use Rattle.std.proofs.Math.Path.{sym}
-use Rattle.std.proofs.Common.{◌∙◌, arith, eq-eqb, eqb-true}
+use Rattle.std.proofs.Common.{ap, ◌∙◌, arith, eqb-true}
 use Rattle.std.proofs.lemmas.Bool.{false≢true}
 use Rattle.std.proofs.lemmas.List.{length-replicate}
 use Rattle.basic_laws.specs.Fold.{fold, all}
-use Rattle.refusals.specs.Refusals.{accepted}
+use Rattle.refusals.specs.Refusals.{accepted, no_room}
 use Rattle.text.specs.Lines.{not_feed, lines_of}
 use Rattle.captures.specs.declared.pulses.Wire.{Wire}
 use Rattle.captures.specs.declared.edges.Reader.{Reader}
@@ -23,6 +24,7 @@ use Rattle.capture_laws.specs.Claims.{Filled}
 use Rattle.capture_laws.specs.FillLaws.{holding, Came, fits, short, piece-came, fill_holds}
 use Rattle.capture_laws.specs.CutLaws.{left-plain}
 use Rattle.capture_laws.specs.RoomLaws.{room-enough}
+use Rattle.capture_laws.specs.SameLaws.{same-reader}
 use Rattle.capture_laws.specs.Transcript.{text_of, handed_on, enough_room, Waiting, just_room, piece_text, piece_after}
 use Rattle.capture_laws.specs.Transcript.{end_text}
 use Rattle.capture_laws.specs.TranscriptLaws.{handed-text, end-text}
@@ -53,6 +55,9 @@ module _ (w : Wire) (u s : List ℕ) (plain : all not_feed u ≡ true) (sound : 
         (k.written ∙ omega arith) k.laid_out
         (course-kept w sound (lines_of (u ++ s))).small (omega arith)
 
+    roomless : (fed_bytes (holding w u 0) out s).reader.refusal ≢ no_room
+    roomless e = let k = filled in (course-kept w sound (lines_of (u ++ s))).roomless (sym k.refusal ∙ e)
+
     goes_on : (feed_answer (holding w u 0) out s).refusal ≡ accepted
         → taken_so_far (feed_answer (holding w u 0) out s).reader ≡ holding course.wire course.left 0
     goes_on h = let k = filled in fill_holds 0 out course (fed_bytes (holding w u 0) out s) k (sym k.refusal ∙ h)
@@ -65,7 +70,7 @@ module _ (w : Wire) (u s : List ℕ) (plain : all not_feed u ≡ true) (sound : 
     is = refl;
   }
 
--- an answer that goes on was accepted, and its reader goes on from the front of the buffer
+-- an answer that goes on was accepted
 accepted-on : (a : Answer) (l : List ℕ) → (printed_for a l).going ≡ true → a.refusal ≡ accepted
 accepted-on a l on = by-test (eqb a.refusal accepted) refl
   where
@@ -73,8 +78,13 @@ accepted-on a l on = by-test (eqb a.refusal accepted) refl
     by-test true e = eqb-true a.refusal accepted e
     by-test false e = let off : (printed_for a l).going ≡ false = rw e refl in absurd (false≢true (sym off ∙ on))
 
-reader-on : (a : Answer) (l : List ℕ) → a.refusal ≡ accepted → (printed_for a l).reader ≡ taken_so_far a.reader
-reader-on a l h = rw (eq-eqb a.refusal accepted h) refl
+-- accepted or not, its reader goes on from the front of the buffer
+reader-on : (a : Answer) (l : List ℕ) → (printed_for a l).reader ≡ taken_so_far a.reader
+reader-on a l = by-test (eqb a.refusal accepted) refl
+  where
+    by-test : (t : Bool) → eqb a.refusal accepted ≡ t → (printed_for a l).reader ≡ taken_so_far a.reader
+    by-test true e = rw e refl
+    by-test false e = rw e refl
 
 just-room : (s : List ℕ) → enough_room + length s ≤ length (just_room s)
 just-room s = let e = length-replicate {0} {A = ℕ} (enough_room + length s) 0 in omega arith
@@ -89,10 +99,21 @@ module _ (r : Reader) (waiting : Waiting r) where
         rw waiting.is (text w u s waiting.plain waiting.sound out room
         ∙ sym (text w u s waiting.plain waiting.sound (just_room s) (just-room s)))
 
+    pub piece-reader : (printed_for (feed_answer r out s) (feed_leaves r out s)).reader ≡ piece_after r s
+    unfolding piece_after
+    piece-reader =
+        let w = r.wire in
+        let u = waiting.left in
+        let mine : (fed_bytes r out s).reader.refusal ≢ no_room =
+        rw waiting.is (roomless w u s waiting.plain waiting.sound out room) in
+        let just : (fed_bytes r (just_room s) s).reader.refusal ≢ no_room =
+        rw waiting.is (roomless w u s waiting.plain waiting.sound (just_room s) (just-room s)) in
+        reader-on (feed_answer r out s) (feed_leaves r out s)
+        ∙ ap taken_so_far (same-reader s r out (just_room s) mine just)
+
     pub piece-on : (printed_for (feed_answer r out s) (feed_leaves r out s)).going ≡ true →
         let next = (printed_for (feed_answer r out s) (feed_leaves r out s)).reader in
         (next ≡ piece_after r s) × Waiting next
-    unfolding piece_after
     piece-on on =
         let w = r.wire in
         let u = waiting.left in
@@ -100,19 +121,12 @@ module _ (r : Reader) (waiting : Waiting r) where
         let h = accepted-on a (feed_leaves r out s) on in
         let g : (feed_answer (holding w u 0) out s).refusal ≡ accepted = rw (← waiting.is) h in
         let k = filled w u s waiting.plain waiting.sound out room in
-        let j = filled w u s waiting.plain waiting.sound (just_room s) (just-room s) in
         let here : taken_so_far (feed_answer r out s).reader
         ≡ holding (course w u s waiting.plain waiting.sound).wire
         (course w u s waiting.plain waiting.sound).left 0 =
-        rw waiting.is (goes_on w u s waiting.plain waiting.sound out room g) in
-        let there : taken_so_far (feed_answer r (just_room s) s).reader
-        ≡ holding (course w u s waiting.plain waiting.sound).wire
-        (course w u s waiting.plain waiting.sound).left 0 =
-        rw waiting.is (goes_on w u s waiting.plain waiting.sound (just_room s) (just-room s) (j.refusal
-        ∙ sym k.refusal ∙ g)) in
-        let next = reader-on a (feed_leaves r out s) h in (
-          next ∙ here ∙ sym there,
-          rw (next, here)
+        rw waiting.is (goes_on w u s waiting.plain waiting.sound out room g) in (
+          piece-reader,
+          rw (reader-on a (feed_leaves r out s), here)
               (waits w u s waiting.plain waiting.sound (sym k.refusal ∙ g)),
         )
 

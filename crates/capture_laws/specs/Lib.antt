@@ -12,4 +12,5 @@ pub mod RoomLaws
 pub mod Cases
 pub mod Transcript
 pub mod TranscriptLaws
+pub mod SameLaws
 pub mod CallLaws
