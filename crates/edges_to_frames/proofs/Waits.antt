@@ -6,12 +6,16 @@ use Rattle.captures.specs.declared.edges.Reader.{Reader}
 use Rattle.captures.specs.Edges.{feed_answer, feed_leaves, end_answer, end_leaves}
 use Rattle.captures.specs.EdgePrinting.{printed_for}
 use Rattle.capture_laws.specs.Transcript.{handed_on, enough_room, Waiting, piece_text, piece_after, end_text}
-use Rattle.capture_laws.specs.CallLaws.{piece-any, piece-on, end-any}
+use Rattle.capture_laws.specs.CallLaws.{piece-any, piece-reader, piece-on, end-any}
 
 module _ (r : Reader) (waits : ∥ Waiting r ∥₁) where
   pub piece_told : (s out : List ℕ) → enough_room + length s ≤ length out
       → handed_on (feed_answer r out s) (feed_leaves r out s) ≡ piece_text r s
   piece_told s out room = ∥∥₁_elim waits (hlevel props) (λ w. piece-any r w s out room)
+
+  pub reader_told : (s out : List ℕ) → enough_room + length s ≤ length out
+      → (printed_for (feed_answer r out s) (feed_leaves r out s)).reader ≡ piece_after r s
+  reader_told s out room = ∥∥₁_elim waits (hlevel props) (λ w. piece-reader r w s out room)
 
   pub goes_on : (s out : List ℕ) → enough_room + length s ≤ length out
       → (printed_for (feed_answer r out s) (feed_leaves r out s)).going ≡ true

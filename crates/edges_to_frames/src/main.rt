@@ -48,7 +48,7 @@ impl Follower for Frames {
 
     ghost in_front = { λ s. [] };
 
-    ghost LeadsTo = { λ s came t. IsTrue t.going → t.reader ≡ piece_after s.reader came };
+    ghost LeadsTo = { λ s came t. t.reader ≡ piece_after s.reader came };
 
     fn is_ready(&self, bytes: usize) -> bool {
         self.going && bytes <= PIECE
