@@ -9,7 +9,7 @@ ghost use Rattle.bench_session.specs.SettingsSession.{both, bench_console, nothi
 use bench::Bench;
 use bench_answers::search_answers::ROOM;
 use bench_session::settings_console;
-use consoles::Answerer;
+use consoles::{Answerer, MeasuredAnswerer};
 use settings::Store;
 
 // The bench and the store.
@@ -26,15 +26,17 @@ impl Answerer for State {
 
     ghost room = { answer_room };
 
-    fn room() -> usize {
-        ROOM
-    }
-
     fn answer(&mut self, line: &[u8], fed: bool, out: &mut [u8]) -> usize {
         let told = settings_console::answer(self.bench, self.store, line, fed, out);
         self.bench = told.said.bench;
         self.store = told.store;
         told.said.count
+    }
+}
+
+impl MeasuredAnswerer for State {
+    fn room() -> usize {
+        ROOM
     }
 }
 
@@ -50,5 +52,5 @@ fn first_state() -> State
 
 fn main(rt: HostRuntime) {
     let mut out = [0u8; ROOM];
-    consoles::run(&rt, first_state(), &mut out);
+    consoles::run_where_room(&rt, first_state(), &mut out);
 }

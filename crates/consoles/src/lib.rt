@@ -8,7 +8,7 @@ ghost use Rattle.sessions.specs.Session.{Console, held_ended, run_after, at_end,
 
 use sessions::gathering;
 use sessions::gathering::{Gathered, MOST_HELD};
-use streams::Follower;
+use streams::ReadyFollower;
 
 // What answers lines, one after the other.
 pub trait Answerer: Copy {
@@ -19,10 +19,6 @@ pub trait Answerer: Copy {
 
     // The most bytes of an answer.
     ghost room: { ℕ };
-
-    // The same number.
-    fn room() -> usize
-        ensures answer { result ≡ room };
 
     // Lays the answer to a line, which has its feed or none, at the front of what is lent for it, and says how
     // long it is.
@@ -35,13 +31,20 @@ pub trait Answerer: Copy {
             ≡ console.next (state self.old) (record { chars = line.now; fed = fed }) };
 }
 
+// What answers lines, and says how much room an answer needs.
+pub trait MeasuredAnswerer: Answerer {
+    fn room() -> usize
+        ensures answer { result ≡ Self.room };
+}
+
 // The console, the characters of the line not yet ended and how many are held, and the room for an answer.
 #[derive(Drop)]
-struct Talk<'a, C> {
+struct Talk<'a, C: Answerer> {
     console: C,
     line: [u8; MOST_HELD],
     held: usize,
     out: &'a mut [u8],
+    ghost roomy: { C.room ≤ length out.now },
 }
 
 // Hands to the output what is said to a line in the state in hand.
@@ -97,13 +100,28 @@ impl<C: Answerer> Talk<'_, C> {
     }
 }
 
+impl<'a, C: Answerer> Talk<'a, C> {
+    // Nothing of a line is held yet.
+    fn begin(console: C, out: &'a mut [u8]) -> Self
+        requires { C.room ≤ length out.old }
+        ensures { result.held ≡ 0 }
+    {
+        Talk {
+            console,
+            line: [0; MOST_HELD],
+            held: 0,
+            out,
+        }
+    }
+}
+
 impl<C: Answerer> Talk<'_, C> {
     // All lines, where nothing of one is held yet.
     fn run(&mut self, rt: &(impl Input + Print))
         requires { (C.room ≤ length self.old.out.now) × (self.old.held ≡ 0) }
     {
         let mut buffer = [0u8; 4096];
-        streams::read_pieces(rt, self, &mut buffer);
+        streams::read_when_ready(rt, self, &mut buffer);
         let held = self.held;
         if held > 0 {
             answer_last(rt, self.console, &self.line[..held], self.out);
@@ -111,7 +129,7 @@ impl<C: Answerer> Talk<'_, C> {
     }
 }
 
-impl<C: Answerer> Follower for Talk<'_, C> {
+impl<C: Answerer> ReadyFollower for Talk<'_, C> {
     ghost Suits = { λ t n. Holding t.line t.held × (C.room ≤ length t.out.now) };
 
     ghost in_front = { λ t. [] };
@@ -120,7 +138,7 @@ impl<C: Answerer> Follower for Talk<'_, C> {
         ≡ run_after C.console (run_at (C.state t.console) t.line t.held) piece };
 
     fn is_ready(&self, _bytes: usize) -> bool {
-        self.held <= MOST_HELD && C::room() <= self.out.len()
+        self.held <= MOST_HELD
     }
 
     fn put_back(&self, _buffer: &mut [u8]) -> usize {
@@ -139,20 +157,26 @@ impl<C: Answerer> Follower for Talk<'_, C> {
     }
 }
 
+// Answers the lines of standard input till it ends, a last line without a feed too, for a caller who knows that there
+// is room for an answer.
+pub fn run<C: Answerer>(rt: &(impl Input + Print), console: C, out: &mut [u8])
+    requires { C.room ≤ length out.old }
+{
+    Talk::begin(console, out).run(rt);
+}
+
 // Answers the lines of standard input till it ends, a last line without a feed too. The answer is whether there was room
 // for an answer; else nothing is read.
-pub fn run<C: Answerer>(rt: &(impl Input + Print), console: C, out: &mut [u8]) -> bool
+pub fn run_where_room<C: MeasuredAnswerer>(
+    rt: &(impl Input + Print),
+    console: C,
+    out: &mut [u8],
+) -> bool
     ensures answer { IsTrue result ↔ (C.room ≤ length out.old) }
 {
     if out.len() < C::room() {
         return false;
     }
-    let mut talk = Talk {
-        console,
-        line: [0; MOST_HELD],
-        held: 0,
-        out,
-    };
-    talk.run(rt);
+    Talk::begin(console, out).run(rt);
     true
 }

@@ -8,7 +8,7 @@ ghost use Rattle.capture_laws.specs.Transcript.{enough_room, Waiting, piece_text
 
 use captures::edges::Reader;
 use captures::{edge_printing, edges};
-use streams::Follower;
+use streams::ReadyFollower;
 
 // 64 KiB of a capture.
 const PIECE: usize = 65536;
@@ -41,7 +41,7 @@ fn write_end(to: &impl Print, reader: Reader, text: &[u8], count: usize)
     }
 }
 
-impl Follower for Frames {
+impl ReadyFollower for Frames {
     ghost Suits = { λ s n. enough_room + n ≤ length s.text };
 
     ghost Waits = { λ s. IsTrue s.going };
@@ -82,7 +82,7 @@ impl Frames {
 fn print_capture(rt: &(impl Input + Print), frames: &mut Frames, buffer: &mut [u8])
     requires { IsTrue frames.old.going × (enough_room + length buffer.old ≤ length frames.old.text) }
 {
-    if streams::read_pieces(rt, frames, buffer) {
+    if streams::read_when_ready(rt, frames, buffer) {
         frames.print_end(rt);
     }
 }

@@ -12,7 +12,7 @@ ghost use Rattle.mending.specs.Notice.{notices_of, lines_after, most_told};
 
 use mending::{answers, texts};
 use pieces::Carried;
-use streams::Follower;
+use streams::ReadyFollower;
 
 // 4 KiB of a recording, behind what is carried over from before. What is left of a piece, and the report
 // on its lines, take no more.
@@ -66,7 +66,7 @@ fn write_last(
     streams::write_all(to, left);
 }
 
-impl<E: Print> Follower for Mender<'_, E> {
+impl<E: Print> ReadyFollower for Mender<'_, E> {
     ghost Suits = { λ s n. (most_carried ≤ n) × (n ≤ length s.left) × (n ≤ length s.report)
         × (most_told * n ≤ length s.told) };
 
@@ -99,7 +99,7 @@ impl<E: Print> Follower for Mender<'_, E> {
 impl<E: Print> Mender<'_, E> {
     // What is carried to the end of the input: a last line without a feed.
     fn mend_last(&mut self, to: &impl Print, buffer: &mut [u8])
-        requires { ⟦<Mender<'static, E> as Follower>⟧.Suits self.old (length buffer.old) }
+        requires { ⟦<Mender<'static, E> as ReadyFollower>⟧.Suits self.old (length buffer.old) }
     {
         let held = pieces::put_back(self.carried, buffer).next;
         let last = texts::mend(&buffer[..held], &mut self.left, &mut self.report);
@@ -116,9 +116,9 @@ fn mend_recording<E: Print>(
     mender: &mut Mender<'_, E>,
     buffer: &mut [u8],
 )
-    requires { ⟦<Mender<'static, E> as Follower>⟧.Suits mender.old (length buffer.old) }
+    requires { ⟦<Mender<'static, E> as ReadyFollower>⟧.Suits mender.old (length buffer.old) }
 {
-    streams::read_pieces(rt, mender, buffer);
+    streams::read_when_ready(rt, mender, buffer);
     mender.mend_last(rt, buffer);
 }
 

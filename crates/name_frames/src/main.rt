@@ -10,7 +10,7 @@ ghost use Rattle.naming.specs.Streaming.{most_printed, most_held_of_recording};
 
 use naming::streaming;
 use pieces::Carried;
-use streams::Follower;
+use streams::ReadyFollower;
 
 // 64 KiB of a recording, behind what is carried over from before.
 const PIECE: usize = 65671;
@@ -42,7 +42,7 @@ fn write_last(to: &impl Print, carried: Carried, text: &[u8])
     streams::write_all(to, text);
 }
 
-impl Follower for Names {
+impl ReadyFollower for Names {
     ghost Suits = { λ s n. (most_carried ≤ n) × (most_printed * n ≤ length s.text) };
 
     ghost in_front = { λ s. carried_in s.carried };
@@ -68,7 +68,7 @@ impl Follower for Names {
 impl Names {
     // Prints what is carried to the end of the input: a last line without a feed.
     fn print_last(&mut self, to: &impl Print, buffer: &mut [u8])
-        requires { ⟦<Names as Follower>⟧.Suits self.old (length buffer.old) }
+        requires { ⟦<Names as ReadyFollower>⟧.Suits self.old (length buffer.old) }
     {
         let end = pieces::put_back(self.carried, buffer).next;
         let last = streaming::finish(&buffer[..end], &mut self.text);
@@ -77,9 +77,9 @@ impl Names {
 }
 
 fn print_recording(rt: &(impl Input + Print), names: &mut Names, buffer: &mut [u8])
-    requires { ⟦<Names as Follower>⟧.Suits names.old (length buffer.old) }
+    requires { ⟦<Names as ReadyFollower>⟧.Suits names.old (length buffer.old) }
 {
-    streams::read_pieces(rt, names, buffer);
+    streams::read_when_ready(rt, names, buffer);
     names.print_last(rt, buffer);
 }
 

@@ -8,7 +8,7 @@ ghost use Rattle.bench_answers.specs.Whole.{room as answer_room};
 ghost use Rattle.packed_session.specs.TableSession.{table_state, table_console, first_state};
 
 use bench_answers::search_answers::ROOM;
-use consoles::Answerer;
+use consoles::{Answerer, MeasuredAnswerer};
 use packed_bench::table::TABLE_BYTES;
 use packed_session::table_settings;
 use settings::Store;
@@ -27,14 +27,16 @@ impl Answerer for State {
 
     ghost room = { answer_room };
 
-    fn room() -> usize {
-        ROOM
-    }
-
     fn answer(&mut self, line: &[u8], fed: bool, out: &mut [u8]) -> usize {
         let told = table_settings::answer(&mut self.table, self.store, line, fed, out);
         self.store = told.store;
         told.written.next
+    }
+}
+
+impl MeasuredAnswerer for State {
+    fn room() -> usize {
+        ROOM
     }
 }
 
@@ -50,5 +52,5 @@ fn empty_table() -> State
 
 fn main(rt: HostRuntime) {
     let mut out = [0u8; ROOM];
-    consoles::run(&rt, empty_table(), &mut out);
+    consoles::run_where_room(&rt, empty_table(), &mut out);
 }

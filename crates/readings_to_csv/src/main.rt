@@ -6,7 +6,7 @@ ghost use Rattle.readings.specs.Csv.{most_text};
 ghost use Rattle.reading_programs.specs.Answers.{csv_answer};
 
 use reading_programs::csv_answers;
-use streams::Conversion;
+use streams::{Conversion, MeasuredConversion};
 
 // The most bytes of a text of 32 rows, and more.
 const MOST_TEXT: usize = 1024;
@@ -18,12 +18,14 @@ impl Conversion for ToCsv {
 
     ghost converted = { csv_answer };
 
-    fn room() -> usize {
-        MOST_TEXT
-    }
-
     fn convert(input: &[u8], text: &mut [u8]) -> usize {
         csv_answers::to_csv(input, text).next
+    }
+}
+
+impl MeasuredConversion for ToCsv {
+    fn room() -> usize {
+        MOST_TEXT
     }
 }
 
@@ -33,5 +35,5 @@ fn main(rt: HostRuntime) {
     let mut input = [0u8; 65536];
     let mut text = [0u8; 4096];
     let count = streams::read_full(&rt, &mut input);
-    streams::write_converted::<ToCsv>(&rt, &input[..count], &mut text);
+    streams::write_where_room::<ToCsv>(&rt, &input[..count], &mut text);
 }

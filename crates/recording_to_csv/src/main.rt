@@ -8,7 +8,7 @@ ghost use Rattle.reading_programs.specs.Answers.{rows_told};
 ghost use Rattle.reading_programs.specs.Latest.{recording_read};
 
 use reading_programs::pad_readings;
-use streams::{Conversion, MOST, ROOM};
+use streams::{Conversion, MOST, MeasuredConversion, ROOM};
 
 // The most bytes of a text of 32 rows, and more.
 const MOST_TEXT: usize = 1024;
@@ -20,12 +20,14 @@ impl Conversion for ToCsv {
 
     ghost converted = { λ recording. rows_told csv_text (recording_read recording) };
 
-    fn room() -> usize {
-        MOST_TEXT
-    }
-
     fn convert(recording: &[u8], text: &mut [u8]) -> usize {
         pad_readings::to_csv(recording, text).next
+    }
+}
+
+impl MeasuredConversion for ToCsv {
+    fn room() -> usize {
+        MOST_TEXT
     }
 }
 
@@ -36,7 +38,7 @@ fn answer(rt: &(impl Input + Print), errors: &impl Print, recording: &mut [u8], 
     if MOST < count {
         streams::write_all(errors, b"recording_to_csv: longer than 2097152 bytes\n");
     } else {
-        streams::write_converted::<ToCsv>(rt, &recording[..count], text);
+        streams::write_where_room::<ToCsv>(rt, &recording[..count], text);
     }
 }
 

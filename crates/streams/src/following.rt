@@ -1,4 +1,4 @@
-// A text that is read in pieces, each of which is followed before the next is read.
+// A text that is read in pieces, each of which is followed before the next is read, through any buffer.
 ghost use Rattle.std.specs.Prelude.{◌≡◌, ◌≤◌, ◌<◌, ◌↔◌, ℕ, List, IsTrue, length, take, drop};
 ghost use Rattle.std.specs.List.{FoldsTo};
 ghost use Rattle.pieces.specs.Carried.{behind};
@@ -7,8 +7,8 @@ ghost use Rattle.streams.specs.Following.{Fits};
 use crate::read;
 use std::io::{Input, Print};
 
-// What follows a text that comes in pieces.
-pub trait Follower {
+// What follows a text that comes in pieces, and says whether it is ready for them.
+pub trait ReadyFollower {
     // That pieces from a buffer of so many bytes suit it.
     ghost Suits: { Self → ℕ → Type 0 };
 
@@ -51,7 +51,7 @@ struct Run {
 }
 
 // One read, behind what is carried, and what follows it; at the end of the input that is what was carried alone.
-fn next_piece<F: Follower>(
+fn next_piece<F: ReadyFollower>(
     rt: &(impl Input + Print),
     follower: &mut F,
     reads: u64,
@@ -77,7 +77,7 @@ fn next_piece<F: Follower>(
 
 // Reads to the end of the input, and follows each piece before it reads the next. The answer is whether the input
 // ended; else no further piece was to come, or none at all, where the follower was not ready for the buffer.
-pub fn read_pieces<F: Follower>(
+pub fn read_when_ready<F: ReadyFollower>(
     rt: &(impl Input + Print),
     follower: &mut F,
     buffer: &mut [u8],

@@ -9,12 +9,14 @@ mod conversion;
 mod files;
 mod following;
 mod numbers;
+mod suited;
 
-pub use conversion::{Conversion, write_converted};
+pub use conversion::{Conversion, MeasuredConversion, write_converted, write_where_room};
 pub use files::{MOST, ROOM, arg, arg_count, fail, open, tell_too_long};
-pub use following::{Follower, read_pieces};
+pub use following::{ReadyFollower, read_when_ready};
 pub use numbers::{print_decimal, print_hex};
 use std::io::{Error, Input, Print, Read};
+pub use suited::{Follower, read_pieces};
 
 // What came of reads into a slice: how many bytes stand at its front, and why the last read failed, if it did.
 #[derive(Clone, Copy)]

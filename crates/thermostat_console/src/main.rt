@@ -6,7 +6,7 @@ ghost use Rattle.std.specs.Prelude.{◌≡◌};
 ghost use Rattle.text.specs.Putting.{line_room};
 ghost use Rattle.thermostat_session.specs.ProbeSession.{probe_console, first_probe};
 
-use consoles::Answerer;
+use consoles::{Answerer, MeasuredAnswerer};
 use text::putting::LINE_ROOM;
 use thermostat::{Kept, Thermostat};
 
@@ -23,14 +23,16 @@ impl Answerer for State {
 
     ghost room = { line_room };
 
-    fn room() -> usize {
-        LINE_ROOM
-    }
-
     fn answer(&mut self, line: &[u8], fed: bool, out: &mut [u8]) -> usize {
         let said = thermostat_session::answer(self.probe, line, fed, out);
         self.probe = said.probe;
         said.count
+    }
+}
+
+impl MeasuredAnswerer for State {
+    fn room() -> usize {
+        LINE_ROOM
     }
 }
 
@@ -52,5 +54,5 @@ fn first_state() -> State
 
 fn main(rt: HostRuntime) {
     let mut out = [0u8; LINE_ROOM];
-    consoles::run(&rt, first_state(), &mut out);
+    consoles::run_where_room(&rt, first_state(), &mut out);
 }

@@ -1,12 +1,12 @@
 use Rattle.std.proofs.Common.{rules, arith}
 use Rattle.std.proofs.lemmas.Grind.{common_steps}
 use Rattle.pieces.specs.CarriedLaws.{reads-less, reads_on}
-use Rattle.streams.proofs.FollowingLaws.{after-read}
+use Rattle.streams.proofs.FollowingLaws.{behind-read}
 use Rattle.streams.proofs.following.next_piece.Goals as goal
 
 pub returns-clause-leads : goal.returns-clause-leads
 returns-clause-leads g c =
-    after-read g.F.Follower.LeadsTo _ _ _ _ c.put_back-held.result c.read-came.result (search rules)
+    behind-read g.F.ReadyFollower.LeadsTo _ _ _ _ c.put_back-held.result c.read-came.result (search rules)
     (grind (arith, common_steps)) c.follow-going.ensures.leads
 
 pub returns-clause-on : goal.returns-clause-on

@@ -1,7 +1,7 @@
 -- What is still to run of the piece leads where the whole piece leads. The measure is what is left of the piece.
 use Rattle.std.proofs.Common.{◌≡◌, ◌≤◌, ◌-◌, length, drop}
 use Rattle.sessions.specs.Session.{run_after, run_at, Holding}
-use Rattle.consoles.proofs.TalkFollower.follow.Given as goal
+use Rattle.consoles.proofs.TalkReadyFollower.follow.Given as goal
 
 abbrev pub invariant-loop-at : goal.invariant-loop-at
 invariant-loop-at g l =

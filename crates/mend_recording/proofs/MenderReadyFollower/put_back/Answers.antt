@@ -1,7 +1,7 @@
 use Rattle.std.proofs.Common.{arith}
 use Rattle.pieces.specs.Carried.{carried_in}
 use Rattle.pieces.specs.CarriedLaws.{laid-taken}
-use Rattle.mend_recording.proofs.MenderFollower.put_back.Goals as goal
+use Rattle.mend_recording.proofs.MenderReadyFollower.put_back.Goals as goal
 
 pub returns-clause-front : goal.returns-clause-front
 returns-clause-front g c =

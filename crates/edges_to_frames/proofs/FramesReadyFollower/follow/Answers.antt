@@ -6,9 +6,9 @@ use Rattle.captures.specs.declared.edge_printing.Printed.{Printed}
 use Rattle.std.specs.Prelude.{IsTrue}
 use Rattle.capture_laws.specs.Transcript.{enough_room, Waiting, piece_after}
 use Rattle.edges_to_frames.proofs.Waits.{piece_told, reader_told, goes_on}
-use Rattle.edges_to_frames.proofs.FramesFollower.follow.Goals as goal
-use Rattle.edges_to_frames.proofs.FramesFollower.follow.Given.{Over}
-use Rattle.edges_to_frames.proofs.FramesFollower.follow.Goals.{After-print_piece-printed}
+use Rattle.edges_to_frames.proofs.FramesReadyFollower.follow.Goals as goal
+use Rattle.edges_to_frames.proofs.FramesReadyFollower.follow.Given.{Over}
+use Rattle.edges_to_frames.proofs.FramesReadyFollower.follow.Goals.{After-print_piece-printed}
 
 module _ (g : Over) (c : After-print_piece-printed g) where
   wide : enough_room + length c.args.piece.now ≤ length c.args.self.now.text

@@ -1,5 +1,5 @@
-use Rattle.streams.proofs.FollowingLaws.{led_on}
-use Rattle.streams.proofs.following.read_pieces.Goals as goal
+use Rattle.streams.proofs.FollowingLaws.{led_by}
+use Rattle.streams.proofs.following.read_when_ready.Goals as goal
 
 pub loop-run-preserved : goal.loop-run-preserved
 loop-run-preserved g c =
@@ -8,5 +8,5 @@ loop-run-preserved g c =
       suits = next.suits;
       on = next.on;
       waits = next.waits;
-      led = led_on g.F.Follower.LeadsTo _ _ _ _ c.loop-run.invariant.led next.leads;
+      led = led_by g.F.ReadyFollower.LeadsTo _ _ _ _ c.loop-run.invariant.led next.leads;
     }

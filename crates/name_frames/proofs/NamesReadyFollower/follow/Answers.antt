@@ -4,7 +4,7 @@ use native.Mathlib.Nat.{mul-le-mul_left}
 use Rattle.pieces.specs.Walk.{feed-said}
 use Rattle.naming.specs.Printing.{printed_line}
 use Rattle.naming.specs.Streaming.{most_printed, most_held_of_recording}
-use Rattle.name_frames.proofs.NamesFollower.follow.Goals as goal
+use Rattle.name_frames.proofs.NamesReadyFollower.follow.Goals as goal
 
 pub write_said-requires : goal.write_said-requires
 write_said-requires g c =

@@ -2,7 +2,7 @@ use Rattle.std.proofs.Common.{◌≡◌, ◌<◌, ◌≤◌, ◌∙◌, length, 
 use Rattle.streams.proofs.FollowingLaws.{all-came}
 use Rattle.sessions.specs.Session.{run_at, held_ended}
 use Rattle.sessions.proofs.SessionLaws.{piece-done, line-place, line-rest, line-holds}
-use Rattle.consoles.proofs.TalkFollower.follow.Goals as goal
+use Rattle.consoles.proofs.TalkReadyFollower.follow.Goals as goal
 
 pub loop-at-preserved : goal.loop-at-preserved
 loop-at-preserved g c =

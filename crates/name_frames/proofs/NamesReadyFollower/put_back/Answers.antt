@@ -1,7 +1,7 @@
 use Rattle.std.proofs.Common.{arith}
 use Rattle.pieces.specs.Carried.{carried_in}
 use Rattle.pieces.specs.CarriedLaws.{laid-taken}
-use Rattle.name_frames.proofs.NamesFollower.put_back.Goals as goal
+use Rattle.name_frames.proofs.NamesReadyFollower.put_back.Goals as goal
 
 pub returns-clause-front : goal.returns-clause-front
 returns-clause-front c =

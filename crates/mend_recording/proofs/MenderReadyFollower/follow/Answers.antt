@@ -9,7 +9,7 @@ use Rattle.mending.specs.Notice.{notices_of, lines_after, RoomToMend}
 use Rattle.mending.specs.NoticesLaws.{notices-told, notices-counted}
 use Rattle.mending.proofs.RoomLaws.{room-text, room_whole}
 use Rattle.mend_recording.proofs.Room.{room_for}
-use Rattle.mend_recording.proofs.MenderFollower.follow.Goals as goal
+use Rattle.mend_recording.proofs.MenderReadyFollower.follow.Goals as goal
 
 pub write_told-requires : goal.write_told-requires
 write_told-requires g c =
